@@ -5,15 +5,12 @@ use Rattle.std.proofs.Math.Dec.{eqb-suc-zero}
 use Rattle.std.proofs.lemmas.Bool.{MatchBool-at_true, MatchBool-at_false, cases_Bool, eq-eqb, ltb-false}
 use Rattle.std.proofs.lemmas.List.Sums.{sum_by-cons}
 use Rattle.std.proofs.lemmas.Str.{IsUtf8-nil, chars-nil}
-use Rattle.tabled_text.specs.Cut.{IsCut, missing_columns}
-use Rattle.tabled_text.specs.Longest.{IsLongestCut}
-use Rattle.tabled_text.specs.Measure.{line_columns, lines_of}
+use Rattle.tabled_set.specs.Common.{IsCut, IsExactLine, IsLongestCut, line_columns, lines_of}
+use Rattle.tabled_text.specs.Cut.{missing_columns}
 use Rattle.tabled_text.proofs.CutLemmas.{IsReached-nil, longest_at_full}
 use Rattle.tabled_text.proofs.PlainLines.{plain_line-nil}
-use Rattle.tabled_text.specs.Exact.{IsExactLine}
 use Rattle.tabled_text.proofs.ExactLines.{exact-longest}
-use Rattle.tabled_set.specs.declared.suffix.SuffixLimit.{SuffixLimit}
-use Rattle.tabled_set.specs.Truncated.{IsCutBefore, IsEnded, IsLimited, IsTruncated, IsUsed, suffix_columns, HasLongestLines}
+use Rattle.tabled_set.specs.Truncated.{SuffixLimit, IsCutBefore, IsEnded, IsLimited, IsTruncated, IsUsed, suffix_columns, HasLongestLines}
 
 missing-none : (rest : List ℕ) → missing_columns 0 [] rest ≡ 0
 missing-none [] = refl

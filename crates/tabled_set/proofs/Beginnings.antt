@@ -4,12 +4,11 @@ use Rattle.std.proofs.Math.Dec.{eqb-suc-zero}
 use Rattle.std.proofs.lemmas.Bool.{MatchBool-at_true, MatchBool-at_false, cases_Bool}
 use Rattle.std.proofs.lemmas.List.{length-take-le}
 use Rattle.tabled_base.specs.ShortOr.{FitsBehind}
-use Rattle.tabled_text.specs.Measure.{lines_of}
+use Rattle.tabled_set.specs.Common.{lines_of}
 use Rattle.tabled_text.proofs.CutOnce.{cut-once}
 use Rattle.tabled_set.specs.InPlace.{IsCutAt, IsLeftAt, IsTruncatedInPlace}
-use Rattle.tabled_set.specs.Truncated.{HasEndedLines, IsCutBefore, IsEnded, IsLimited, IsTruncated, IsUsed, suffix_columns}
-use Rattle.tabled_set.specs.declared.suffix.SuffixLimit.{SuffixLimit}
-use Rattle.tabled_set.specs.declared.suffix.SuffixLimit.TheVariants.{Cut, Ignore, Replace}
+use Rattle.tabled_set.specs.Truncated.{HasEndedLines, IsCutBefore, IsEnded, IsLimited, IsTruncated, IsUsed, suffix_columns, SuffixLimit}
+use Rattle.tabled_set.specs.Truncated.{Cut, Ignore, Replace}
 use Rattle.tabled_set.proofs.ChangingCells.{match-false}
 
 -- ---- what is left of a text is truncated

@@ -1,9 +1,7 @@
 -- Cells that are changed one after another.
 use Rattle.std.proofs.Common.{◌≡◌, ℕ, ◌<◌, ◌==◌, Bool, true, false, ◌||◌, List, [], ◌∷◌, MatchBool, length, slice_index_or, refl, sym, ap, subst, ◌∙◌, ⊎_elim}
 use Rattle.std.proofs.lemmas.Bool.{MatchBool-at_true, MatchBool-at_false, and_parts, cases_Bool, eqb-true}
-use Rattle.tabled_base.specs.Cells.{IsInside, cell_at, columns}
-use Rattle.tabled_base.specs.declared.position.Entity.TheVariants.{Cell}
-use Rattle.tabled_entity.specs.Changes.{covers}
+use Rattle.tabled_set.specs.Common.{Cell, cell_at, columns, covers, IsInside}
 use Rattle.tabled_set.specs.CellChanges.{AreChanged}
 
 pub match-true : {b : Bool} (P Q : Type 0) → b ≡ true → P → MatchBool b P Q

@@ -3,13 +3,8 @@ use Rattle.std.proofs.Common.{◌≡◌, ℕ, ◌-◌, ◌<◌, Bool, true, fals
 use Rattle.std.proofs.lemmas.Bool.{cases_Bool}
 use Rattle.std.proofs.lemmas.Bool.Decides.{nat_tests}
 use Rattle.std.proofs.lemmas.List.{get_or-take}
-use Rattle.tabled_base.specs.Cells.{cell_at}
-use Rattle.tabled_config.specs.declared.spanned.SpannedConfig.{SpannedConfig}
-use Rattle.tabled_priority.specs.Permitted.{at}
-use Rattle.tabled_size.specs.Sheet.{Sheet}
-use Rattle.tabled_set.specs.CellChanges.{AreChanged, AreChangedBefore, NeedsMemory, NeedsMemoryIn, if_taken, in_room}
-use Rattle.tabled_set.specs.declared.walk.WalkOrder.{WalkOrder}
-use Rattle.tabled_set.specs.declared.changing.CellFilter.{CellFilter}
+use Rattle.tabled_set.specs.Common.{at, cell_at, Sheet, SpannedConfig}
+use Rattle.tabled_set.specs.CellChanges.{AreChanged, AreChangedBefore, NeedsMemory, NeedsMemoryIn, if_taken, in_room, WalkOrder, CellFilter}
 use Rattle.tabled_set.specs.Narrowed.{for_width, is_permitted, needs_for_width, for_content_size, needs_for_content_size}
 use Rattle.tabled_set.specs.Minimums.{minimums, side_padding}
 use Rattle.tabled_set.proofs.ChangingCells.{AreChanged-as}

@@ -2,15 +2,11 @@
 use Rattle.std.proofs.Common.{◌≡◌, ℕ, ◌<◌, ◌≤◌, ◌==◌, ◌||◌, List, [], ◌∷◌, length, map, refl, ap, sym, ◌∙◌, arith, slice_index_or}
 use Rattle.std.proofs.Math.ListN.{get_or-map}
 use Rattle.std.proofs.lemmas.List.{get_or_default, length-map}
-use Rattle.tabled_base.specs.Cells.{IsRectangular, cell_at, columns}
-use Rattle.tabled_config.specs.declared.spanned.SpannedConfig.{SpannedConfig}
-use Rattle.tabled_size.specs.Estimates.{column_width, estimated_widths, needed_width}
-use Rattle.tabled_priority.specs.Permitted.{at}
-use Rattle.tabled_size.specs.Sheet.{is_empty}
+use Rattle.tabled_set.specs.Common.{at, cell_at, columns, estimated_widths, is_empty, IsRectangular, SpannedConfig, text_columns}
+use Rattle.tabled_size.specs.Estimates.{column_width, needed_width}
 use Rattle.tabled_size.proofs.Passing.{width_at, width_ge}
 use Rattle.tabled_size.proofs.ShrunkTotals.{estimated_widths-le}
 use Rattle.tabled_size.proofs.Totalling.{widths_length}
-use Rattle.tabled_text.specs.Measure.{text_columns}
 use Rattle.tabled_text.proofs.StayLemmas.{StaysWithin-none, text_columns-stays}
 use Rattle.tabled_set.specs.Minimums.{emptied, minimums, side_padding}
 

@@ -1,10 +1,9 @@
 -- What is appended of a text that is truncated.
 use Rattle.std.proofs.Common.{◌≡◌, ◌≢◌, ℕ, zero, suc, List, ◌++◌, MatchBool, refl, sym, subst, ◌∙◌, append_assoc, ◌+◌, ◌==◌, length, sum_by, arith}
 use Rattle.std.proofs.Math.Dec.{eqb-suc-zero}
-use Rattle.tabled_text.specs.Cut.{IsCut}
+use Rattle.tabled_set.specs.Common.{IsCut, line_columns, lines_of}
 use Rattle.tabled_set.specs.Truncated.{AddsEnded, IsCutBefore, suffix_columns}
 use Rattle.std.proofs.lemmas.List.Splits.{length-slice_split}
-use Rattle.tabled_text.specs.Measure.{line_columns, lines_of}
 
 -- what stands for the suffix alone
 pub AddsEnded-alone : {left : ℕ} {used text old new : List ℕ} → left ≡ 0 → new ≡ old ++ used → AddsEnded left used text old new

@@ -6,19 +6,11 @@ use Rattle.std.proofs.Math.Seq.{take-length}
 use Rattle.std.proofs.lemmas.Bool.{MatchBool-at_true, MatchBool-at_false, and_from, cases_Bool, le-leb, lt-leb, lt-ltb}
 use Rattle.std.proofs.lemmas.List.{get_or_default}
 use Rattle.std.specs.Str.{IsUtf8}
-use Rattle.tabled_text.specs.Plain.{IsAdditive}
-use Rattle.tabled_text.specs.Fitting.{FitsIn}
-use Rattle.tabled_base.specs.Cells.{IsRectangular, cell_at, columns}
-use Rattle.tabled_config.specs.declared.spanned.SpannedConfig.{SpannedConfig}
-use Rattle.tabled_size.specs.Estimates.{estimated_heights, estimated_widths, needed_width}
-use Rattle.tabled_size.specs.FilledIn.{IsFilledIn}
+use Rattle.tabled_set.specs.Common.{AreAdditive, AreTexts, at, cell_at, columns, CompleteDimension, effective, effective_sizes, estimated}
+use Rattle.tabled_set.specs.Common.{estimated_heights, estimated_widths, filled_width, FitsIn, heights_of, Holds, is_empty, IsAdditive}
+use Rattle.tabled_set.specs.Common.{IsFilledIn, IsRectangular, IsSized, IsTakenFrom, Sheet, SpannedConfig, total_width, widths_of}
+use Rattle.tabled_size.specs.Estimates.{needed_width}
 use Rattle.tabled_priority.specs.Least.{HasLeastGreatest}
-use Rattle.tabled_priority.specs.Permitted.{at, IsTakenFrom}
-use Rattle.tabled_size.specs.Sheet.{Sheet, estimated, is_empty}
-use Rattle.tabled_size.specs.Effective.{effective, effective_sizes}
-use Rattle.tabled_size.specs.Stored.{heights_of, widths_of}
-use Rattle.tabled_size.specs.Totals.{filled_width, total_width}
-use Rattle.tabled_size.specs.declared.complete_dimension.CompleteDimension.{CompleteDimension}
 use Rattle.tabled_priority.proofs.Optimal.{HasLeastGreatest-from_level, IsLevel-from_max}
 use Rattle.tabled_size.proofs.ShrunkTotals.{above_minimum, filled_width-frame, frame_width, narrowed_total}
 use Rattle.tabled_size.proofs.Totalling.{heights_length, widths_length}
@@ -27,11 +19,8 @@ use Rattle.tabled_set.specs.Minimums.{emptied, minimums, side_padding}
 use Rattle.tabled_set.specs.Narrowed.{IsNarrowed, Narrows, for_content_size}
 use Rattle.tabled_set.specs.BestNarrowing.{inner_width}
 use Rattle.tabled_set.specs.ExactTotal.{HasExactTotal, empty_width}
-use Rattle.tabled_set.specs.Priorities.{TakesFrom, TakesGreatest}
+use Rattle.tabled_set.specs.Priorities.{Shrinks, TakesFrom, TakesGreatest}
 use Rattle.tabled_set.proofs.Emptied.{emptied-columns, emptied-empty, minimums-le, minimums-length, side_padding-le}
-use Rattle.tabled_size.specs.Holds.{Holds, IsSized}
-use Rattle.tabled_size.specs.PlainCells.{AreAdditive}
-use Rattle.tabled_size.specs.TextCells.{AreTexts}
 
 -- a text that is changed for a content size fits in it
 abbrev pub FindsRoom : (ℕ → List ℕ → List ℕ → Type 0) → Type 0
@@ -81,7 +70,7 @@ full_wider t n wider = ⊎_elim
 
 -- ---- narrowed tables
 -- a table that is wider is narrowed
-pub IsNarrowed-wider : {P : Type 0} (shrinks : P → List ℕ → List ℕ → ℕ → List ℕ → P → Type 0) (s : P) (change : ℕ → List ℕ → List ℕ → Type 0) (n : ℕ) (cells : List (List (List ℕ))) (config : SpannedConfig) (sizes : CompleteDimension)
+pub IsNarrowed-wider : {P : Type 0} (shrinks : Shrinks P) (s : P) (change : ℕ → List ℕ → List ℕ → Type 0) (n : ℕ) (cells : List (List (List ℕ))) (config : SpannedConfig) (sizes : CompleteDimension)
     (cells' : List (List (List ℕ))) (sizes' : CompleteDimension) → n < total_width (effective cells config sizes) → Narrows shrinks s change n cells config sizes cells' sizes' → IsNarrowed shrinks s change n (effective cells config sizes) cells' sizes'
 IsNarrowed-wider shrinks s change n cells config sizes cells' sizes' wider h =
     let t = effective cells config sizes in
@@ -90,7 +79,7 @@ IsNarrowed-wider shrinks s change n cells config sizes cells' sizes' wider h =
     let some = MatchBool-at_false ((cells' ≡ cells) × (sizes' ≡ sizes)) (MatchBool (nat_le (total_width t) n) filled narrowed) (full_wider t n wider) h in
     MatchBool-at_false filled narrowed (lt-leb (total_width t) n wider) some
 
-module _ {P : Type 0} (shrinks : P → List ℕ → List ℕ → ℕ → List ℕ → P → Type 0) (s : P) (change : ℕ → List ℕ → List ℕ → Type 0) (n : ℕ)
+module _ {P : Type 0} (shrinks : Shrinks P) (s : P) (change : ℕ → List ℕ → List ℕ → Type 0) (n : ℕ)
     (cells : List (List (List ℕ))) (config : SpannedConfig) (sizes : CompleteDimension) (new : List (List (List ℕ))) (stored last : CompleteDimension)
     (takes : TakesFrom shrinks s) (estimates : (effective cells config sizes).widths ≡ estimated_widths cells config)
     (h : IsNarrowed shrinks s change n (effective cells config sizes) new stored) (widths_stay : widths_of last ≡ widths_of stored) where

@@ -1,23 +1,17 @@
 -- Tables that grow.
 use Rattle.std.proofs.Common.{◌≡◌, ℕ, ◌+◌, ◌-◌, ◌*◌, ◌<◌, ◌≤◌, ◌^◌, true, false, nat_le, List, MatchOption, Option, Some, None, length, sum, take, sym, ap, subst, ◌∙◌, cond, arith}
 use Rattle.std.proofs.lemmas.Bool.Decides.{nat_tests}
-use Rattle.tabled_base.specs.Cells.{columns}
+use Rattle.tabled_set.specs.Common.{at, columns, CompleteDimension, effective, estimated, estimated_heights, filled_height, filled_width}
+use Rattle.tabled_set.specs.Common.{heights_of, is_empty, IsFilledIn, SpannedConfig, total_height, total_width, widths_of}
 use Rattle.tabled_config.specs.Frame.{has_inner, has_left, has_right}
 use Rattle.tabled_set.proofs.ChangingCells.{match-false, match-true}
-use Rattle.tabled_config.specs.declared.spanned.SpannedConfig.{SpannedConfig}
 use Rattle.tabled_priority.specs.Laws.Sums.{sum-below, sum_below-le, sum_below-prefix}
-use Rattle.tabled_priority.specs.Permitted.{at}
 use Rattle.tabled_priority.specs.Sums.{one_if, sum_below}
-use Rattle.tabled_size.specs.Estimates.{estimated_heights}
-use Rattle.tabled_size.specs.FilledIn.{IsFilledIn}
-use Rattle.tabled_size.specs.Sheet.{estimated, is_empty}
-use Rattle.tabled_size.specs.Effective.{effective}
-use Rattle.tabled_size.specs.Stored.{heights_of, widths_of}
-use Rattle.tabled_size.specs.Totals.{filled_height, filled_width, part_height, total_height, total_width}
-use Rattle.tabled_size.specs.declared.complete_dimension.CompleteDimension.{CompleteDimension}
+use Rattle.tabled_size.specs.Totals.{part_height}
 use Rattle.tabled_size.proofs.Totalling.{heights_length}
 use Rattle.tabled_set.specs.Increased.{IsGrownBy, IncreasesWidth, IsWidened}
 use Rattle.tabled_set.proofs.NarrowingTables.{effective-filled, effective-total, effective-widths}
+use Rattle.tabled_set.specs.Priorities.{Grows}
 
 -- ---- the sizes are a part of the total
 
@@ -81,7 +75,7 @@ module _ (cells : List (List (List ℕ))) (config : SpannedConfig) (old mid : Co
       subst (λ k. 2 ^ 64 ≤ k) total-here
       (subst (λ (p : Option ℕ). MatchOption p (2 ^ 64 ≤ filled_width config count widths) (λ n. n ≡ filled_width config count widths)) e h)
 
-  module _ {P : Type 0} (grows : P → List ℕ → ℕ → List ℕ → P → Type 0) (priority : P) (n total : ℕ) (whole : total ≡ filled_width config count widths) where
+  module _ {P : Type 0} (grows : Grows P) (priority : P) (n total : ℕ) (whole : total ≡ filled_width config count widths) where
     pub wide-already : n ≤ total → IncreasesWidth grows priority n cells config old mid
     wide-already le =
         let e = total-here in

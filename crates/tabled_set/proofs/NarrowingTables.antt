@@ -4,27 +4,17 @@ use Rattle.std.specs.Result.{IsErrAnd}
 use Rattle.std.proofs.Math.Seq.{take-length}
 use Rattle.std.proofs.lemmas.Bool.Decides.{nat_tests}
 use Rattle.std.proofs.lemmas.List.{length-take}
-use Rattle.tabled_base.specs.Cells.{columns}
-use Rattle.tabled_base.specs.declared.error.TableError.{TableError}
-use Rattle.tabled_base.specs.declared.error.TableError.TheVariants.{Memory, Range}
-use Rattle.tabled_config.specs.declared.spanned.SpannedConfig.{SpannedConfig}
-use Rattle.tabled_size.specs.Estimates.{IsTooWide, estimated_heights, estimated_widths}
-use Rattle.tabled_size.specs.FilledIn.{IsFilledIn}
-use Rattle.tabled_priority.specs.Permitted.{FitsMinimums}
-use Rattle.tabled_size.specs.Sheet.{Sheet, is_empty}
-use Rattle.tabled_size.specs.Effective.{effective, effective_sizes}
-use Rattle.tabled_size.specs.Stored.{heights_of, widths_of}
-use Rattle.tabled_size.specs.Totals.{filled_width, total_width}
-use Rattle.tabled_size.specs.declared.complete_dimension.CompleteDimension.{CompleteDimension}
+use Rattle.tabled_set.specs.Common.{columns, CompleteDimension, effective, effective_sizes, estimated_heights, estimated_widths}
+use Rattle.tabled_set.specs.Common.{filled_width, FitsMinimums, heights_of, is_empty, IsFilledIn, IsTooWide, Memory, Range, Sheet}
+use Rattle.tabled_set.specs.Common.{SpannedConfig, TableError, total_width, widths_of}
 use Rattle.tabled_size.proofs.Totalling.{heights_length, widths_length}
-use Rattle.tabled_set.specs.CellChanges.{AreChanged, AreChangedBefore, if_taken}
-use Rattle.tabled_set.specs.declared.walk.WalkOrder.TheVariants.{ByColumn}
-use Rattle.tabled_set.specs.declared.changing.CellFilter.{CellFilter}
+use Rattle.tabled_set.specs.CellChanges.{AreChanged, AreChangedBefore, if_taken, ByColumn, CellFilter}
 use Rattle.tabled_set.specs.Narrowed.{for_width, needs_for_width, IsNarrowed, Narrows, NarrowingOutOfRange, StopsNarrowing, WiderOutOfRange, IsFound}
 use Rattle.tabled_set.specs.Minimums.{emptied, minimums}
 use Rattle.tabled_set.proofs.ChangingCells.{match-false, match-true}
 use Rattle.tabled_set.proofs.ChangingColumns.{content_sizes-before, content_sizes-made}
 use Rattle.tabled_set.proofs.Emptied.{minimums-length}
+use Rattle.tabled_set.specs.Priorities.{Shrinks}
 
 -- ---- sizes that are filled in
 
@@ -63,7 +53,7 @@ minimums-fit cells config stored widths mins count e w m =
     let short = ap length w ∙ length-take count stored in
     inr (omega (arith, long, short, minimums-length cells config, e))
 
-module _ {P : Type 0} (shrinks : P → List ℕ → List ℕ → ℕ → List ℕ → P → Type 0) (priority : P) (n : ℕ) where
+module _ {P : Type 0} (shrinks : Shrinks P) (priority : P) (n : ℕ) where
   -- ---- what narrowing leaves
 
   module _ (change : ℕ → List ℕ → List ℕ → Type 0) (cells : List (List (List ℕ))) (config : SpannedConfig) (old mid : CompleteDimension) (some : is_empty cells ≡ false) (filled : IsFilledIn old cells config mid) where

@@ -2,12 +2,11 @@
 use Rattle.std.proofs.Common.{◌≡◌, ℕ, ◌+◌, ◌-◌, ◌*◌, ◌<◌, ◌≤◌, List, length, Option, Some, refl, sym, ap, arith}
 use Rattle.std.specs.List.{slice_index}
 use Rattle.tabled_config.specs.Frame.{has_left, has_right, has_inner}
-use Rattle.tabled_config.specs.declared.spanned.SpannedConfig.{SpannedConfig}
-use Rattle.tabled_priority.specs.Permitted.{at}
+use Rattle.tabled_set.specs.Common.{at, filled_height, filled_width, SpannedConfig}
 use Rattle.tabled_size.specs.Reached.{reached}
 use Rattle.tabled_priority.specs.Laws.Sums.{sum_below-same}
 use Rattle.tabled_priority.specs.Sums.{one_if}
-use Rattle.tabled_size.specs.Totals.{filled_height, filled_width, part_height, rules_at}
+use Rattle.tabled_size.specs.Totals.{part_height, rules_at}
 use Rattle.tabled_size.proofs.Reaching.{reached_at, reached_so}
 
 -- the size at each place, 0 past the end

@@ -4,9 +4,7 @@ use Rattle.std.specs.List.{range_with_len}
 use Rattle.std.proofs.lemmas.List.FromFn.{map-range_with_len_more}
 use Rattle.tabled_size.proofs.Greatest.{greatest_more}
 use Rattle.tabled_text.specs.Measure.{greatest}
-use Rattle.tabled_set.specs.Extremes.{least, least_of, picked}
-use Rattle.tabled_set.specs.declared.measurement.Pick.{Pick}
-use Rattle.tabled_set.specs.declared.measurement.Pick.TheVariants.{Greatest, Least}
+use Rattle.tabled_set.specs.Extremes.{least, least_of, picked, Pick, Greatest, Least}
 
 least_of-push : (x : ℕ) (xs : List ℕ) (y : ℕ) → least_of x (xs ++ y ∷ []) ≡ min (least_of x xs) y
 least_of-push x [] y = refl

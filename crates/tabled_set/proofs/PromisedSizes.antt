@@ -2,25 +2,16 @@
 use Rattle.std.proofs.Common.{◌≡◌, ℕ, ◌+◌, ◌-◌, ◌<◌, ◌≤◌, nat_le, true, false, List, [], MatchBool, Some, None, length, sum, take, sym, ap, subst, ◌∙◌, cond, arith, ⊎_elim}
 use Rattle.std.proofs.Math.Seq.{take-length}
 use Rattle.std.proofs.lemmas.Bool.{MatchBool-at_false, MatchBool-at_true, cases_Bool, lt-leb}
-use Rattle.tabled_base.specs.Cells.{columns}
-use Rattle.tabled_config.specs.declared.spanned.SpannedConfig.{SpannedConfig}
-use Rattle.tabled_priority.specs.Permitted.{IsTakenFrom, at}
-use Rattle.tabled_size.specs.Cleared.{AreCleared}
-use Rattle.tabled_size.specs.Estimates.{estimated_heights, estimated_widths}
-use Rattle.tabled_size.specs.FilledIn.{IsFilledIn}
-use Rattle.tabled_size.specs.Holds.{IsSized}
-use Rattle.tabled_size.specs.Sheet.{Sheet, estimated, is_empty}
-use Rattle.tabled_size.specs.Effective.{effective, effective_sizes}
-use Rattle.tabled_size.specs.Stored.{heights_of, widths_of}
-use Rattle.tabled_size.specs.Totals.{filled_height, filled_width, total_height, total_width}
-use Rattle.tabled_size.specs.declared.complete_dimension.CompleteDimension.{CompleteDimension}
+use Rattle.tabled_set.specs.Common.{AreCleared, at, columns, CompleteDimension, effective, effective_sizes, estimated, estimated_heights}
+use Rattle.tabled_set.specs.Common.{estimated_widths, filled_height, filled_width, heights_of, is_empty, IsFilledIn, IsSized, IsTakenFrom}
+use Rattle.tabled_set.specs.Common.{Sheet, SpannedConfig, total_height, total_width, widths_of}
 use Rattle.tabled_size.proofs.Totalling.{heights_length}
 use Rattle.tabled_set.specs.HeightFrame.{frame_height}
 use Rattle.tabled_set.specs.CellChanges.{AreChanged}
 use Rattle.tabled_set.specs.Increased.{IncreasesHeight, IncreasesWidth, IsGrownBy, IsHeightened, IsWidened}
 use Rattle.tabled_set.specs.Narrowed.{IsShrunkBy}
 use Rattle.tabled_set.specs.Limited.{IsLowered, LimitsHeight, for_height}
-use Rattle.tabled_set.specs.Priorities.{AddsTo}
+use Rattle.tabled_set.specs.Priorities.{AddsTo, Grows, Shrinks}
 use Rattle.tabled_set.proofs.ChangingCells.{match-false}
 use Rattle.tabled_set.proofs.ExactTotals.{changed_empty}
 use Rattle.tabled_set.proofs.GrowingTables.{full_height}
@@ -51,7 +42,7 @@ module _ {P : Type 0} (s : P) (n m total : ℕ) (cells : List (List (List ℕ)))
   all : total ≡ total_height (estimated cells config)
   all = whole ∙ ap (λ c. total_height (estimated cells c)) same
 
-  pub heightened : (grows : P → List ℕ → ℕ → List ℕ → P → Type 0) → total < m → IsGrownBy grows s heights (m - total) list → IncreasesHeight grows s n cells config old new
+  pub heightened : (grows : Grows P) → total < m → IsGrownBy grows s heights (m - total) list → IncreasesHeight grows s n cells config old new
   heightened grows less grown =
       let by : m - total ≡ n - total_height (estimated cells config) = ap (λ k. k - total) measured ∙ ap (λ k. n - k) all in
       let above = lt-leb n (total_height (estimated cells config)) (omega (arith, all, measured, less)) in
@@ -66,7 +57,7 @@ module _ {P : Type 0} (s : P) (n m total : ℕ) (cells : List (List (List ℕ)))
         widths = wide;
       }))
 
-  pub lowered : (shrinks : P → List ℕ → List ℕ → ℕ → List ℕ → P → Type 0) (cells' : List (List (List ℕ))) (kept : List ℕ) → m < total
+  pub lowered : (shrinks : Shrinks P) (cells' : List (List (List ℕ))) (kept : List ℕ) → m < total
       → IsShrunkBy shrinks s heights [] (total - m) list → kept ≡ list → AreChanged (λ row column. true) (for_height kept) cells cells' → LimitsHeight shrinks s n cells config old cells' new
   lowered shrinks cells' kept less shrunk e changed =
       let by : total - m ≡ total_height (estimated cells config) - n = ap (λ k. k - m) all ∙ ap (λ k. total_height (estimated cells config) - k) measured in
@@ -83,7 +74,7 @@ module _ {P : Type 0} (s : P) (n m total : ℕ) (cells : List (List (List ℕ)))
         widths = wide;
       }))
 
-module _ {P : Type 0} (grows : P → List ℕ → ℕ → List ℕ → P → Type 0) (s : P) (n : ℕ) (cells : List (List (List ℕ))) (config : SpannedConfig) (old new left : CompleteDimension)
+module _ {P : Type 0} (grows : Grows P) (s : P) (n : ℕ) (cells : List (List (List ℕ))) (config : SpannedConfig) (old new left : CompleteDimension)
     (h : IncreasesHeight grows s n cells config old new) (cleared : AreCleared None new left) where
   pub heightens : HeightensAsPromised grows s n cells config (effective cells config left)
   heightens = record {
@@ -99,7 +90,7 @@ module _ {P : Type 0} (grows : P → List ℕ → ℕ → List ℕ → P → Typ
         omega (arith, now, was, more, less);
   }
 
-module _ {P : Type 0} (shrinks : P → List ℕ → List ℕ → ℕ → List ℕ → P → Type 0) (s : P) (n : ℕ) (cells : List (List (List ℕ))) (config : SpannedConfig) (old : CompleteDimension)
+module _ {P : Type 0} (shrinks : Shrinks P) (s : P) (n : ℕ) (cells : List (List (List ℕ))) (config : SpannedConfig) (old : CompleteDimension)
     (cells' : List (List (List ℕ))) (new left : CompleteDimension) (h : LimitsHeight shrinks s n cells config old cells' new) (cleared : AreCleared None new left) where
   pub limits : LimitsAsPromised shrinks s n cells config (effective cells' config left)
   limits = record {
@@ -121,7 +112,7 @@ module _ {P : Type 0} (shrinks : P → List ℕ → List ℕ → ℕ → List �
 
 -- ---- widths
 
-module _ {P : Type 0} (grows : P → List ℕ → ℕ → List ℕ → P → Type 0) (s : P) (n : ℕ) (cells : List (List (List ℕ))) (config : SpannedConfig) (old new left : CompleteDimension)
+module _ {P : Type 0} (grows : Grows P) (s : P) (n : ℕ) (cells : List (List (List ℕ))) (config : SpannedConfig) (old new left : CompleteDimension)
     (h : IncreasesWidth grows s n cells config old new) (cleared : AreCleared None new left) where
   abbrev pub before : Sheet
   before = effective cells config old

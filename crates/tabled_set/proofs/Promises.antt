@@ -1,30 +1,20 @@
 -- What wrapped and truncated tables keep of what is promised.
 use Rattle.std.proofs.Common.{◌≡◌, ℕ, ◌<◌, Bool, true, false, List, [], Option, Some, None, nat_lt, refl, sym, ap, ◌∙◌, subst, ⊎_elim}
 use Rattle.std.proofs.lemmas.Bool.{MatchBool-at_true, MatchBool-at_false, cases_Bool, lt-ltb}
-use Rattle.tabled_text.specs.Measure.{text_columns}
-use Rattle.tabled_text.specs.Plain.{IsAdditive}
+use Rattle.tabled_set.specs.Common.{AreCleared, AreTexts, cell_at, CompleteDimension, effective, Entity, heights_of, IsAdditive, IsInside}
+use Rattle.tabled_set.specs.Common.{IsRectangular, Row, SpannedConfig, text_columns, widths_of}
 use Rattle.tabled_text.proofs.FewestLines.{fewest-wrapped}
 use Rattle.tabled_text.proofs.OwnBreaking.{old_text}
 use Rattle.tabled_text.proofs.StayLemmas.{IsAdditive-stays, StaysWithin-wrapped}
 use Rattle.tabled_text.proofs.FittingLaws.{fits-wrapped}
-use Rattle.tabled_base.specs.Cells.{IsInside, IsRectangular, cell_at}
-use Rattle.tabled_base.specs.declared.position.Entity.{Entity}
-use Rattle.tabled_base.specs.declared.position.Entity.TheVariants.{Row}
-use Rattle.tabled_config.specs.declared.spanned.SpannedConfig.{SpannedConfig}
-use Rattle.tabled_size.specs.Cleared.{AreCleared}
-use Rattle.tabled_size.specs.TextCells.{AreTexts}
 use Rattle.tabled_size.specs.Entries.{clears_heights, clears_widths, unless_cleared}
-use Rattle.tabled_size.specs.Effective.{effective}
-use Rattle.tabled_size.specs.Stored.{heights_of, widths_of}
-use Rattle.tabled_size.specs.declared.complete_dimension.CompleteDimension.{CompleteDimension}
 use Rattle.tabled_set.specs.BestNarrowing.{HasLeastWidth, IsBestCut, inner_width}
 use Rattle.tabled_set.specs.CellChanges.{if_wider, truncating, wrapping}
 use Rattle.tabled_set.specs.ExactTotal.{HasExactTotal}
 use Rattle.tabled_set.specs.Narrowed.{IsNarrowed, Narrows}
-use Rattle.tabled_set.specs.Truncated.{IsAdditiveLimit, IsTruncated}
-use Rattle.tabled_set.specs.Priorities.{TakesFrom, TakesGreatest}
+use Rattle.tabled_set.specs.Truncated.{IsAdditiveLimit, IsTruncated, SuffixLimit}
+use Rattle.tabled_set.specs.Priorities.{Shrinks, TakesFrom, TakesGreatest}
 use Rattle.tabled_set.specs.Promised.{IsWiderThan, TruncatesAsPromised, WrapsAsPromised}
-use Rattle.tabled_set.specs.declared.suffix.SuffixLimit.{SuffixLimit}
 use Rattle.tabled_set.proofs.Bare.{longest_lines, longest_truncated}
 use Rattle.tabled_set.proofs.ExactTotals.{FindsRoom, IsNarrowed-wider, KeepsPlain, changed_for_room, exact_total, leveled}
 use Rattle.tabled_set.proofs.TruncatedTexts.{StaysWithin-truncated, fits-if_wider}
@@ -58,7 +48,7 @@ cleared_none : (b : Bool) → unless_cleared b None ≡ None
 cleared_none true = refl
 cleared_none false = refl
 
-module _ {P : Type 0} (shrinks : P → List ℕ → List ℕ → ℕ → List ℕ → P → Type 0) (s : P) (change : ℕ → List ℕ → List ℕ → Type 0) (n : ℕ)
+module _ {P : Type 0} (shrinks : Shrinks P) (s : P) (change : ℕ → List ℕ → List ℕ → Type 0) (n : ℕ)
     (cells : List (List (List ℕ))) (config : SpannedConfig) (sizes : CompleteDimension) (new : List (List (List ℕ))) (stored last : CompleteDimension)
     (hint : Option Entity) (hinted : clears_widths hint ≡ false) (narrows : Narrows shrinks s change n cells config sizes new stored) (cleared : AreCleared hint stored last)
     (takes : TakesFrom shrinks s) (wide : IsWiderThan n (effective cells config sizes)) where
@@ -83,7 +73,7 @@ module _ {P : Type 0} (shrinks : P → List ℕ → List ℕ → ℕ → List �
   least_of greatest = leveled shrinks s change n cells config sizes new stored last takes wide.estimates narrowed widths_stay greatest
 
 -- ---- what is promised
-module _ {P : Type 0} (shrinks : P → List ℕ → List ℕ → ℕ → List ℕ → P → Type 0) (s : P) (n : ℕ)
+module _ {P : Type 0} (shrinks : Shrinks P) (s : P) (n : ℕ)
     (cells : List (List (List ℕ))) (config : SpannedConfig) (sizes : CompleteDimension) (new : List (List (List ℕ))) (stored last : CompleteDimension) (rectangular : IsRectangular cells) where
   takes_of : TakesGreatest shrinks s → TakesFrom shrinks s
   takes_of greatest end old mins list by h = let (right, shrunk) = greatest end old mins list by h in shrunk.takes

@@ -1,11 +1,8 @@
 -- What a refused change leaves.
 use Rattle.std.proofs.Common.{◌≡◌, ℕ, Bool, List, Result, Ok, Err, IfErr, OnErr, inr, refl}
-use Rattle.tabled_base.specs.declared.error.TableError.{TableError}
-use Rattle.tabled_base.specs.declared.error.TableError.TheVariants.{Memory, Range}
-use Rattle.tabled_set.specs.CellChanges.{AreChangedBefore, StopsChanging}
-use Rattle.tabled_set.specs.declared.walk.WalkOrder.{WalkOrder}
+use Rattle.tabled_set.specs.Common.{CompleteDimension, Memory, Range, TableError}
+use Rattle.tabled_set.specs.CellChanges.{AreChangedBefore, StopsChanging, WalkOrder}
 use Rattle.tabled_set.specs.Increased.{StopsFilling}
-use Rattle.tabled_size.specs.declared.complete_dimension.CompleteDimension.{CompleteDimension}
 
 -- with `Memory` the cells before some cell are changed
 pub stops-before : {T : Type 0} (order : WalkOrder) (chosen : ℕ → ℕ → Bool) (needs : ℕ → ℕ → List ℕ → Type 0) (change : ℕ → ℕ → List ℕ → List ℕ → Type 0) (old new : List (List (List ℕ))) (r : Result T TableError)

@@ -1,24 +1,19 @@
 -- The totals of tables whose rows grew or shrank, or for which too few widths may be stored.
 use Rattle.std.proofs.Common.{◌≡◌, ℕ, ◌+◌, ◌-◌, ◌==◌, ◌<◌, false, List, [], length, sum, max, refl, sym, ap, ◌∙◌, arith, if◌then◌else◌, zero, suc, ◌≤◌, ◌∷◌, take, Option, Some, None, ⊎_elim}
 use Rattle.std.proofs.lemmas.Bool.Decides.{nat_tests}
-use Rattle.tabled_base.specs.Cells.{cell_at, columns}
-use Rattle.tabled_config.specs.declared.spanned.SpannedConfig.{SpannedConfig}
+use Rattle.tabled_set.specs.Common.{at, cell_at, columns, CompleteDimension, effective, effective_sizes, estimated_heights}
+use Rattle.tabled_set.specs.Common.{estimated_widths, filled_height, filled_width, is_empty, IsTakenFrom, SpannedConfig, widths_of}
 use Rattle.tabled_priority.specs.Grown.{IsGrownFrom, added}
 use Rattle.tabled_priority.specs.Laws.Sums.{sum-below, sum_below-plus, sum_below-same, sum_below-term, sum_below-zero}
-use Rattle.tabled_priority.specs.Permitted.{IsTakenFrom, at, spare, spare_total}
+use Rattle.tabled_priority.specs.Permitted.{spare, spare_total}
 use Rattle.tabled_priority.specs.Sums.{sum_below}
-use Rattle.tabled_size.specs.Estimates.{estimated_heights, estimated_widths}
-use Rattle.tabled_size.specs.Sheet.{is_empty}
-use Rattle.tabled_size.specs.Totals.{filled_height, part_height, rules_at, filled_width}
+use Rattle.tabled_size.specs.Totals.{part_height, rules_at}
 use Rattle.tabled_size.proofs.Passing.{height_at, height_ge}
 use Rattle.tabled_size.proofs.Totalling.{heights_length, widths_length}
 use Rattle.tabled_text.proofs.Bridge.{some_line}
 use Rattle.tabled_set.specs.HeightFrame.{frame_height}
 use Rattle.std.proofs.lemmas.Bool.{cases_lt}
 use Rattle.std.proofs.lemmas.List.{get_or_past, length-take}
-use Rattle.tabled_size.specs.Effective.{effective, effective_sizes}
-use Rattle.tabled_size.specs.Stored.{widths_of}
-use Rattle.tabled_size.specs.declared.complete_dimension.CompleteDimension.{CompleteDimension}
 use Rattle.tabled_size.proofs.ShrunkTotals.{frame_width}
 
 -- where there is a height a row, the whole is their sum and the frame

@@ -7,18 +7,14 @@ use Rattle.std.proofs.lemmas.Bool.{MatchBool-at_true, MatchBool-at_false, cases_
 use Rattle.std.proofs.lemmas.List.{get_or_default}
 use Rattle.std.proofs.lemmas.List.Elements.{All-head, All-tail, All-cons, All-nil, length_all_zip}
 use Rattle.std.proofs.lemmas.List.Splits.{length-slice_split}
-use Rattle.tabled_text.specs.Cut.{IsCut}
-use Rattle.tabled_text.specs.Fitting.{FitsIn}
-use Rattle.tabled_text.specs.Measure.{line_columns, lines_of, text_columns}
-use Rattle.tabled_text.specs.Plain.{IsAdditive, IsAdditiveColumn}
+use Rattle.tabled_set.specs.Common.{FitsIn, IsAdditive, IsAdditiveColumn, IsCut, line_columns, lines_of, text_columns}
 use Rattle.tabled_text.specs.Room.{StaysWithin}
 use Rattle.tabled_text.proofs.FittingLaws.{fits-cut, fits-suffix, fits-joined, fits-none, fits-filled}
 use Rattle.tabled_text.proofs.PlainLines.{plain_line-each, plain_text-line}
 use Rattle.tabled_text.proofs.StayLemmas.{StaysWithin-cut, StaysWithin-suffix, StaysWithin-join, StaysWithin-none, StaysWithin-filled}
 use Rattle.tabled_set.specs.CellChanges.{if_wider, truncating}
-use Rattle.tabled_set.specs.Truncated.{IsAdditiveLimit, IsCutBefore, IsEnded, IsLimited, IsTruncated, IsUsed, suffix_columns}
-use Rattle.tabled_set.specs.declared.suffix.SuffixLimit.{SuffixLimit}
-use Rattle.tabled_set.specs.declared.suffix.SuffixLimit.TheVariants.{Cut, Ignore, Replace}
+use Rattle.tabled_set.specs.Truncated.{IsAdditiveLimit, IsCutBefore, IsEnded, IsLimited, IsTruncated, IsUsed, suffix_columns, SuffixLimit}
+use Rattle.tabled_set.specs.Truncated.{Cut, Ignore, Replace}
 
 -- how texts stay in a content size: what is cut from texts of some kind does, with a suffix or
 -- without, and so do the copies of a character and lines that are joined

@@ -1,14 +1,10 @@
 -- Cells that are visited line by line, in bands of lines and of places.
 use Rattle.std.proofs.Common.{◌≡◌, ℕ, ◌+◌, ◌<◌, ◌≤◌, ◌==◌, Bool, true, false, ◌&&◌, ◌||◌, List, Option, Some, nat_lt, ap, subst, sym, ◌∙◌, arith}
-use Rattle.tabled_base.specs.Cells.{IsInside, cell_at}
-use Rattle.tabled_base.specs.declared.position.Entity.TheVariants.{Cell}
-use Rattle.tabled_entity.specs.Changes.{covers}
-use Rattle.tabled_set.specs.CellChanges.{AreChanged, AreChangedBefore, NeedsMemoryIn, is_taken, line_of, place_of, precedes}
+use Rattle.tabled_set.specs.Common.{Cell, cell_at, covers, IsInside}
+use Rattle.tabled_set.specs.CellChanges.{AreChanged, AreChangedBefore, NeedsMemoryIn, is_taken, line_of, place_of, precedes, WalkOrder}
+use Rattle.tabled_set.specs.CellChanges.{ByColumn, ByRow, CellFilter}
 use Rattle.tabled_set.specs.Walking.{is_within, lines_in, on_line, places_in}
-use Rattle.tabled_set.specs.declared.walk.WalkOrder.{WalkOrder}
-use Rattle.tabled_set.specs.declared.walk.WalkOrder.TheVariants.{ByColumn, ByRow}
 use Rattle.tabled_set.specs.declared.walk.Band.{Band}
-use Rattle.tabled_set.specs.declared.changing.CellFilter.{CellFilter}
 use Rattle.tabled_set.proofs.ChangingCells.{AreChanged-both, AreChanged-same, IsEither, IsInside-before, at-other}
 
 -- a cell on one of the lines is inside

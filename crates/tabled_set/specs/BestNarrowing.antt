@@ -1,15 +1,10 @@
 -- Tables that were narrowed as well as possible.
 use Rattle.std.specs.Prelude.{◌≡◌, ◌<◌, ◌-◌, ℕ, Bool, true, false}
-use Rattle.tabled_text.specs.Exact.{IsExactLine}
-use Rattle.tabled_base.specs.Cells.{IsInside, cell_at}
+use Rattle.tabled_set.specs.Common.{at, cell_at, IsExactLine, IsInside, IsLongestCut, Sheet, text_columns}
 use Rattle.tabled_set.specs.Truncated.{HasLongestLines}
 use Rattle.tabled_set.specs.Minimums.{minimums, side_padding}
 use Rattle.tabled_priority.specs.Least.{HasLeastGreatest}
-use Rattle.tabled_priority.specs.Permitted.{at}
-use Rattle.tabled_size.specs.Sheet.{Sheet}
 use Rattle.tabled_text.specs.Breaking.{EachUnitFits, HasFewestLines}
-use Rattle.tabled_text.specs.Longest.{IsLongestCut}
-use Rattle.tabled_text.specs.Measure.{text_columns}
 use Rattle.tabled_text.specs.OldText.{HasOldText}
 
 -- the content width of a cell

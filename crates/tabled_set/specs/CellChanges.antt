@@ -1,18 +1,12 @@
 -- Tables of which some cells change and the others don't.
 use Rattle.std.specs.Prelude.{◌≡◌, ◌⊎◌, ℕ, Bool, true, not, ◌&&◌, ◌||◌, ◌==◌, nat_lt, List, [], MatchBool, Option, Some, None, length, slice_index_or}
-use Rattle.tabled_base.specs.Cells.{IsInside, cell_at}
-use Rattle.tabled_base.specs.declared.error.TableError.{TableError}
-use Rattle.tabled_base.specs.declared.error.TableError.TheVariants.{Memory, Range}
-use Rattle.tabled_base.specs.declared.position.Entity.{Entity}
-use Rattle.tabled_entity.specs.Changes.{covers}
-use Rattle.tabled_text.specs.Measure.{lines_of, text_columns}
+use Rattle.tabled_set.specs.Common.{cell_at, covers, Entity, IsInside, lines_of, Memory, Range, TableError, text_columns}
 use Rattle.tabled_text.specs.Wrapping.{IsWrapped}
-use Rattle.tabled_set.specs.Truncated.{IsTruncated}
-use Rattle.tabled_set.specs.declared.walk.WalkOrder.{WalkOrder}
-use Rattle.tabled_set.specs.declared.walk.WalkOrder.TheVariants.{ByColumn, ByRow}
-use Rattle.tabled_set.specs.declared.suffix.SuffixLimit.{SuffixLimit}
-use Rattle.tabled_set.specs.declared.changing.CellFilter.{CellFilter}
-use Rattle.tabled_set.specs.declared.changing.CellFilter.TheVariants.{Every, Higher, Lower, Narrower, NotAsWide, Wider}
+use Rattle.tabled_set.specs.Truncated.{IsTruncated, SuffixLimit}
+pub use Rattle.tabled_set.specs.declared.walk.WalkOrder.{WalkOrder}
+pub use Rattle.tabled_set.specs.declared.walk.WalkOrder.TheVariants.{ByColumn, ByRow}
+pub use Rattle.tabled_set.specs.declared.changing.CellFilter.{CellFilter}
+pub use Rattle.tabled_set.specs.declared.changing.CellFilter.TheVariants.{Every, Higher, Lower, Narrower, NotAsWide, Wider}
 
 -- ---- one text
 

@@ -1,12 +1,7 @@
 -- Tables that were narrowed to a total width.
 use Rattle.std.specs.Prelude.{◌≡◌, ℕ, max}
 use Rattle.tabled_set.specs.Minimums.{emptied}
-use Rattle.tabled_size.specs.Estimates.{estimated_widths}
-use Rattle.tabled_size.specs.Holds.{Holds, IsSized}
-use Rattle.tabled_size.specs.PlainCells.{AreAdditive}
-use Rattle.tabled_size.specs.Sheet.{Sheet, estimated}
-use Rattle.tabled_size.specs.TextCells.{AreTexts}
-use Rattle.tabled_size.specs.Totals.{total_width}
+use Rattle.tabled_set.specs.Common.{AreAdditive, AreTexts, estimated, estimated_widths, Holds, IsSized, Sheet, total_width}
 
 -- the widths are the estimated ones
 abbrev pub HasEstimatedWidths : Sheet → Type 0

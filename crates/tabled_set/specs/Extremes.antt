@@ -1,14 +1,12 @@
 -- The maximum or minimum size of a table's cells, and a percentage of its total size.
 use Rattle.std.specs.Prelude.{ℕ, List, [], ◌∷◌, length, map, min, ◌⊎◌, ◌≤◌, ◌^◌, ◌*◌, ◌/◌}
 use Rattle.std.specs.List.{range_with_len}
-use Rattle.tabled_base.specs.Cells.{cell_at, columns}
-use Rattle.tabled_text.specs.Measure.{greatest, lines_of, text_columns}
-use Rattle.tabled_set.specs.declared.measurement.TextMeasure.{TextMeasure}
-use Rattle.tabled_set.specs.declared.measurement.TextMeasure.TheVariants.{Columns, Lines}
-use Rattle.tabled_set.specs.declared.measurement.Pick.{Pick}
-use Rattle.tabled_set.specs.declared.measurement.Pick.TheVariants.{Greatest, Least}
-use Rattle.tabled_size.specs.Sheet.{Sheet}
-use Rattle.tabled_size.specs.Totals.{total_height, total_width}
+use Rattle.tabled_set.specs.Common.{cell_at, columns, lines_of, Sheet, text_columns, total_height, total_width}
+use Rattle.tabled_text.specs.Measure.{greatest}
+pub use Rattle.tabled_set.specs.declared.measurement.TextMeasure.{TextMeasure}
+pub use Rattle.tabled_set.specs.declared.measurement.TextMeasure.TheVariants.{Columns, Lines}
+pub use Rattle.tabled_set.specs.declared.measurement.Pick.{Pick}
+pub use Rattle.tabled_set.specs.declared.measurement.Pick.TheVariants.{Greatest, Least}
 
 -- the minimum of a number and a list
 abbrev pub least_of : ℕ → List ℕ → ℕ

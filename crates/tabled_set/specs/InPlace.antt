@@ -3,12 +3,9 @@
 use Rattle.std.specs.Prelude.{◌≡◌, ℕ, ◌==◌, Bool, true, nat_lt, List, [], ◌∷◌, ◌++◌, MatchBool, take}
 use Rattle.std.specs.Str.{IsCharBoundary}
 use Rattle.tabled_base.specs.ShortOr.{FitsBehind}
-use Rattle.tabled_text.specs.Cut.{IsCut, NeedsFill}
-use Rattle.tabled_text.specs.Measure.{lines_of}
-use Rattle.tabled_set.specs.Truncated.{IsUsed, suffix_columns}
+use Rattle.tabled_set.specs.Common.{IsCut, lines_of, NeedsFill}
+use Rattle.tabled_set.specs.Truncated.{IsUsed, suffix_columns, SuffixLimit, Cut, Ignore, Replace}
 use Rattle.tabled_set.specs.declared.changing.Beginning.{Beginning}
-use Rattle.tabled_set.specs.declared.suffix.SuffixLimit.{SuffixLimit}
-use Rattle.tabled_set.specs.declared.suffix.SuffixLimit.TheVariants.{Cut, Ignore, Replace}
 
 -- a beginning of a text, with its ending
 abbrev pub ended_text : Beginning → List ℕ → List ℕ

@@ -1,16 +1,10 @@
 -- Tables whose columns or rows grow to a total, and errors before they do.
 use Rattle.std.specs.Prelude.{◌≡◌, ℕ, ◌-◌, ◌⊎◌, ◌<◌, ◌≤◌, ◌^◌, nat_le, false, List, MatchBool, Some, unwrap_or}
-use Rattle.tabled_base.specs.declared.error.TableError.{TableError}
-use Rattle.tabled_base.specs.declared.error.TableError.TheVariants.{Memory}
-use Rattle.tabled_config.specs.declared.spanned.SpannedConfig.{SpannedConfig}
-use Rattle.tabled_size.specs.Estimates.{IsTooHigh, estimated_heights}
-use Rattle.tabled_size.specs.FilledIn.{HasNoEstimate, IsFilledIn}
-use Rattle.tabled_size.specs.Sheet.{estimated, is_empty}
-use Rattle.tabled_size.specs.Effective.{effective}
-use Rattle.tabled_size.specs.Stored.{heights_of, widths_of, is_stored}
-use Rattle.tabled_size.specs.Totals.{total_height, total_width}
-use Rattle.tabled_size.specs.declared.complete_dimension.CompleteDimension.{CompleteDimension}
+use Rattle.tabled_set.specs.Common.{CompleteDimension, effective, estimated, estimated_heights, HasNoEstimate, heights_of, is_empty}
+use Rattle.tabled_set.specs.Common.{is_stored, IsFilledIn, IsTooHigh, Memory, SpannedConfig, TableError, total_height, total_width}
+use Rattle.tabled_set.specs.Common.{widths_of}
 use Rattle.tabled_priority.specs.Grown.{IsNoneSmaller}
+use Rattle.tabled_set.specs.Priorities.{Grows}
 
 -- such an error leaves the sizes unchanged. It is `Memory` only if widths or heights aren't stored
 pub record StopsFilling (error : TableError) (old new : CompleteDimension) : Type 0 where
@@ -18,7 +12,7 @@ pub record StopsFilling (error : TableError) (old new : CompleteDimension) : Typ
   pub same : new ≡ old
 
 -- the priority may grow the old list by an amount to the new one; no entry is smaller
-pub record IsGrownBy {P : Type 0} (grows : P → List ℕ → ℕ → List ℕ → P → Type 0) (priority : P) (old : List ℕ) (by : ℕ) (new : List ℕ) : Type 0 where
+pub record IsGrownBy {P : Type 0} (grows : Grows P) (priority : P) (old : List ℕ) (by : ℕ) (new : List ℕ) : Type 0 where
   pub last : P
   pub grown : grows priority old by new last
   pub kept : IsNoneSmaller old new
@@ -27,7 +21,7 @@ pub record IsGrownBy {P : Type 0} (grows : P → List ℕ → ℕ → List ℕ �
 
 -- a table of fewer than n columns in total: the effective widths grow by the difference and are
 -- stored, and so are the effective heights
-pub record IsWidened {P : Type 0} (grows : P → List ℕ → ℕ → List ℕ → P → Type 0) (priority : P) (n : ℕ) (cells : List (List (List ℕ)))
+pub record IsWidened {P : Type 0} (grows : Grows P) (priority : P) (n : ℕ) (cells : List (List (List ℕ)))
     (config : SpannedConfig) (old new : CompleteDimension) : Type 0 where
   pub widths : List ℕ
   pub grown : IsGrownBy grows priority (effective cells config old).widths (n - total_width (effective cells config old)) widths
@@ -36,7 +30,7 @@ pub record IsWidened {P : Type 0} (grows : P → List ℕ → ℕ → List ℕ �
 
 -- the sizes after a table was widened to at least n columns: unchanged if the table is empty,
 -- filled in if it was wide enough, else widened
-abbrev pub IncreasesWidth : {P : Type 0} → (P → List ℕ → ℕ → List ℕ → P → Type 0) → P → ℕ → List (List (List ℕ)) → SpannedConfig → CompleteDimension
+abbrev pub IncreasesWidth : {P : Type 0} → Grows P → P → ℕ → List (List (List ℕ)) → SpannedConfig → CompleteDimension
     → CompleteDimension → Type 0
 IncreasesWidth grows priority n cells config old new =
     MatchBool (is_empty cells) (new ≡ old)
@@ -62,7 +56,7 @@ WidthOutOfRange measure_out_of_range cells config sizes =
 
 -- a table of fewer than n lines in total: the estimated heights grow by the difference and are
 -- stored, and the widths don't change
-pub record IsHeightened {P : Type 0} (grows : P → List ℕ → ℕ → List ℕ → P → Type 0) (priority : P) (n : ℕ) (cells : List (List (List ℕ)))
+pub record IsHeightened {P : Type 0} (grows : Grows P) (priority : P) (n : ℕ) (cells : List (List (List ℕ)))
     (config : SpannedConfig) (old new : CompleteDimension) : Type 0 where
   pub heights : List ℕ
   pub grown : IsGrownBy grows priority (estimated_heights cells config) (n - total_height (estimated cells config)) heights
@@ -71,7 +65,7 @@ pub record IsHeightened {P : Type 0} (grows : P → List ℕ → ℕ → List �
 
 -- the sizes after a table was grown to at least n lines: unchanged if the table is empty or was
 -- high enough, else heightened
-abbrev pub IncreasesHeight : {P : Type 0} → (P → List ℕ → ℕ → List ℕ → P → Type 0) → P → ℕ → List (List (List ℕ)) → SpannedConfig → CompleteDimension
+abbrev pub IncreasesHeight : {P : Type 0} → Grows P → P → ℕ → List (List (List ℕ)) → SpannedConfig → CompleteDimension
     → CompleteDimension → Type 0
 IncreasesHeight grows priority n cells config old new =
     MatchBool (is_empty cells) (new ≡ old)

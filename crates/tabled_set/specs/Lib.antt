@@ -1,5 +1,6 @@
 pub mod BestNarrowing
 pub mod CellChanges
+pub mod Common
 pub mod ExactTotal
 pub mod Extremes
 pub mod HeightFrame

@@ -1,19 +1,11 @@
 -- Tables whose rows shrink to a total.
 use Rattle.std.specs.Prelude.{◌≡◌, ◌⊎◌, ◌<◌, ℕ, ◌-◌, nat_le, List, [], MatchBool, Some, true}
-use Rattle.tabled_base.specs.declared.error.TableError.{TableError}
-use Rattle.tabled_base.specs.declared.error.TableError.TheVariants.{Memory}
-use Rattle.tabled_config.specs.declared.spanned.SpannedConfig.{SpannedConfig}
-use Rattle.tabled_priority.specs.Permitted.{at}
-use Rattle.tabled_size.specs.Estimates.{estimated_heights}
-use Rattle.tabled_size.specs.Sheet.{estimated, is_empty}
-use Rattle.tabled_size.specs.Stored.{heights_of, widths_of}
-use Rattle.tabled_size.specs.Totals.{total_height}
-use Rattle.tabled_size.specs.declared.complete_dimension.CompleteDimension.{CompleteDimension}
-use Rattle.tabled_set.specs.CellChanges.{AreChanged, AreChangedBefore, NeedsMemory, if_taken, never_in_place}
-use Rattle.tabled_set.specs.declared.walk.WalkOrder.TheVariants.{ByRow}
-use Rattle.tabled_set.specs.declared.changing.CellFilter.TheVariants.{Higher}
+use Rattle.tabled_set.specs.Common.{at, CompleteDimension, estimated, estimated_heights, heights_of, is_empty, Memory, SpannedConfig}
+use Rattle.tabled_set.specs.Common.{TableError, total_height, widths_of}
+use Rattle.tabled_set.specs.CellChanges.{AreChanged, AreChangedBefore, NeedsMemory, if_taken, never_in_place, ByRow, Higher}
 use Rattle.tabled_set.specs.TextLines.{limiting}
 use Rattle.tabled_set.specs.Narrowed.{IsShrunkBy}
+use Rattle.tabled_set.specs.Priorities.{Shrinks}
 
 -- a cell with more lines than its row's height keeps that many of its first lines, whatever its
 -- padding
@@ -26,7 +18,7 @@ needs_for_height heights row column = NeedsMemory Higher never_in_place (at heig
 
 -- a table of more than n lines in total: the estimated heights shrink by the excess, without
 -- minimums, and are stored. Cells are limited to their rows' heights, and the widths don't change
-pub record IsLowered {P : Type 0} (shrinks : P → List ℕ → List ℕ → ℕ → List ℕ → P → Type 0) (priority : P) (n : ℕ) (cells : List (List (List ℕ)))
+pub record IsLowered {P : Type 0} (shrinks : Shrinks P) (priority : P) (n : ℕ) (cells : List (List (List ℕ)))
     (config : SpannedConfig) (old : CompleteDimension) (cells' : List (List (List ℕ))) (new : CompleteDimension) : Type 0 where
   pub heights : List ℕ
   pub shrunk : IsShrunkBy shrinks priority (estimated_heights cells config) [] (total_height (estimated cells config) - n) heights
@@ -36,7 +28,7 @@ pub record IsLowered {P : Type 0} (shrinks : P → List ℕ → List ℕ → ℕ
 
 -- what is left after a table was limited to n lines: unchanged if the table is empty or was low
 -- enough, else lowered
-abbrev pub LimitsHeight : {P : Type 0} → (P → List ℕ → List ℕ → ℕ → List ℕ → P → Type 0) → P → ℕ → List (List (List ℕ)) → SpannedConfig
+abbrev pub LimitsHeight : {P : Type 0} → Shrinks P → P → ℕ → List (List (List ℕ)) → SpannedConfig
     → CompleteDimension → List (List (List ℕ)) → CompleteDimension → Type 0
 LimitsHeight shrinks priority n cells config old cells' new =
     MatchBool (is_empty cells) ((cells' ≡ cells) × (new ≡ old))
@@ -45,7 +37,7 @@ LimitsHeight shrinks priority n cells config old cells' new =
 
 -- an allocation failed in a table of more than n lines, at a cell with more lines than its row's
 -- height. The cells before it, row by row, are limited; it and the others are unchanged
-pub record IsLoweredBefore {P : Type 0} (shrinks : P → List ℕ → List ℕ → ℕ → List ℕ → P → Type 0) (priority : P) (n : ℕ)
+pub record IsLoweredBefore {P : Type 0} (shrinks : Shrinks P) (priority : P) (n : ℕ)
     (cells : List (List (List ℕ))) (config : SpannedConfig) (cells' : List (List (List ℕ))) : Type 0 where
   pub higher : n < total_height (estimated cells config)
   pub heights : List ℕ
@@ -54,7 +46,7 @@ pub record IsLoweredBefore {P : Type 0} (shrinks : P → List ℕ → List ℕ �
 
 -- what an error leaves of the cells: all unchanged, or with `Memory` those before the one at which
 -- it stopped limited
-abbrev pub StopsLimiting : {P : Type 0} → (P → List ℕ → List ℕ → ℕ → List ℕ → P → Type 0) → P → ℕ → TableError → List (List (List ℕ)) → SpannedConfig
+abbrev pub StopsLimiting : {P : Type 0} → Shrinks P → P → ℕ → TableError → List (List (List ℕ)) → SpannedConfig
     → List (List (List ℕ)) → Type 0
 StopsLimiting shrinks priority n error cells config cells' =
     (cells' ≡ cells) ⊎ ((error ≡ Memory) × IsLoweredBefore shrinks priority n cells config cells')

@@ -1,10 +1,7 @@
 -- Lists of sizes that are stored.
 use Rattle.std.specs.Prelude.{◌≡◌, ℕ, List, MatchBool, Some, length, nat_lt}
-use Rattle.tabled_base.specs.Cells.{columns}
-use Rattle.tabled_set.specs.declared.measurement.TextMeasure.{TextMeasure}
-use Rattle.tabled_set.specs.declared.measurement.TextMeasure.TheVariants.{Columns, Lines}
-use Rattle.tabled_size.specs.Stored.{heights_of, widths_of}
-use Rattle.tabled_size.specs.declared.complete_dimension.CompleteDimension.{CompleteDimension}
+use Rattle.tabled_set.specs.Common.{columns, CompleteDimension, heights_of, widths_of}
+use Rattle.tabled_set.specs.Extremes.{TextMeasure, Columns, Lines}
 
 -- a list of widths or heights is stored, and the other sizes don't change; a list shorter than the
 -- number of columns or rows changes nothing

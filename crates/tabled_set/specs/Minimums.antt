@@ -1,8 +1,7 @@
 -- The minimum widths of columns, which they have with empty cells.
 use Rattle.std.specs.Prelude.{ℕ, ◌+◌, List, [], map}
-use Rattle.tabled_config.specs.declared.spanned.SpannedConfig.{SpannedConfig}
+use Rattle.tabled_set.specs.Common.{estimated_widths, SpannedConfig}
 use Rattle.tabled_config.specs.Settings.{style_at}
-use Rattle.tabled_size.specs.Estimates.{estimated_widths}
 
 -- the same cells without text
 abbrev pub emptied : List (List (List ℕ)) → List (List (List ℕ))

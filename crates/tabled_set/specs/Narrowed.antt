@@ -1,21 +1,11 @@
 -- Tables whose columns shrink to a total, and whose cells are changed to fit.
 use Rattle.std.specs.Prelude.{◌≡◌, ◌⊎◌, ◌<◌, ◌≤◌, ◌^◌, ℕ, ◌-◌, true, false, nat_le, List, MatchBool, Some, None, length, take, Bool, ◌&&◌, nat_lt}
-use Rattle.tabled_base.specs.declared.error.TableError.{TableError}
-use Rattle.tabled_base.specs.declared.error.TableError.TheVariants.{Memory}
-use Rattle.tabled_config.specs.declared.spanned.SpannedConfig.{SpannedConfig}
-use Rattle.tabled_priority.specs.Permitted.{IsPermitted, at}
-use Rattle.tabled_size.specs.Estimates.{IsTooWide}
-use Rattle.tabled_size.specs.FilledIn.{HasNoEstimate, IsFilledIn}
-use Rattle.tabled_size.specs.Sheet.{Sheet, is_empty}
-use Rattle.tabled_size.specs.Effective.{effective}
-use Rattle.tabled_size.specs.Stored.{heights_of, widths_of}
-use Rattle.tabled_size.specs.Totals.{total_width}
-use Rattle.tabled_size.specs.declared.complete_dimension.CompleteDimension.{CompleteDimension}
-use Rattle.tabled_set.specs.CellChanges.{AreChanged, AreChangedBefore, if_taken, NeedsMemory}
-use Rattle.tabled_set.specs.declared.walk.WalkOrder.TheVariants.{ByColumn}
-use Rattle.tabled_set.specs.declared.changing.CellFilter.{CellFilter}
+use Rattle.tabled_set.specs.Common.{at, CompleteDimension, effective, HasNoEstimate, heights_of, is_empty, IsFilledIn, IsPermitted}
+use Rattle.tabled_set.specs.Common.{IsTooWide, Memory, Sheet, SpannedConfig, TableError, total_width, widths_of}
+use Rattle.tabled_set.specs.CellChanges.{AreChanged, AreChangedBefore, if_taken, NeedsMemory, ByColumn, CellFilter}
 use Rattle.tabled_set.specs.Increased.{StopsFilling}
 use Rattle.tabled_set.specs.Minimums.{emptied, minimums, side_padding}
+use Rattle.tabled_set.specs.Priorities.{Shrinks}
 
 -- a column has one of the widths, and it isn't below its minimum
 abbrev pub is_permitted : List ℕ → List ℕ → ℕ → Bool
@@ -34,7 +24,7 @@ needs_for_width cell_filter in_place config widths mins row column text =
 
 -- the priority may shrink the widths of a table to these, by the excess of its total over n. There
 -- are as many, permitted by the columns' minimums
-pub record IsShrunkTo {P : Type 0} (shrinks : P → List ℕ → List ℕ → ℕ → List ℕ → P → Type 0) (priority : P) (n : ℕ) (t : Sheet) (widths : List ℕ) : Type 0 where
+pub record IsShrunkTo {P : Type 0} (shrinks : Shrinks P) (priority : P) (n : ℕ) (t : Sheet) (widths : List ℕ) : Type 0 where
   pub last : P
   pub shrunk : shrinks priority t.widths (take (length t.widths) (minimums t.cells t.config)) (total_width t - n) widths last
   pub permitted : IsPermitted t.widths (take (length t.widths) (minimums t.cells t.config)) widths
@@ -49,7 +39,7 @@ needs_for_content_size cell_filter in_place t widths = needs_for_width cell_filt
 
 -- a table wider than n is narrowed: its widths are shrunk and stored, its cells are changed for
 -- their content widths, and its heights are cleared
-pub record IsNarrowed {P : Type 0} (shrinks : P → List ℕ → List ℕ → ℕ → List ℕ → P → Type 0) (priority : P) (change : ℕ → List ℕ → List ℕ → Type 0)
+pub record IsNarrowed {P : Type 0} (shrinks : Shrinks P) (priority : P) (change : ℕ → List ℕ → List ℕ → Type 0)
     (n : ℕ) (t : Sheet) (cells : List (List (List ℕ))) (sizes : CompleteDimension) : Type 0 where
   pub widths : List ℕ
   pub shrunk : IsShrunkTo shrinks priority n t widths
@@ -59,7 +49,7 @@ pub record IsNarrowed {P : Type 0} (shrinks : P → List ℕ → List ℕ → �
 
 -- what narrowing to n columns leaves: an empty table unchanged, one of at most n columns with its
 -- sizes filled in, and a wider one narrowed
-abbrev pub Narrows : {P : Type 0} → (P → List ℕ → List ℕ → ℕ → List ℕ → P → Type 0) → P → (ℕ → List ℕ → List ℕ → Type 0) → ℕ → List (List (List ℕ))
+abbrev pub Narrows : {P : Type 0} → Shrinks P → P → (ℕ → List ℕ → List ℕ → Type 0) → ℕ → List (List (List ℕ))
     → SpannedConfig → CompleteDimension → List (List (List ℕ)) → CompleteDimension → Type 0
 Narrows shrinks priority change n cells config sizes cells' sizes' =
     MatchBool (is_empty cells) ((cells' ≡ cells) × (sizes' ≡ sizes))
@@ -68,7 +58,7 @@ Narrows shrinks priority change n cells config sizes cells' sizes' =
 
 -- an allocation failed at a cell of a table wider than n. The cells before it, column by column,
 -- have changed; it and the others haven't
-pub record IsNarrowedBefore {P : Type 0} (shrinks : P → List ℕ → List ℕ → ℕ → List ℕ → P → Type 0) (priority : P) (cell_filter : CellFilter)
+pub record IsNarrowedBefore {P : Type 0} (shrinks : Shrinks P) (priority : P) (cell_filter : CellFilter)
     (in_place : ℕ → List ℕ → Type 0) (change : ℕ → List ℕ → List ℕ → Type 0) (n : ℕ) (t : Sheet) (cells : List (List (List ℕ))) : Type 0 where
   pub wider : n < total_width t
   pub widths : List ℕ
@@ -77,7 +67,7 @@ pub record IsNarrowedBefore {P : Type 0} (shrinks : P → List ℕ → List ℕ 
 
 -- an error after sizes were filled in: the table is wider than n. No cell has changed, or with
 -- `Memory` those before the one at which it stopped have
-pub record StopsShrinking {P : Type 0} (shrinks : P → List ℕ → List ℕ → ℕ → List ℕ → P → Type 0) (priority : P) (cell_filter : CellFilter)
+pub record StopsShrinking {P : Type 0} (shrinks : Shrinks P) (priority : P) (cell_filter : CellFilter)
     (in_place : ℕ → List ℕ → Type 0) (change : ℕ → List ℕ → List ℕ → Type 0) (n : ℕ) (error : TableError) (cells : List (List (List ℕ)))
     (config : SpannedConfig) (sizes : CompleteDimension) (cells' : List (List (List ℕ))) (sizes' : CompleteDimension) : Type 0 where
   pub wider : n < total_width (effective cells config sizes)
@@ -85,7 +75,7 @@ pub record StopsShrinking {P : Type 0} (shrinks : P → List ℕ → List ℕ �
   pub stopped : (cells' ≡ cells) ⊎ ((error ≡ Memory) × IsNarrowedBefore shrinks priority cell_filter in_place change n (effective cells config sizes) cells')
 
 -- what an error leaves: all unchanged while sizes are estimated, else what `StopsShrinking` says
-abbrev pub StopsNarrowing : {P : Type 0} → (P → List ℕ → List ℕ → ℕ → List ℕ → P → Type 0) → P → CellFilter → (ℕ → List ℕ → Type 0)
+abbrev pub StopsNarrowing : {P : Type 0} → Shrinks P → P → CellFilter → (ℕ → List ℕ → Type 0)
     → (ℕ → List ℕ → List ℕ → Type 0) → ℕ → TableError → List (List (List ℕ)) → SpannedConfig → CompleteDimension → List (List (List ℕ))
     → CompleteDimension → Type 0
 StopsNarrowing shrinks priority cell_filter in_place change n error cells config sizes cells' sizes' =
@@ -105,14 +95,14 @@ NarrowingOutOfRange measure_out_of_range n cells config sizes =
 
 -- the priority may shrink the old list by an amount to the new one, which is as long and permitted
 -- by the minimums
-pub record IsShrunkBy {P : Type 0} (shrinks : P → List ℕ → List ℕ → ℕ → List ℕ → P → Type 0) (priority : P) (old mins : List ℕ) (by : ℕ)
+pub record IsShrunkBy {P : Type 0} (shrinks : Shrinks P) (priority : P) (old mins : List ℕ) (by : ℕ)
     (new : List ℕ) : Type 0 where
   pub last : P
   pub shrunk : shrinks priority old mins by new last
   pub permitted : IsPermitted old mins new
 
 -- the widths to which a table wider than n shrinks, and the minimums of as many columns
-pub record IsFound {P : Type 0} (shrinks : P → List ℕ → List ℕ → ℕ → List ℕ → P → Type 0) (priority : P) (n : ℕ) (t : Sheet)
+pub record IsFound {P : Type 0} (shrinks : Shrinks P) (priority : P) (n : ℕ) (t : Sheet)
     (widths mins : List ℕ) : Type 0 where
   pub wider : n < total_width t
   pub shrunk : IsShrunkTo shrinks priority n t widths

@@ -1,20 +1,12 @@
 -- What options that change the sizes of a table promise, by the priority and the texts.
 use Rattle.std.specs.Prelude.{◌≡◌, ◌<◌, ℕ, Bool, List, Option, [], false, length, max, sum}
-use Rattle.tabled_base.specs.declared.position.Entity.{Entity}
-use Rattle.tabled_size.specs.Cleared.{AreCleared}
-use Rattle.tabled_size.specs.declared.complete_dimension.CompleteDimension.{CompleteDimension}
+use Rattle.tabled_set.specs.Common.{AreCleared, AreTexts, CompleteDimension, Entity, estimated, Holds, is_empty, IsAdditive, IsSized, Sheet}
+use Rattle.tabled_set.specs.Common.{SpannedConfig, total_height, total_width}
 use Rattle.tabled_set.specs.BestNarrowing.{HasLeastWidth, IsBestCut, IsBestWrapped}
 use Rattle.tabled_set.specs.ExactTotal.{HasEstimatedWidths, HasExactTotal}
-use Rattle.tabled_set.specs.Truncated.{IsAdditiveLimit}
-use Rattle.tabled_set.specs.declared.suffix.SuffixLimit.{SuffixLimit}
-use Rattle.tabled_config.specs.declared.spanned.SpannedConfig.{SpannedConfig}
+use Rattle.tabled_set.specs.Truncated.{IsAdditiveLimit, SuffixLimit}
 use Rattle.tabled_set.specs.HeightFrame.{frame_height}
-use Rattle.tabled_set.specs.Priorities.{AddsTo, TakesFrom, TakesGreatest}
-use Rattle.tabled_size.specs.Holds.{Holds, IsSized}
-use Rattle.tabled_size.specs.Sheet.{Sheet, estimated, is_empty}
-use Rattle.tabled_size.specs.TextCells.{AreTexts}
-use Rattle.tabled_size.specs.Totals.{total_height, total_width}
-use Rattle.tabled_text.specs.Plain.{IsAdditive}
+use Rattle.tabled_set.specs.Priorities.{AddsTo, Grows, Shrinks, TakesFrom, TakesGreatest}
 
 -- what holds of the sizes that are left after those of a hint are cleared
 abbrev pub AfterClearing : Option Entity → CompleteDimension → (CompleteDimension → Type 0) → Type 0
@@ -28,7 +20,7 @@ pub record IsWiderThan (n : ℕ) (t : Sheet) : Type 0 where
 -- wrapped to n columns. With a priority that takes all it can, the total is exact and each cell has
 -- the fewest lines, whatever the texts are. With one that shrinks the largest first, the greatest
 -- width is the least possible
-pub record WrapsAsPromised {P : Type 0} (shrinks : P → List ℕ → List ℕ → ℕ → List ℕ → P → Type 0) (s : P) (words : Bool) (n : ℕ)
+pub record WrapsAsPromised {P : Type 0} (shrinks : Shrinks P) (s : P) (words : Bool) (n : ℕ)
     (old new : Sheet) : Type 0 where
   pub exact : TakesFrom shrinks s → IsWiderThan n old → AreTexts old.cells → HasExactTotal n old new
   pub best : TakesFrom shrinks s → IsWiderThan n old → IsBestWrapped words old new
@@ -37,7 +29,7 @@ pub record WrapsAsPromised {P : Type 0} (shrinks : P → List ℕ → List ℕ �
 -- truncated to n columns. With a priority that takes all it can, the total is exact if the suffix
 -- is additive, and without a suffix no cut could be longer. With one that shrinks the largest
 -- first, the greatest width is the least possible
-pub record TruncatesAsPromised {P : Type 0} (shrinks : P → List ℕ → List ℕ → ℕ → List ℕ → P → Type 0) (s : P) (suffix : List ℕ) (limit : SuffixLimit)
+pub record TruncatesAsPromised {P : Type 0} (shrinks : Shrinks P) (s : P) (suffix : List ℕ) (limit : SuffixLimit)
     (multiline : Bool) (n : ℕ) (old new : Sheet) : Type 0 where
   pub exact : TakesFrom shrinks s → IsAdditive suffix → IsAdditiveLimit limit → IsWiderThan n old → AreTexts old.cells → HasExactTotal n old new
   pub best : TakesFrom shrinks s → suffix ≡ [] → IsWiderThan n old → IsBestCut multiline old new
@@ -46,19 +38,19 @@ pub record TruncatesAsPromised {P : Type 0} (shrinks : P → List ℕ → List �
 -- widened to n columns. With a priority that adds the whole amount, the total is n if some width
 -- isn't 0. With any priority, the sizes still cover all columns and rows if they did, and the table
 -- still holds its cells if it did
-pub record WidensAsPromised {P : Type 0} (grows : P → List ℕ → ℕ → List ℕ → P → Type 0) (s : P) (n : ℕ) (old new : Sheet) : Type 0 where
+pub record WidensAsPromised {P : Type 0} (grows : Grows P) (s : P) (n : ℕ) (old new : Sheet) : Type 0 where
   pub exact : AddsTo grows s → is_empty old.cells ≡ false → total_width old < n → 0 < sum old.widths → total_width new ≡ n
   pub sized : IsSized old → IsSized new
   pub holds : Holds old → Holds new
 
 -- grown to n lines, by a priority that adds the whole amount: the total is n
-pub record HeightensAsPromised {P : Type 0} (grows : P → List ℕ → ℕ → List ℕ → P → Type 0) (s : P) (n : ℕ) (cells : List (List (List ℕ)))
+pub record HeightensAsPromised {P : Type 0} (grows : Grows P) (s : P) (n : ℕ) (cells : List (List (List ℕ)))
     (config : SpannedConfig) (new : Sheet) : Type 0 where
   pub exact : AddsTo grows s → is_empty cells ≡ false → total_height (estimated cells config) < n → total_height new ≡ n
 
 -- limited to n lines, by a priority that takes all it can: the total is n, or the height of the
 -- table without its rows if this is greater
-pub record LimitsAsPromised {P : Type 0} (shrinks : P → List ℕ → List ℕ → ℕ → List ℕ → P → Type 0) (s : P) (n : ℕ) (cells : List (List (List ℕ)))
+pub record LimitsAsPromised {P : Type 0} (shrinks : Shrinks P) (s : P) (n : ℕ) (cells : List (List (List ℕ)))
     (config : SpannedConfig) (new : Sheet) : Type 0 where
   pub exact : TakesFrom shrinks s → is_empty cells ≡ false → n < total_height (estimated cells config)
       → total_height new ≡ max n (frame_height config (length cells))

@@ -2,10 +2,9 @@
 -- bytes.
 use Rattle.std.specs.Prelude.{◌≡◌, ℕ, ◌-◌, List, ◌++◌, encode_utf8_all, length, map, replicate, take, [], false}
 use Rattle.std.specs.List.{join_with_byte}
-use Rattle.tabled_text.specs.Measure.{line_columns, lines_of}
-use Rattle.tabled_set.specs.CellChanges.{if_taken, truncating}
-use Rattle.tabled_set.specs.declared.suffix.SuffixLimit.TheVariants.{Cut}
-use Rattle.tabled_set.specs.declared.changing.CellFilter.TheVariants.{Narrower, Wider}
+use Rattle.tabled_set.specs.Common.{line_columns, lines_of}
+use Rattle.tabled_set.specs.CellChanges.{if_taken, truncating, Narrower, Wider}
+use Rattle.tabled_set.specs.Truncated.{Cut}
 
 -- a line with a copy of a character for each column that it has less than the content size
 abbrev pub filled_line : ℕ → ℕ → List ℕ → List ℕ

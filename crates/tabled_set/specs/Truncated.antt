@@ -1,13 +1,9 @@
 -- What a text becomes if it is truncated to a content size with a suffix. Texts are lists of bytes.
 use Rattle.std.specs.Prelude.{◌≡◌, ℕ, ◌+◌, ◌-◌, Bool, ◌==◌, nat_lt, List, [], ◌++◌, MatchBool, encode_utf8_all, length, replicate, sum_by}
 use Rattle.std.specs.List.{AllZip, join_with_byte}
-use Rattle.tabled_text.specs.Cut.{IsCut}
-use Rattle.tabled_text.specs.Measure.{line_columns, lines_of}
-use Rattle.tabled_set.specs.declared.suffix.SuffixLimit.{SuffixLimit}
-use Rattle.tabled_set.specs.declared.suffix.SuffixLimit.TheVariants.{Cut, Ignore, Replace}
-use Rattle.tabled_text.specs.Plain.{IsAdditiveColumn}
-use Rattle.tabled_text.specs.Exact.{IsExactLine}
-use Rattle.tabled_text.specs.Longest.{IsLongestCut}
+use Rattle.tabled_set.specs.Common.{IsAdditiveColumn, IsCut, IsExactLine, IsLongestCut, line_columns, lines_of}
+pub use Rattle.tabled_set.specs.declared.suffix.SuffixLimit.{SuffixLimit}
+pub use Rattle.tabled_set.specs.declared.suffix.SuffixLimit.TheVariants.{Cut, Ignore, Replace}
 
 -- ---- the suffix
 

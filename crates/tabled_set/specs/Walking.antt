@@ -1,11 +1,9 @@
 -- Cells that are visited line by line. Lines are rows or columns; a band is a range of them.
 use Rattle.std.specs.Prelude.{◌≡◌, ℕ, ◌==◌, ◌&&◌, Bool, IfSome, List, Option, length, nat_le, nat_lt, true}
-use Rattle.tabled_base.specs.Cells.{IsInside, cell_at, columns}
-use Rattle.tabled_set.specs.CellChanges.{NeedsMemoryIn, if_taken, in_room, is_taken, line_of, place_of}
-use Rattle.tabled_set.specs.declared.walk.WalkOrder.{WalkOrder}
-use Rattle.tabled_set.specs.declared.walk.WalkOrder.TheVariants.{ByColumn, ByRow}
+use Rattle.tabled_set.specs.Common.{cell_at, columns, IsInside}
+use Rattle.tabled_set.specs.CellChanges.{NeedsMemoryIn, if_taken, in_room, is_taken, line_of, place_of, WalkOrder, ByColumn, ByRow}
+use Rattle.tabled_set.specs.CellChanges.{CellFilter}
 use Rattle.tabled_set.specs.declared.walk.Band.{Band}
-use Rattle.tabled_set.specs.declared.changing.CellFilter.{CellFilter}
 
 -- a row or column is in a band
 abbrev pub is_within : Band → ℕ → Bool

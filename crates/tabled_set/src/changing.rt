@@ -1,15 +1,11 @@
 //! Changes the text of one cell: for which cells, to which content size, in place if possible.
 ghost use Rattle.std.specs.Prelude.{◌≡◌, ℕ, Option, Some, true, IfErr, IfNone, IfOk, IfSome, List, OnErr, OnOk, string_bytes};
 ghost use Rattle.std.specs.Str.{IsCharBoundary};
-ghost use Rattle.tabled_base.specs.Cells.{IsInside, cell_at};
+ghost use Rattle.tabled_set.specs.Common.{Cell, cell_at, covers, IsInside, Memory};
 ghost use Rattle.tabled_base.specs.ShortOr.{FitsBehind};
-ghost use Rattle.tabled_base.specs.declared.error.TableError.TheVariants.{Memory};
-ghost use Rattle.tabled_base.specs.declared.position.Entity.TheVariants.{Cell};
-ghost use Rattle.tabled_entity.specs.Changes.{covers};
-ghost use Rattle.tabled_set.specs.CellChanges.{is_taken, AreChanged};
+ghost use Rattle.tabled_set.specs.CellChanges.{is_taken, AreChanged, CellFilter};
 ghost use Rattle.tabled_set.specs.InPlace.{ended_text};
 ghost use Rattle.tabled_set.specs.Walking.{IsCutInPlace, leaves, needs};
-ghost use Rattle.tabled_set.specs.declared.changing.CellFilter.{CellFilter};
 
 use std::alloc::Global;
 use tabled_base::{PeekableRecords, Position, RecordsMut, TableError};

@@ -1,17 +1,12 @@
 //! The options `CellHeightIncrease`, `CellHeightLimit`, `TableHeightIncrease` and
 //! `TableHeightLimit`, which change the heights of cells and tables.
 ghost use Rattle.std.specs.Prelude.{◌≡◌, ◌⊎◌, ◌≤◌, ◌^◌, IfErr, IfOk, None, OnErr, OnOk, Some, false, true};
-ghost use Rattle.tabled_base.specs.declared.error.TableError.TheVariants.{Memory, Range};
-ghost use Rattle.tabled_priority.specs.Permitted.{at};
+ghost use Rattle.tabled_set.specs.Common.{at, effective, estimated, estimated_heights, is_empty, IsTooHigh, Memory, Range, total_height};
 ghost use Rattle.tabled_set.specs.Increased.{HeightOutOfRange, IncreasesHeight};
 ghost use Rattle.tabled_set.specs.Limited.{LimitsHeight, StopsLimiting};
 ghost use Rattle.tabled_set.specs.Promised.{AfterClearing, HeightensAsPromised, LimitsAsPromised};
 ghost use Rattle.tabled_set.specs.TextLines.{lengthening, limiting};
-ghost use Rattle.tabled_set.specs.declared.changing.CellFilter.TheVariants.{Higher, Lower};
-ghost use Rattle.tabled_size.specs.Effective.{effective};
-ghost use Rattle.tabled_size.specs.Estimates.{IsTooHigh, estimated_heights};
-ghost use Rattle.tabled_size.specs.Sheet.{estimated, is_empty};
-ghost use Rattle.tabled_size.specs.Totals.{total_height};
+ghost use Rattle.tabled_set.specs.CellChanges.{Higher, Lower};
 
 use crate::changing::{
     Beginning, CellFilter, Change, ContentSizes, TextTransform,

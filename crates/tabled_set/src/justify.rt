@@ -1,9 +1,8 @@
 //! The option `Justify`, which makes all cells equally wide.
 ghost use Rattle.std.specs.Prelude.{◌≡◌};
-ghost use Rattle.tabled_base.specs.declared.position.Entity.TheVariants.{Global};
-ghost use Rattle.tabled_set.specs.CellChanges.{ChangesEntity, StopsEntity, if_taken, never_in_place};
+ghost use Rattle.tabled_set.specs.Common.{Global};
+ghost use Rattle.tabled_set.specs.CellChanges.{ChangesEntity, StopsEntity, if_taken, never_in_place, NotAsWide};
 ghost use Rattle.tabled_set.specs.TextLines.{IsJustified};
-ghost use Rattle.tabled_set.specs.declared.changing.CellFilter.TheVariants.{NotAsWide};
 
 use crate::changing::{Beginning, CellFilter, TextTransform};
 use crate::measurement::{Max, Measurement, Min, Width};

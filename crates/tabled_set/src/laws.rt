@@ -1,12 +1,7 @@
 //! Facts about truncated texts, stated as contracts.
 ghost use Rattle.std.specs.Prelude.{ℕ, Bool, true, false, List, []};
-ghost use Rattle.tabled_text.specs.Exact.{IsExactLine};
-ghost use Rattle.tabled_text.specs.Fitting.{FitsIn};
-ghost use Rattle.tabled_set.specs.Truncated.{HasLongestLines, IsAdditiveLimit, IsTruncated};
-ghost use Rattle.tabled_set.specs.declared.suffix.SuffixLimit.{SuffixLimit};
-ghost use Rattle.tabled_text.specs.Cut.{IsCut};
-ghost use Rattle.tabled_text.specs.Longest.{IsLongestCut};
-ghost use Rattle.tabled_text.specs.Plain.{IsAdditive};
+ghost use Rattle.tabled_set.specs.Common.{FitsIn, IsAdditive, IsCut, IsExactLine, IsLongestCut};
+ghost use Rattle.tabled_set.specs.Truncated.{HasLongestLines, IsAdditiveLimit, IsTruncated, SuffixLimit};
 ghost use Rattle.tabled_text.specs.Room.{StaysWithin};
 
 /// States what holds for a truncated text:

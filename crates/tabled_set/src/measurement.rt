@@ -3,16 +3,11 @@
 ghost use Rattle.std.specs.Prelude.{◌≡◌, ℕ, ◌+◌, ◌<◌, ◌≤◌, ◌^◌, IfErr, IfOk, List, MatchOption, OnOk, [], false, length, map};
 ghost use Rattle.std.specs.Iterator.{IsFiniteIterable};
 ghost use Rattle.std.specs.List.{range_with_len};
-ghost use Rattle.tabled_base.specs.Cells.{IsInside, cell_at};
+ghost use Rattle.tabled_set.specs.Common.{cell_at, estimated, IsInside, Memory, Range, SpannedConfig};
 ghost use Rattle.tabled_base.specs.Given.{Given};
-ghost use Rattle.tabled_base.specs.declared.error.TableError.TheVariants.{Memory, Range};
-ghost use Rattle.tabled_config.specs.declared.spanned.SpannedConfig.{SpannedConfig};
 ghost use Rattle.tabled_set.specs.Extremes.{extent_of, min_of, picked, picked_in_row, picked_of_rows, HasNoPercent, percent_of, total_of};
-ghost use Rattle.tabled_set.specs.declared.measurement.Pick.TheVariants.{Greatest};
-ghost use Rattle.tabled_set.specs.declared.measurement.TextMeasure.{TextMeasure};
-ghost use Rattle.tabled_set.specs.declared.measurement.TextMeasure.TheVariants.{Columns, Lines};
-ghost use Rattle.tabled_set.specs.declared.suffix.SuffixLimit.TheVariants.{Cut};
-ghost use Rattle.tabled_size.specs.Sheet.{estimated};
+ghost use Rattle.tabled_set.specs.Extremes.{Greatest, TextMeasure, Columns, Lines};
+ghost use Rattle.tabled_set.specs.Truncated.{Cut};
 
 use crate::heights::{CellHeightIncrease, CellHeightLimit};
 use crate::justify::Justify;

@@ -1,13 +1,10 @@
 //! The option `MinWidth`, which widens cells and tables.
 ghost use Rattle.std.specs.Prelude.{◌≡◌, ◌⊎◌, IfErr, None, OnOk, false};
-ghost use Rattle.tabled_base.specs.declared.error.TableError.TheVariants.{Memory, Range};
-ghost use Rattle.tabled_set.specs.CellChanges.{never_in_place};
+ghost use Rattle.tabled_set.specs.Common.{effective, is_empty, Memory, Range};
+ghost use Rattle.tabled_set.specs.CellChanges.{never_in_place, Narrower};
 ghost use Rattle.tabled_set.specs.Increased.{IncreasesWidth, StopsIncreasing, WidthOutOfRange};
 ghost use Rattle.tabled_set.specs.Promised.{AfterClearing, WidensAsPromised};
 ghost use Rattle.tabled_set.specs.TextLines.{filling};
-ghost use Rattle.tabled_set.specs.declared.changing.CellFilter.TheVariants.{Narrower};
-ghost use Rattle.tabled_size.specs.Effective.{effective};
-ghost use Rattle.tabled_size.specs.Sheet.{is_empty};
 
 use crate::changing::{Beginning, CellFilter, TextTransform};
 use crate::measurement::{Measurement, Width};

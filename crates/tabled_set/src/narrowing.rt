@@ -1,16 +1,9 @@
 //! Narrows a table to a total width, and changes its cells to fit.
 ghost use Rattle.std.specs.Prelude.{◌≡◌, ◌⊎◌, IfErr, IfOk, ◌<◌, ◌≤◌, MatchOption, OnErr, Some, false, is_some, true, None, if◌then◌else◌, ◌-◌, OnOk};
-ghost use Rattle.tabled_base.specs.Cells.{IsRectangular};
-ghost use Rattle.tabled_base.specs.declared.error.TableError.TheVariants.{Memory, Range};
-ghost use Rattle.tabled_priority.specs.Permitted.{at};
-ghost use Rattle.tabled_set.specs.CellChanges.{if_taken};
+ghost use Rattle.tabled_set.specs.Common.{at, effective, filled_width, is_empty, IsRectangular, Memory, Range, total_width, widths_of};
+ghost use Rattle.tabled_set.specs.CellChanges.{if_taken, ByColumn};
 ghost use Rattle.tabled_set.specs.Narrowed.{is_permitted, WiderOutOfRange, Narrows, NarrowingOutOfRange, StopsNarrowing, IsFound};
 ghost use Rattle.tabled_set.specs.Minimums.{emptied, side_padding};
-ghost use Rattle.tabled_set.specs.declared.walk.WalkOrder.TheVariants.{ByColumn};
-ghost use Rattle.tabled_size.specs.Effective.{effective};
-ghost use Rattle.tabled_size.specs.Sheet.{is_empty};
-ghost use Rattle.tabled_size.specs.Stored.{widths_of};
-ghost use Rattle.tabled_size.specs.Totals.{filled_width, total_width};
 
 use crate::changing::{CellFilter, Change, ContentSizes, TextTransform};
 use crate::measurement::{Measurement, Width};

@@ -4,12 +4,10 @@ ghost use Rattle.std.specs.Iterator.{IsFiniteIterable};
 ghost use Rattle.std.specs.List.{slice_index};
 ghost use Rattle.std.specs.Prelude.{◌≡◌, ◌+◌, ◌<◌, ◌≤◌, ◌^◌, IfErr, IfOk, length, sum, take, MatchOption, None, Some};
 ghost use Rattle.tabled_base.specs.Given.{Given};
-ghost use Rattle.tabled_base.specs.declared.error.TableError.TheVariants.{Memory};
-ghost use Rattle.tabled_priority.specs.Permitted.{FitsMinimums};
+ghost use Rattle.tabled_set.specs.Common.{filled_height, filled_width, FitsMinimums, Memory};
 ghost use Rattle.tabled_set.specs.Increased.{IsGrownBy};
 ghost use Rattle.tabled_set.specs.Lists.{StoresSizes};
 ghost use Rattle.tabled_set.specs.Narrowed.{IsShrunkBy};
-ghost use Rattle.tabled_size.specs.Totals.{filled_height, filled_width};
 
 use crate::measurement::{Direction, Height, TextMeasure, Width};
 use std::alloc::Global;

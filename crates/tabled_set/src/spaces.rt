@@ -1,6 +1,6 @@
 //! The options `Margin` and `Padding`, the space around a table and around the text of a cell.
 ghost use Rattle.std.specs.Prelude.{◌≡◌, if◌then◌else◌};
-ghost use Rattle.tabled_base.specs.declared.error.TableError.TheVariants.{Memory};
+ghost use Rattle.tabled_set.specs.Common.{Memory};
 ghost use Rattle.tabled_config.specs.Options.{Becomes, colored};
 ghost use Rattle.tabled_entity.specs.ChangeIndex.{IsPart};
 ghost use Rattle.tabled_entity.specs.Changes.{for_all, with_change};

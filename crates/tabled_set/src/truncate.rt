@@ -1,17 +1,12 @@
 //! The option `Truncate`, which truncates cells and narrows tables.
 ghost use Rattle.std.specs.Cow.{cow_str_bytes, IsOwnedStr};
 ghost use Rattle.std.specs.Prelude.{◌≡◌, ◌≢◌, [], IfNone, IfOk, IfSome, OnOk, false, string_bytes, IfErr, None, OnErr};
-ghost use Rattle.tabled_base.specs.declared.error.TableError.TheVariants.{Memory};
-ghost use Rattle.tabled_set.specs.CellChanges.{truncating, if_wider};
+ghost use Rattle.tabled_set.specs.Common.{effective, is_empty, IsCut, Memory, NeedsFill};
+ghost use Rattle.tabled_set.specs.CellChanges.{truncating, if_wider, Wider};
 ghost use Rattle.tabled_set.specs.InPlace.{IsLeftAt, truncating_in_place};
 ghost use Rattle.tabled_set.specs.Narrowed.{Narrows, NarrowingOutOfRange, StopsNarrowing};
 ghost use Rattle.tabled_set.specs.Promised.{AfterClearing, TruncatesAsPromised};
-ghost use Rattle.tabled_set.specs.Truncated.{AddsEnded, HasEndedLines, IsTruncated};
-ghost use Rattle.tabled_set.specs.declared.changing.CellFilter.TheVariants.{Wider};
-ghost use Rattle.tabled_set.specs.declared.suffix.SuffixLimit.TheVariants.{Cut};
-ghost use Rattle.tabled_size.specs.Effective.{effective};
-ghost use Rattle.tabled_size.specs.Sheet.{is_empty};
-ghost use Rattle.tabled_text.specs.Cut.{NeedsFill, IsCut};
+ghost use Rattle.tabled_set.specs.Truncated.{AddsEnded, HasEndedLines, IsTruncated, Cut};
 
 use crate::changing::{Beginning, CellFilter, TextTransform};
 use crate::measurement::{Measurement, Width};

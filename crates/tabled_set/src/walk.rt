@@ -1,11 +1,8 @@
 //! Changes the cells of an entity, one after another.
 ghost use Rattle.std.specs.Prelude.{◌≡◌, ◌≤◌, ◌<◌, ◌==◌, ◌&&◌, ℕ, IfErr, OnErr, OnOk, length, true};
-ghost use Rattle.tabled_base.specs.Cells.{IsInside, columns};
-ghost use Rattle.tabled_base.specs.declared.error.TableError.TheVariants.{Memory};
-ghost use Rattle.tabled_entity.specs.Changes.{covers};
-ghost use Rattle.tabled_set.specs.CellChanges.{line_of, place_of, AreChanged, AreChangedBefore};
+ghost use Rattle.tabled_set.specs.Common.{columns, covers, IsInside, Memory};
+ghost use Rattle.tabled_set.specs.CellChanges.{line_of, place_of, AreChanged, AreChangedBefore, ByRow};
 ghost use Rattle.tabled_set.specs.Walking.{AreCutInPlace, is_within, leaves, lines_in, needs, on_line, places_in};
-ghost use Rattle.tabled_set.specs.declared.walk.WalkOrder.TheVariants.{ByRow};
 
 use crate::changing::{Change, ContentSizes, TextTransform};
 use tabled_base::{Entity, ExactRecords, Position, RecordsMut, TableError};

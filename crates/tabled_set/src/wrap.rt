@@ -1,13 +1,9 @@
 //! The option `Wrap`, which wraps cells and narrows tables.
 ghost use Rattle.std.specs.Prelude.{◌≡◌, ◌<◌, IfErr, IfOk, OnErr, Some, false, length, string_bytes};
-ghost use Rattle.tabled_base.specs.declared.error.TableError.TheVariants.{Memory};
-ghost use Rattle.tabled_base.specs.declared.position.Entity.TheVariants.{Row};
-ghost use Rattle.tabled_set.specs.CellChanges.{never_in_place, wrapping};
+ghost use Rattle.tabled_set.specs.Common.{effective, is_empty, Memory, Row};
+ghost use Rattle.tabled_set.specs.CellChanges.{never_in_place, wrapping, Every, Wider};
 ghost use Rattle.tabled_set.specs.Narrowed.{Narrows, NarrowingOutOfRange, StopsNarrowing};
 ghost use Rattle.tabled_set.specs.Promised.{AfterClearing, WrapsAsPromised};
-ghost use Rattle.tabled_set.specs.declared.changing.CellFilter.TheVariants.{Every, Wider};
-ghost use Rattle.tabled_size.specs.Effective.{effective};
-ghost use Rattle.tabled_size.specs.Sheet.{is_empty};
 ghost use Rattle.tabled_text.specs.Breaking.{EachUnitFits, HasFewestLines, IsLeastBreaking};
 ghost use Rattle.tabled_text.specs.Wrapping.{IsWrapped};
 

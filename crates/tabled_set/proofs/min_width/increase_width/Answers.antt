@@ -1,11 +1,7 @@
 use Rattle.std.proofs.Common.{◌≡◌, ◌∙◌, ◌-◌, ℕ, arith, false, inl, inr, refl, rules, subst}
 use Rattle.std.proofs.lemmas.Result.{err_from_is_err_and}
-use Rattle.tabled_base.specs.declared.error.TableError.TheVariants.{Memory, Range}
+use Rattle.tabled_set.specs.Common.{effective, is_empty, is_stored, Memory, Range, total_width}
 use Rattle.tabled_set.specs.Increased.{IsGrownBy, StopsIncreasing}
-use Rattle.tabled_size.specs.Effective.{effective}
-use Rattle.tabled_size.specs.Sheet.{is_empty}
-use Rattle.tabled_size.specs.Stored.{is_stored}
-use Rattle.tabled_size.specs.Totals.{total_width}
 use Rattle.tabled_set.proofs.GrowingTables.{content_size-for, total-here, wide-already, widened, widths-pass, widths-within}
 use Rattle.tabled_set.proofs.NarrowingTables.{fails-lacking, if-err}
 use Rattle.tabled_set.proofs.Stopping.{stops-measuring}

@@ -1,16 +1,13 @@
 use Rattle.std.proofs.Common.{◌≡◌, ℕ, ◌≤◌, ◌<◌, ◌⊎◌, ◌∙◌, IfErr, List, MatchOption, None, Option, Some, false, inl, refl, rules, subst}
 use Rattle.std.proofs.lemmas.Result.{err_from_is_err_and}
-use Rattle.tabled_base.specs.declared.error.TableError.TheVariants.{Memory, Range}
-use Rattle.tabled_size.specs.Effective.{effective}
-use Rattle.tabled_size.specs.Sheet.{Sheet, is_empty}
-use Rattle.tabled_size.specs.Stored.{is_stored}
-use Rattle.tabled_size.specs.Totals.{total_width}
+use Rattle.tabled_set.specs.Common.{effective, is_empty, is_stored, Memory, Range, Sheet, total_width}
 use Rattle.tabled_set.specs.CellChanges.{if_taken}
 use Rattle.tabled_set.specs.Narrowed.{NarrowingOutOfRange, StopsNarrowing, IsFound}
 use Rattle.tabled_set.specs.declared.narrowing.ColumnWidths.{ColumnWidths}
 use Rattle.tabled_set.proofs.ChangingColumns.{widths-before, widths-made}
 use Rattle.tabled_set.proofs.NarrowingTables.{fails-lacking, if-err, narrows-none, narrows-some, passes-before, stops-some, stops-wider}
 use Rattle.tabled_set.proofs.Stopping.{stops-measuring}
+use Rattle.tabled_set.specs.Priorities.{Shrinks}
 use Rattle.tabled_set.proofs.narrowing.narrow_table.Goals as goal
 
 pub returns-in_err-n-clause-err : goal.returns-in_err-n-clause-err
@@ -81,7 +78,7 @@ returns-in_default-clause-ok g c =
     (subst (λ (o : Option ColumnWidths). MatchOption o (total_width t ≤ c.in_ok-n.n) (λ found. IsFound g.P.Peaker.shrinks by.priority c.in_ok-n.n t found.widths.items found.mins.items)) none c.in_ok-found.ensures.ok))
 
 -- the widths that are found, for the measured total
-found-widths : {P : Type 0} (shrinks : P → List ℕ → List ℕ → ℕ → List ℕ → P → Type 0) (priority : P) (n k : ℕ) (t : Sheet) (o : Option ColumnWidths) (found : ColumnWidths)
+found-widths : {P : Type 0} (shrinks : Shrinks P) (priority : P) (n k : ℕ) (t : Sheet) (o : Option ColumnWidths) (found : ColumnWidths)
     → k ≡ n → o ≡ Some found → MatchOption o (total_width t ≤ k) (λ w. IsFound shrinks priority k t w.widths.items w.mins.items)
     → IsFound shrinks priority n t found.widths.items found.mins.items
 found-widths shrinks priority n k t o found e is h =

@@ -1,6 +1,6 @@
 use Rattle.std.proofs.Common.{◌≡◌, ◌+◌}
 use Rattle.tabled_text.specs.Lines.{lines_left}
-use Rattle.tabled_text.specs.Measure.{lines_of}
+use Rattle.tabled_set.specs.Common.{lines_of}
 use Rattle.tabled_set.proofs.Endings.{taken}
 use Rattle.tabled_set.proofs.suffix.columns_beside.Given as goal
 

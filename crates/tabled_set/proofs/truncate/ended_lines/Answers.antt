@@ -5,8 +5,8 @@ use Rattle.std.specs.List.{AllZip}
 use Rattle.tabled_text.specs.Lines.{lines_left}
 use Rattle.tabled_set.specs.Truncated.{HasEndedLines, IsEnded}
 use Rattle.tabled_set.proofs.JoinedLines.{appended, appended-all, appended-more}
-use Rattle.tabled_set.proofs.truncate.ended_lines.Goals as goal
 use Rattle.tabled_set.proofs.truncate.ended_lines.Goals.{then-begun+in_ok-push, else-begun}
+use Rattle.tabled_set.proofs.truncate.ended_lines.Goals as goal
 
 pub loop-line-init : goal.loop-line-init
 loop-line-init c = λ rest h.

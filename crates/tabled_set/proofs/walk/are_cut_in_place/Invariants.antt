@@ -1,8 +1,7 @@
 use Rattle.std.proofs.Common.{◌&&◌}
-use Rattle.tabled_entity.specs.Changes.{covers}
-use Rattle.tabled_set.specs.CellChanges.{precedes}
+use Rattle.tabled_set.specs.Common.{covers}
+use Rattle.tabled_set.specs.CellChanges.{precedes, ByRow}
 use Rattle.tabled_set.specs.Walking.{AreCutInPlace}
-use Rattle.tabled_set.specs.declared.walk.WalkOrder.TheVariants.{ByRow}
 use Rattle.tabled_set.proofs.walk.are_cut_in_place.Given as goal
 
 abbrev pub invariant-rows : goal.invariant-rows

@@ -1,6 +1,6 @@
 use Rattle.std.proofs.Common.{arith}
 use Rattle.std.proofs.lemmas.Result.{err_from_is_err_and}
-use Rattle.tabled_entity.specs.Changes.{covers}
+use Rattle.tabled_set.specs.Common.{covers}
 use Rattle.tabled_set.proofs.ChangingCells.{AreChanged-both}
 use Rattle.tabled_set.proofs.WalkLemmas.{lines-more, stops-later}
 use Rattle.tabled_set.proofs.walk.walk_cells.Goals as goal

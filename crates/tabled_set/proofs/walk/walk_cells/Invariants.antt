@@ -1,5 +1,5 @@
 use Rattle.std.proofs.Common.{◌&&◌}
-use Rattle.tabled_entity.specs.Changes.{covers}
+use Rattle.tabled_set.specs.Common.{covers}
 use Rattle.tabled_set.specs.CellChanges.{AreChanged, precedes}
 use Rattle.tabled_set.specs.Walking.{leaves}
 use Rattle.tabled_set.proofs.walk.walk_cells.Given as goal

@@ -4,8 +4,8 @@ use Rattle.std.proofs.lemmas.Str.{encode_ascii}
 use Rattle.std.specs.List.{join_with_byte}
 use Rattle.tabled_text.specs.Lines.{lines_left}
 use Rattle.tabled_set.proofs.JoinedLines.{appended, appended-all, appended-more}
-use Rattle.tabled_set.proofs.heights.LimitingTextTransform.apply.Goals as goal
 use Rattle.tabled_set.proofs.heights.LimitingTextTransform.apply.Goals.{then-left-content_size+in_ok-push, else-left-content_size}
+use Rattle.tabled_set.proofs.heights.LimitingTextTransform.apply.Goals as goal
 
 pub loop-line-init : goal.loop-line-init
 loop-line-init c =

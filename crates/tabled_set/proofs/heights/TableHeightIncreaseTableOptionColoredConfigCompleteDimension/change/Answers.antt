@@ -1,8 +1,5 @@
 use Rattle.std.proofs.Common.{◌≡◌, ℕ, ◌+◌, ◌-◌, ◌<◌, ◌∙◌, List, ap, arith, false, rules, subst, sum, sym}
-use Rattle.tabled_config.specs.declared.spanned.SpannedConfig.{SpannedConfig}
-use Rattle.tabled_size.specs.Estimates.{estimated_heights}
-use Rattle.tabled_size.specs.Sheet.{estimated, is_empty}
-use Rattle.tabled_size.specs.Totals.{total_height}
+use Rattle.tabled_set.specs.Common.{estimated, estimated_heights, is_empty, SpannedConfig, total_height}
 use Rattle.tabled_set.proofs.GrowingTables.{heights-fit}
 use Rattle.tabled_set.proofs.PromisedSizes.{heightened, heightens}
 use Rattle.tabled_set.proofs.heights.TableHeightIncreaseTableOptionColoredConfigCompleteDimension.change.Goals as goal

@@ -1,6 +1,5 @@
 use Rattle.std.proofs.Common.{◌≡◌, ◌∙◌, ap, arith, false, rules}
-use Rattle.tabled_config.specs.declared.spanned.SpannedConfig.{SpannedConfig}
-use Rattle.tabled_size.specs.Sheet.{is_empty}
+use Rattle.tabled_set.specs.Common.{is_empty, SpannedConfig}
 use Rattle.tabled_set.proofs.PromisedSizes.{limits, lowered}
 use Rattle.tabled_set.proofs.heights.TableHeightLimitTableOptionColoredConfigCompleteDimension.change.Goals as goal
 

@@ -1,9 +1,7 @@
 use Rattle.std.proofs.Common.{◌≡◌, IfErr, false, refl, rules, subst}
 use Rattle.std.proofs.lemmas.Result.{on_ok_weaker}
-use Rattle.tabled_base.specs.declared.error.TableError.{TableError}
-use Rattle.tabled_config.specs.declared.spanned.SpannedConfig.{SpannedConfig}
+use Rattle.tabled_set.specs.Common.{is_empty, SpannedConfig, TableError}
 use Rattle.tabled_set.specs.Increased.{IncreasesWidth, StopsIncreasing}
-use Rattle.tabled_size.specs.Sheet.{is_empty}
 use Rattle.tabled_set.proofs.PromisedSizes.{widens}
 use Rattle.tabled_set.proofs.Stopping.{stops-filled}
 use Rattle.tabled_set.proofs.min_width.MinWidthTableOptionColoredConfigCompleteDimension.change.Goals as goal

@@ -1,9 +1,6 @@
 use Rattle.std.proofs.Common.{◌≡◌, ℕ, IfErr, refl, subst}
-use Rattle.tabled_base.specs.declared.error.TableError.{TableError}
-use Rattle.tabled_config.specs.declared.spanned.SpannedConfig.{SpannedConfig}
-use Rattle.tabled_entity.specs.Changes.{covers}
-use Rattle.tabled_set.specs.CellChanges.{NeedsMemory, StopsEntity, if_taken}
-use Rattle.tabled_set.specs.declared.walk.WalkOrder.TheVariants.{ByRow}
+use Rattle.tabled_set.specs.Common.{covers, SpannedConfig, TableError}
+use Rattle.tabled_set.specs.CellChanges.{NeedsMemory, StopsEntity, if_taken, ByRow}
 use Rattle.tabled_set.proofs.Stopping.{stops-before, stops-with}
 use Rattle.tabled_set.proofs.resize.ResizeCellOptionColoredConfig.change.Goals as goal
 

@@ -1,12 +1,9 @@
 use Rattle.std.proofs.Common.{◌≡◌, IfErr, false, refl, rules, subst}
 use Rattle.std.proofs.lemmas.Result.{on_ok_weaker}
-use Rattle.tabled_base.specs.declared.error.TableError.{TableError}
-use Rattle.tabled_config.specs.declared.spanned.SpannedConfig.{SpannedConfig}
-use Rattle.tabled_set.specs.CellChanges.{if_wider, truncating}
+use Rattle.tabled_set.specs.Common.{is_empty, SpannedConfig, TableError}
+use Rattle.tabled_set.specs.CellChanges.{if_wider, truncating, Wider}
 use Rattle.tabled_set.specs.InPlace.{truncating_in_place}
 use Rattle.tabled_set.specs.Narrowed.{Narrows, StopsNarrowing}
-use Rattle.tabled_set.specs.declared.changing.CellFilter.TheVariants.{Wider}
-use Rattle.tabled_size.specs.Sheet.{is_empty}
 use Rattle.tabled_set.proofs.Promises.{truncates}
 use Rattle.tabled_set.proofs.Stopping.{stops-filled}
 use Rattle.tabled_set.proofs.truncate.TruncateTableOptionColoredConfigCompleteDimension.change.Goals as goal

@@ -4,12 +4,12 @@ use Rattle.std.proofs.lemmas.Bool.{MatchBool-at_false}
 use Rattle.std.proofs.lemmas.List.Splits.{length-slice_split}
 use Rattle.std.proofs.lemmas.Str.{IsCharBoundary-start}
 use Rattle.std.specs.Str.{IsCharBoundary, IsUtf8}
-use Rattle.tabled_text.specs.Measure.{lines_of}
+use Rattle.tabled_set.specs.Common.{lines_of}
 use Rattle.tabled_text.proofs.Bridge.{lines_of-one}
 use Rattle.tabled_set.specs.InPlace.{IsCutAt, IsLeftAt}
 use Rattle.tabled_set.proofs.Beginnings.{in_place-fits, truncated-in_place}
-use Rattle.tabled_set.proofs.truncate.TruncatingTextTransform.beginning.Goals as goal
 use Rattle.tabled_set.proofs.truncate.TruncatingTextTransform.beginning.Goals.{else-self-via-then-self+else-count_lines-gt1, else-self-via-else-self}
+use Rattle.tabled_set.proofs.truncate.TruncatingTextTransform.beginning.Goals as goal
 
 only_line : (text : List ℕ) → length (lines_of text) ≤ 1 → lines_of text ≡ text ∷ []
 only_line text few = let some = length-slice_split (λ c. c == 10) text in lines_of-one text (omega (arith, some))
