@@ -17,7 +17,8 @@ pub use Rattle.tabled_size.specs.PlainCells.{AreAdditive}
 pub use Rattle.tabled_size.specs.Sheet.{Sheet, estimated, is_empty}
 pub use Rattle.tabled_size.specs.Stored.{heights_of, is_stored, widths_of}
 pub use Rattle.tabled_size.specs.TextCells.{AreTexts}
-pub use Rattle.tabled_size.specs.Totals.{filled_height, filled_width, total_height, total_width}
+pub use Rattle.tabled_size.specs.Totals.{total_height, total_width}
+unfoldable pub use Rattle.tabled_size.specs.Totals.{filled_height, filled_width}
 pub use Rattle.tabled_size.specs.declared.complete_dimension.CompleteDimension.{CompleteDimension}
 pub use Rattle.tabled_text.specs.Cut.{IsCut, NeedsFill}
 pub use Rattle.tabled_text.specs.Exact.{IsExactLine}

@@ -28,13 +28,7 @@ pub enum CellFilter {
 }
 
 impl CellFilter {
-    /// Whether a cell passes the filter.
-    pub(crate) fn takes<R: PeekableRecords>(
-        self,
-        records: &R,
-        at: Position,
-        content_size: usize,
-    ) -> bool
+    fn takes<R: PeekableRecords>(self, records: &R, at: Position, content_size: usize) -> bool
         requires { IsInside (R.cells records.now) at.row at.column }
         ensures { result
             ≡ is_taken self content_size (cell_at (R.cells records.now) at.row at.column) }
@@ -81,7 +75,7 @@ pub trait TextTransform {
     /// The direction that its option measures: `Width` or `Height`.
     type Direction;
 
-    ghost FILTER: { CellFilter };
+    ghost cell_filter: { CellFilter };
 
     // Holds for the transform of a new option. By default there is only one.
     ghost is_new: { Self → Type 0 } = { λ _. Unit {0} };
@@ -93,8 +87,9 @@ pub trait TextTransform {
     // none is.
     ghost shortens: { Self → ℕ → List ℕ → Type 0 } = { λ _ _ _. ⊥ };
 
-    /// The cells that have too few columns or lines, or too many.
-    const FILTER: CellFilter;
+    /// Returns the filter for cells that have too few columns or lines, or too many.
+    fn filter() -> CellFilter
+        ensures { result ≡ cell_filter };
 
     /// Returns the transform of a new option.
     fn new() -> Self
@@ -144,9 +139,7 @@ impl<'a, T: TextTransform, M: ContentSizes> Change<'a, T, M> {
         }
     }
 
-    /// Changes a cell if it has a content size and passes the filter. No other cell changes, and on
-    /// an error none does. Fails only with `Memory`, and only if the cell changes and can't be cut
-    /// in place.
+    /// Changes a cell if it has a content size and passes the filter.
     pub(crate) fn change_cell<R: RecordsMut>(
         &self,
         records: &mut R,

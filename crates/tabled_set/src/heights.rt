@@ -8,9 +8,7 @@ ghost use Rattle.tabled_set.specs.Promised.{AfterClearing, HeightensAsPromised, 
 ghost use Rattle.tabled_set.specs.TextLines.{lengthening, limiting};
 ghost use Rattle.tabled_set.specs.CellChanges.{Higher, Lower};
 
-use crate::changing::{
-    Beginning, CellFilter, Change, ContentSizes, TextTransform,
-};
+use crate::changing::{Beginning, CellFilter, Change, ContentSizes, TextTransform};
 use crate::measurement::{Height, Measurement};
 use crate::resize::Resize;
 use crate::sizes::{grown, padded_height, shrunk};
@@ -35,11 +33,13 @@ pub struct Lengthening;
 impl TextTransform for Lengthening {
     type Direction = Height;
 
-    ghost FILTER = { Lower };
+    ghost cell_filter = { Lower };
 
     ghost makes = { λ s. lengthening };
 
-    const FILTER: CellFilter = CellFilter::Lower;
+    fn filter() -> CellFilter {
+        CellFilter::Lower
+    }
 
     fn new() -> Lengthening {
         Lengthening
@@ -90,7 +90,6 @@ impl<W: Measurement<Height> + Drop, P: Peaker + Drop, R: PeekableRecords> TableO
         (W.measures s.size (R.cells r) c.config) (R.cells r) c.config d d'
         × ((r' ≡ r) × (c' ≡ c)) };
 
-    // Only a table with cells fails. Nothing has changed then.
     ghost refuses = { λ s e r c d r' c' d'. (is_empty (R.cells r) ≡ false)
         × ((r' ≡ r) × ((c' ≡ c) × (d' ≡ d))) };
 
@@ -145,11 +144,13 @@ pub struct Limiting;
 impl TextTransform for Limiting {
     type Direction = Height;
 
-    ghost FILTER = { Higher };
+    ghost cell_filter = { Higher };
 
     ghost makes = { λ s. limiting };
 
-    const FILTER: CellFilter = CellFilter::Higher;
+    fn filter() -> CellFilter {
+        CellFilter::Higher
+    }
 
     fn new() -> Limiting {
         Limiting
@@ -203,7 +204,6 @@ impl<W: Measurement<Height> + Drop, P: Peaker + Drop, R: RecordsMut> TableOption
         (W.measures s.size (R.cells r) c.config) (R.cells r) c.config d (R.cells r') d'
         × (c' ≡ c) };
 
-    // Only a table with cells fails. Its sizes are then unchanged.
     ghost refuses = { λ s e r c d r' c' d'. (is_empty (R.cells r) ≡ false)
         × StopsLimiting P.shrinks s.priority
         (W.measures s.size (R.cells r) c.config) e (R.cells r) c.config (R.cells r')
@@ -237,7 +237,7 @@ impl<W: Measurement<Height> + Drop, P: Peaker + Drop, R: RecordsMut> TableOption
         let lower = shrunk(alloc, self.priority, &heights, &[], total - n)?;
         let change = Change {
             transform: &self.transform,
-            cell_filter: Limiting::FILTER,
+            cell_filter: CellFilter::Higher,
             content_sizes: &RowContentHeights { heights: &lower },
         };
         change_cells(&change, records, WalkOrder::ByRow, Entity::Global)?;

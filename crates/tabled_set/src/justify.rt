@@ -39,11 +39,13 @@ pub struct Justifying;
 impl TextTransform for Justifying {
     type Direction = Width;
 
-    ghost FILTER = { NotAsWide };
+    ghost cell_filter = { NotAsWide };
 
     ghost makes = { λ s. IsJustified };
 
-    const FILTER: CellFilter = CellFilter::NotAsWide;
+    fn filter() -> CellFilter {
+        CellFilter::NotAsWide
+    }
 
     fn new() -> Justifying {
         Justifying

@@ -47,6 +47,16 @@ impl TextMeasure {
             TextMeasure::Lines => records.count_lines(at),
         }
     }
+
+    fn total<R: PeekableRecords>(self, records: &R, cfg: &SpannedConfig) -> Option<usize>
+        ensures { let whole = total_of self (estimated (R.cells records.now) cfg.now) in
+            MatchOption result (2 ^ 64 ≤ whole) (λ n. n ≡ whole) }
+    {
+        match self {
+            TextMeasure::Columns => estimated_total_width(records, cfg),
+            TextMeasure::Lines => estimated_total_height(records, cfg),
+        }
+    }
 }
 
 /// `Width` or `Height`.
@@ -175,8 +185,7 @@ impl<A: Direction> Measurement<A> for Max {
         records: &R,
         _: &SpannedConfig,
     ) -> Result<usize, TableError> {
-        let most = Pick::Greatest;
-        Ok(picked_of_rows(most, most, A::COUNTED, records))
+        Ok(picked_of_rows(Pick::Greatest, Pick::Greatest, A::COUNTED, records))
     }
 }
 
@@ -202,21 +211,6 @@ impl<A: Direction> Measurement<A> for Min {
 #[derive(Debug, Drop)]
 pub struct Percent(pub usize);
 
-/// Returns the estimated total width or height of a table, or `None` if it overflows `usize`.
-fn estimated_total<R: PeekableRecords>(
-    counted: TextMeasure,
-    records: &R,
-    cfg: &SpannedConfig,
-) -> Option<usize>
-    ensures { let whole = total_of counted (estimated (R.cells records.now) cfg.now) in
-        MatchOption result (2 ^ 64 ≤ whole) (λ n. n ≡ whole) }
-{
-    match counted {
-        TextMeasure::Columns => estimated_total_width(records, cfg),
-        TextMeasure::Lines => estimated_total_height(records, cfg),
-    }
-}
-
 impl<A: Direction> Measurement<A> for Percent {
     ghost measures = { λ s cells config.
         percent_of s.0 (total_of A.COUNTED (estimated cells config)) };
@@ -229,7 +223,7 @@ impl<A: Direction> Measurement<A> for Percent {
         records: &R,
         cfg: &SpannedConfig,
     ) -> Result<usize, TableError> {
-        let total = estimated_total(A::COUNTED, records, cfg).ok_or(TableError::Range)?;
+        let total = A::COUNTED.total(records, cfg).ok_or(TableError::Range)?;
         let product = total.checked_mul(self.0).ok_or(TableError::Range)?;
         Ok(product / 100)
     }

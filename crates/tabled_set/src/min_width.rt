@@ -32,13 +32,15 @@ pub struct Filling {
 impl TextTransform for Filling {
     type Direction = Width;
 
-    ghost FILTER = { Narrower };
+    ghost cell_filter = { Narrower };
 
     ghost is_new = { λ s. s.fill ≡ 32 };
 
     ghost makes = { λ s. filling s.fill };
 
-    const FILTER: CellFilter = CellFilter::Narrower;
+    fn filter() -> CellFilter {
+        CellFilter::Narrower
+    }
 
     fn new() -> Filling {
         Filling { fill: ' ' }
@@ -76,9 +78,6 @@ impl<W, P> MinWidth<W, P> {
 
 /// Widens a table to a total of at least the measured width. Missing sizes are estimated first, and
 /// are stored even if an error follows.
-///
-/// Fails with `Memory` only if sizes are missing or the table is too narrow. Fails with `Range` if
-/// the measurement does, or if an estimate or the total overflows `usize`.
 fn increase_width<W: Measurement<Width> + Drop, P: Peaker + Drop, R: PeekableRecords>(
     option: MinWidth<W, P>,
     records: &R,
@@ -127,7 +126,6 @@ impl<W: Measurement<Width> + Drop, P: Peaker + Drop, R: PeekableRecords> TableOp
         (W.measures s.size (R.cells r) c.config) (R.cells r) c.config d d'
         × ((r' ≡ r) × (c' ≡ c)) };
 
-    // Only a table with cells fails. Its sizes are then unchanged, or the missing ones filled in.
     ghost refuses = { λ s e r c d r' c' d'. (is_empty (R.cells r) ≡ false)
         × StopsIncreasing (W.measures s.size (R.cells r) c.config) e (R.cells r) c.config d d'
         × ((r' ≡ r) × (c' ≡ c)) };

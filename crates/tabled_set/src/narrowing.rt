@@ -61,9 +61,7 @@ pub(crate) fn stored_widths(sizes: &CompleteDimension) -> &[usize]
 }
 
 /// Returns the widths to which the columns of a table shrink, with their minimums, or `None` if the
-/// total is at most n. The table has cells, and its widths are stored. Fails only if the table is
-/// wider than n: with `Memory`, or with `Range` if the total or the side padding of a cell
-/// overflows `usize`.
+/// total is at most n.
 fn narrowed_widths<P: Peaker + Drop, R: ExactRecords>(
     priority: P,
     records: &R,
@@ -129,10 +127,6 @@ impl<'a> ContentSizes for ColumnContentWidths<'a> {
 
 /// Narrows a table to a total of the measured width, and changes its cells, column by column from
 /// the top. Missing sizes are estimated first, and are stored even if an error follows.
-///
-/// Fails with `Memory` only if sizes are missing or the table is too wide. Fails with `Range` if
-/// the measurement does, if an estimate or the total overflows `usize`, or if the side padding of a
-/// cell does in a table that is too wide.
 pub(crate) fn narrow_table<
     T: TextTransform + Drop,
     W: Measurement<Width> + Drop,

@@ -53,15 +53,13 @@ impl<T, W, P: Drop> Resize<T, W, P> {
 /// Changes the entity's cells that pass the transform's filter. No other cell changes. Fails with
 /// `Range` if the measurement does, before any change, or with `Memory` at a cell that can't be cut
 /// in place. The cells before that, row by row, have changed.
-impl<T: TextTransform, W: Measurement<T::Direction>, P, R: RecordsMut> CellOption<
-    R,
-    ColoredConfig,
-> for Resize<T, W, P> {
-    ghost changes = { λ s r c e r' c'. ChangesEntity (if_taken T.FILTER (T.makes s.transform))
+impl<T: TextTransform, W: Measurement<T::Direction>, P, R: RecordsMut> CellOption<R, ColoredConfig>
+    for Resize<T, W, P> {
+    ghost changes = { λ s r c e r' c'. ChangesEntity (if_taken T.cell_filter (T.makes s.transform))
         (W.measures s.size (R.cells r) c.config) e (R.cells r) (R.cells r') × (c' ≡ c) };
 
     ghost refuses = { λ s f r c e r' c'.
-        StopsEntity T.FILTER (T.shortens s.transform) (T.makes s.transform)
+        StopsEntity T.cell_filter (T.shortens s.transform) (T.makes s.transform)
         (W.measures s.size (R.cells r) c.config) e f (R.cells r) (R.cells r') × (c' ≡ c) };
 
     ghost out_of_range = { λ s r c e. W.out_of_range s.size (R.cells r) c.config };
@@ -75,7 +73,7 @@ impl<T: TextTransform, W: Measurement<T::Direction>, P, R: RecordsMut> CellOptio
         let n = self.size.measure(records, cfg.as_ref())?;
         let change = Change {
             transform: &self.transform,
-            cell_filter: T::FILTER,
+            cell_filter: T::filter(),
             content_sizes: &n,
         };
         change_cells(&change, records, WalkOrder::ByRow, entity)

@@ -106,7 +106,7 @@ pub(crate) fn first_sizes(sizes: &[usize], count: usize) -> &[usize]
     sizes.split_at(count.min(sizes.len())).0
 }
 
-/// Returns a copy of the sizes, shrunk by the priority by an amount. Fails only with `Memory`.
+/// Returns a copy of the sizes, shrunk by the priority by an amount.
 pub(crate) fn shrunk<P: Peaker + Drop>(
     alloc: Global,
     priority: P,
@@ -126,7 +126,7 @@ pub(crate) fn shrunk<P: Peaker + Drop>(
     Ok(list)
 }
 
-/// Returns a copy of the sizes, grown by the priority by an amount. Fails only with `Memory`.
+/// Returns a copy of the sizes, grown by the priority by an amount.
 pub(crate) fn grown<P: Peaker + Drop>(
     alloc: Global,
     priority: P,

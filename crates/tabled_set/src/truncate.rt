@@ -35,7 +35,7 @@ pub struct Truncating<'a> {
 impl<'a> TextTransform for Truncating<'a> {
     type Direction = Width;
 
-    ghost FILTER = { Wider };
+    ghost cell_filter = { Wider };
 
     ghost is_new = { λ s. (s.suffix.now ≡ []) × (s.limit ≡ Cut) × (s.multiline ≡ false) };
 
@@ -43,9 +43,15 @@ impl<'a> TextTransform for Truncating<'a> {
 
     ghost shortens = { λ s. truncating_in_place s.suffix.now s.limit s.multiline };
 
-    const FILTER: CellFilter = CellFilter::Wider;
+    fn filter() -> CellFilter
+        ensures { result ≡ Wider }
+    {
+        CellFilter::Wider
+    }
 
-    fn new() -> Truncating<'a> {
+    fn new() -> Truncating<'a>
+        ensures { (result.suffix.now ≡ []) × (result.limit ≡ Cut) × (result.multiline ≡ false) }
+    {
         Truncating {
             suffix: "",
             limit: SuffixLimit::Cut,
@@ -155,13 +161,16 @@ impl<'a, W, P> Truncate<'a, W, P> {
     }
 
     /// Sets what happens to a suffix that is as wide as the content width, or wider.
-    pub fn suffix_limit(mut self, limit: SuffixLimit) -> Truncate<'a, W, P>
+    pub fn suffix_limit(self, limit: SuffixLimit) -> Truncate<'a, W, P>
         ensures { result ≡ record self.entry {
           transform = record self.entry.transform { limit = limit };
         } }
     {
-        self.transform.limit = limit;
-        self
+        let transform = Truncating {
+            limit,
+            ..self.transform
+        };
+        Resize { transform, ..self }
     }
 
     /// Sets whether each line of a text is truncated on its own. Each line then ends with the
@@ -230,7 +239,6 @@ impl<'a, W: Measurement<Width> + Drop, P: Peaker + Drop, R: RecordsMut> TableOpt
         (W.measures s.size (R.cells r) c.config) (R.cells r) c.config d (R.cells r') d'
         × (c' ≡ c) };
 
-    // Only a table with cells fails. Its sizes are then unchanged, or the missing ones filled in.
     ghost refuses = { λ s e r c d r' c' d'. let by = s.transform in (is_empty (R.cells r) ≡ false)
         × StopsNarrowing P.shrinks s.priority
         Wider (truncating_in_place by.suffix.now by.limit by.multiline)

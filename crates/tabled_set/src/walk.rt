@@ -58,8 +58,7 @@ impl Band {
     }
 }
 
-/// Returns the rows and columns of an entity's cells, in a table of `rows` rows and `columns`
-/// columns.
+/// Returns the rows and columns of an entity's cells.
 fn bands_of(entity: Entity, rows: usize, columns: usize) -> (Band, Band)
     ensures cells { (r c : ℕ) → r < rows → c < columns
         → covers entity r c ≡ (is_within result.0 r && is_within result.1 c) }
@@ -74,8 +73,7 @@ fn bands_of(entity: Entity, rows: usize, columns: usize) -> (Band, Band)
     }
 }
 
-/// Returns the lines of an entity's cells and their places in each. The order says whether a line
-/// is a row or a column.
+/// Returns the lines of an entity's cells and their places in each.
 fn lines_of_entity<R: ExactRecords>(entity: Entity, order: WalkOrder, records: &R) -> (Band, Band)
     ensures cells { (r c : ℕ) → IsInside (R.cells records.now) r c
         → covers entity r c
@@ -116,7 +114,6 @@ fn change_line<T: TextTransform, M: ContentSizes, R: RecordsMut>(
     Ok(())
 }
 
-/// Changes the entity's cells that have a content size and pass the filter, in the given order.
 fn walk_cells<T: TextTransform, M: ContentSizes, R: RecordsMut>(
     by: &Change<'_, T, M>,
     records: &mut R,

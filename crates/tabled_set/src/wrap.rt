@@ -31,13 +31,15 @@ pub struct Wrapping {
 impl TextTransform for Wrapping {
     type Direction = Width;
 
-    ghost FILTER = { Wider };
+    ghost cell_filter = { Wider };
 
     ghost is_new = { λ s. s.keep_words ≡ false };
 
     ghost makes = { λ s. wrapping s.keep_words };
 
-    const FILTER: CellFilter = CellFilter::Wider;
+    fn filter() -> CellFilter {
+        CellFilter::Wider
+    }
 
     fn new() -> Wrapping {
         Wrapping { keep_words: false }
@@ -103,7 +105,6 @@ impl<W: Measurement<Width> + Drop, P: Peaker + Drop, R: RecordsMut> TableOption<
         (W.measures s.size (R.cells r) c.config) (R.cells r) c.config d (R.cells r') d'
         × (c' ≡ c) };
 
-    // Only a table with cells fails. Its sizes are then unchanged, or the missing ones filled in.
     ghost refuses = { λ s e r c d r' c' d'. (is_empty (R.cells r) ≡ false)
         × StopsNarrowing P.shrinks s.priority
         Every never_in_place (wrapping s.transform.keep_words)
