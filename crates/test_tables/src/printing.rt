@@ -2,7 +2,7 @@
 
 use std::test::Fail;
 use tabled_base::TableError;
-use tabled_config::AlignmentHorizontal::{self, Center, Left, Right};
+use tabled_config::AlignmentHorizontal::{self, Center, Right};
 use test_table_uses::{Look, PAIRS, Sheet, formatted, put_with};
 
 // A width to print with, an alignment, and a fill.
@@ -68,20 +68,15 @@ const WIDER: Asked = (Some(16), Some(Center), '*');
 
 const ALIGNMENT_ALONE: Asked = (None, Some(Right), '*');
 
-const NOTHING: Asked = (None, None, '*');
-
-const PICTURES: [(Asked, &str); 11] = [
+const PICTURES: [(Asked, &str); 8] = [
     (WIDER, CENTERED),
     ((Some(13), Some(Center), '*'), NEARLY_CENTERED),
     ((Some(14), None, '.'), AT_THE_LEFT),
-    ((Some(14), Some(Left), '.'), AT_THE_LEFT),
     ((Some(14), Some(Right), '.'), AT_THE_RIGHT),
     ((Some(13), None, '\0'), BEHIND_A_SPACE),
     ((Some(10), None, '*'), PICTURE),
-    ((Some(12), Some(Left), '*'), PICTURE),
     ((Some(12), Some(Right), '*'), ALIGNED),
     (ALIGNMENT_ALONE, ALIGNED),
-    (NOTHING, PICTURE),
 ];
 
 #[test]
@@ -151,10 +146,9 @@ const REFUSED: [(Sheet, Result<(), TableError>); 4] = [
 #[test]
 fn nothing_is_printed_of_empty_and_refused_tables(rt: HostRuntime) -> Result<(), Fail> {
     for (given, want) in REFUSED {
-        for asked in [WIDER, ALIGNMENT_ALONE, NOTHING] {
+        for asked in [WIDER, ALIGNMENT_ALONE] {
             let (answer, text) = put_with(rt.alloc(), &given, &look(asked))?;
-            assert_eq!(rt; answer, want);
-            assert!(rt; text.as_str().is_empty());
+            assert!(rt; answer == want && text.as_str().is_empty());
         }
     }
     Ok(())

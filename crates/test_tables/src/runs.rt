@@ -168,37 +168,34 @@ fn words_make_plans(rt: HostRuntime) -> Result<(), Fail> {
     Ok(())
 }
 
-// The first lines of a table whose columns take 6, 7 and 6 columns, 23 in all with its lines, and 10 where its cells are empty.
-const FIRST_LINES: [(&str, &str); 25] = [
-    ("--wrap 15 --priority left", "+--+---+------+"),
-    ("--wrap 15 --priority max", "+----+----+---+"),
-    ("--wrap 15 --priority none", "+---+----+----+"),
-    ("--wrap 15", "+---+----+----+"),
-    ("--wrap 15 --priority min", "+--+-------+--+"),
-    ("--wrap 15 --priority right", "+------+---+--+"),
-    ("--words --wrap 15", "+---+----+----+"),
-    ("--priority max --wrap 15", "+----+----+---+"),
-    ("--wrap 15 --priority left --words", "+--+---+------+"),
-    ("--words --priority right --wrap 15", "+------+---+--+"),
-    ("--priority max --words --wrap 15", "+----+----+---+"),
-    ("--cut 15", "+---+----+----+"),
-    ("--cut 15 --priority none", "+---+----+----+"),
-    ("--priority min --cut 15", "+--+-------+--+"),
-    ("--cut 15 --priority max", "+----+----+---+"),
-    ("--priority left --cut 15", "+--+---+------+"),
-    ("--cut 15 --priority right", "+------+---+--+"),
-    ("--cut 0", "+--+--+--+"),
-    ("--wrap 0", "+--+--+--+"),
-    ("--cut 0015", "+---+----+----+"),
-    (
-        "--cut 0000000000000000000000000000000015",
-        "+---+----+----+",
-    ),
-    ("--cut 23", "+------+-------+------+"),
-    ("--cut 18446744073709551615", "+------+-------+------+"),
-    ("--wrap 18446744073709551615", "+------+-------+------+"),
-    ("--stream", "+------+-------+------+"),
-];
+// Arguments, and the first line of a table whose columns take 6, 7 and 6 columns, 23 in all with its lines, and 10 where its cells are empty.
+const FIRST_LINES: &str = picture! {
+    "--wrap 15 --priority left|+--+---+------+"
+    "--wrap 15 --priority max|+----+----+---+"
+    "--wrap 15 --priority none|+---+----+----+"
+    "--wrap 15|+---+----+----+"
+    "--wrap 15 --priority min|+--+-------+--+"
+    "--wrap 15 --priority right|+------+---+--+"
+    "--words --wrap 15|+---+----+----+"
+    "--priority max --wrap 15|+----+----+---+"
+    "--wrap 15 --priority left --words|+--+---+------+"
+    "--words --priority right --wrap 15|+------+---+--+"
+    "--priority max --words --wrap 15|+----+----+---+"
+    "--cut 15|+---+----+----+"
+    "--cut 15 --priority none|+---+----+----+"
+    "--priority min --cut 15|+--+-------+--+"
+    "--cut 15 --priority max|+----+----+---+"
+    "--priority left --cut 15|+--+---+------+"
+    "--cut 15 --priority right|+------+---+--+"
+    "--cut 0|+--+--+--+"
+    "--wrap 0|+--+--+--+"
+    "--cut 0015|+---+----+----+"
+    "--cut 0000000000000000000000000000000015|+---+----+----+"
+    "--cut 23|+------+-------+------+"
+    "--cut 18446744073709551615|+------+-------+------+"
+    "--wrap 18446744073709551615|+------+-------+------+"
+    "--stream|+------+-------+------+"
+};
 
 const GREETINGS: &str = "&str\t&str\ti32\n1\tHello\t100\n2\tWorld\t1000\n";
 
@@ -214,86 +211,87 @@ fn assert_top(rt: &impl Abort, alloc: Global, line: &str, wanted: &str) -> Resul
 
 #[test]
 fn words_in_any_order_make_their_plan(rt: HostRuntime) -> Result<(), Fail> {
-    for (line, want) in FIRST_LINES {
+    for case in FIRST_LINES.split('\n') {
+        let (line, want) = case.split_once('|').unwrap_or((case, ""));
         assert_top(&rt, rt.alloc(), line, want)?;
     }
     Ok(())
 }
 
 // Words that are unknown, have no value, or one that is no number and no order.
-const UNKNOWN_WORDS: [&str; 37] = [
-    "",
-    "9",
-    "wrap",
-    "--help",
-    "-wrap 9",
-    "--Wrap 9",
-    "--wra 9",
-    "--wraps 9",
-    "--wrap=9",
-    "--stream x",
-    "--wrap 9 9",
-    "--wrap 9  --words",
-    "--wrap",
-    "--cut",
-    "--priority",
-    "--words --wrap",
-    "--cut 9 --priority",
-    "--wrap x",
-    "--wrap ",
-    "--wrap --words",
-    "--wrap +1",
-    "--wrap -1",
-    "--wrap 1_0",
-    "--wrap 0x9",
-    "--wrap 9.",
-    "--cut 9x",
-    "--cut ９",
-    "--cut ٩",
-    "--cut 18446744073709551616",
-    "--wrap 99999999999999999999",
-    "--wrap 00018446744073709551616",
-    "--cut 9 --priority ",
-    "--cut 9 --priority Min",
-    "--cut 9 --priority minimum",
-    "--cut 9 --priority 9",
-    "--cut 9 --priority round",
-    "--priority --cut 9",
-];
+const UNKNOWN_WORDS: &str = picture! {
+    ""
+    "9"
+    "wrap"
+    "--help"
+    "-wrap 9"
+    "--Wrap 9"
+    "--wra 9"
+    "--wraps 9"
+    "--wrap=9"
+    "--stream x"
+    "--wrap 9 9"
+    "--wrap 9  --words"
+    "--wrap"
+    "--cut"
+    "--priority"
+    "--words --wrap"
+    "--cut 9 --priority"
+    "--wrap x"
+    "--wrap "
+    "--wrap --words"
+    "--wrap +1"
+    "--wrap -1"
+    "--wrap 1_0"
+    "--wrap 0x9"
+    "--wrap 9."
+    "--cut 9x"
+    "--cut ９"
+    "--cut ٩"
+    "--cut 18446744073709551616"
+    "--wrap 99999999999999999999"
+    "--wrap 00018446744073709551616"
+    "--cut 9 --priority "
+    "--cut 9 --priority Min"
+    "--cut 9 --priority minimum"
+    "--cut 9 --priority 9"
+    "--cut 9 --priority round"
+    "--priority --cut 9"
+};
 
 // Settings that stand twice.
-const REPEATED_WORDS: [&str; 10] = [
-    "--wrap 9 --wrap 9",
-    "--wrap 9 --wrap 8",
-    "--wrap 9 --words --wrap 9",
-    "--cut 9 --cut 9",
-    "--cut 9 --priority max --cut 8",
-    "--cut 9 --priority min --priority min",
-    "--priority min --cut 9 --priority none",
-    "--wrap 9 --words --words",
-    "--words --wrap 9 --words",
-    "--stream --stream",
-];
+const REPEATED_WORDS: &str = picture! {
+    "--wrap 9 --wrap 9"
+    "--wrap 9 --wrap 8"
+    "--wrap 9 --words --wrap 9"
+    "--cut 9 --cut 9"
+    "--cut 9 --priority max --cut 8"
+    "--cut 9 --priority min --priority min"
+    "--priority min --cut 9 --priority none"
+    "--wrap 9 --words --words"
+    "--words --wrap 9 --words"
+    "--stream --stream"
+};
 
 // Settings that do not go together.
-const UNFIT_WORDS: [&str; 16] = [
-    "--wrap 9 --cut 9",
-    "--cut 9 --wrap 9",
-    "--wrap 9 --words --cut 8",
-    "--words",
-    "--cut 9 --words",
-    "--words --cut 9",
-    "--words --stream",
-    "--priority max",
-    "--priority none",
-    "--priority max --words",
-    "--priority max --stream",
-    "--stream --wrap 9",
-    "--wrap 9 --stream",
-    "--cut 9 --stream",
-    "--stream --cut 9 --priority min",
-    "--wrap 9 --words --stream",
-];
+const UNFIT_WORDS: &str = picture! {
+    "--wrap 9 --cut 9"
+    "--cut 9 --wrap 9"
+    "--wrap 9 --words --cut 8"
+    "--words"
+    "--cut 9 --words"
+    "--words --cut 9"
+    "--words --stream"
+    "--priority max"
+    "--priority none"
+    "--priority max --words"
+    "--priority max --stream"
+    "--stream --wrap 9"
+    "--wrap 9 --stream"
+    "--cut 9 --stream"
+    "--stream --cut 9 --priority min"
+    "--wrap 9 --words --stream"
+};
 
 // Whether the words of a line end the run with its usage alone. The input, which is no text, isn't read.
 fn assert_usage(rt: &impl Abort, alloc: Global, line: &str) -> Result<(), Fail> {
@@ -307,13 +305,13 @@ fn assert_usage(rt: &impl Abort, alloc: Global, line: &str) -> Result<(), Fail> 
 
 #[test]
 fn wrong_words_end_the_run_before_the_input(rt: HostRuntime) -> Result<(), Fail> {
-    for line in UNKNOWN_WORDS {
+    for line in UNKNOWN_WORDS.split('\n') {
         assert_usage(&rt, rt.alloc(), line)?;
     }
-    for line in REPEATED_WORDS {
+    for line in REPEATED_WORDS.split('\n') {
         assert_usage(&rt, rt.alloc(), line)?;
     }
-    for line in UNFIT_WORDS {
+    for line in UNFIT_WORDS.split('\n') {
         assert_usage(&rt, rt.alloc(), line)?;
     }
     Ok(())
