@@ -1,10 +1,10 @@
 -- The lines of a compact table.
-use Rattle.std.specs.Prelude.{ℕ, Bool, true, false, ◌||◌, if◌then◌else◌, List, [], ◌∷◌, ◌++◌, Option, Some, None, is_some, replicate}
+use Rattle.std.specs.Prelude.{ℕ, Bool, true, false, List, [], ◌∷◌, ◌++◌, Option, option_map, replicate}
 use Rattle.std.specs.List.{flat_map, join_with_byte}
 use Rattle.tabled_config.specs.declared.borders.Borders.{Borders}
 use Rattle.tabled_config.specs.declared.borders.HorizontalLine.{HorizontalLine}
 use Rattle.tabled_config.specs.declared.sides.Indent.{Indent}
-use Rattle.tabled_config.specs.Frame.{bottom_line, if_any, top_line}
+use Rattle.tabled_config.specs.Frame.{bottom_line, if_any, inner_line, top_line}
 use Rattle.tabled_line.specs.Apart.{line_total}
 use Rattle.tabled_line.specs.Fill.{fill}
 use Rattle.tabled_line.specs.Leading.{begun_after, break, lines_after}
@@ -19,11 +19,8 @@ compact_width t = line_total (columns_of t)
 -- are the characters of the left and right vertical lines
 abbrev pub separator : Borders ℕ → Option HorizontalLine
 separator b =
-    let line : HorizontalLine =
-    record { main = b.horizontal; left = b.left; intersection = b.intersection; right = b.right } in
-    if is_some b.horizontal
-    || (is_some b.left_intersection || (is_some b.right_intersection || is_some b.intersection))
-    then Some line else None
+    let ended : HorizontalLine → HorizontalLine = λ line. record line { left = b.left; right = b.right } in
+    option_map ended (if_any (inner_line b))
 
 -- the lines of a margin, each as wide as the table
 abbrev pub margin_lines : CompactSheet → Indent → List (List ℕ)

@@ -1,7 +1,7 @@
-pub mod Applied
 pub mod CompactCells
 pub mod CompactLines
 pub mod Fitting
 pub mod Printed
 pub mod RowsPut
 pub mod Shown
+pub mod Tables

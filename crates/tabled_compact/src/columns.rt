@@ -59,14 +59,12 @@ impl<'a, D: Dimension> CompactColumns<'a, D> {
         })
     }
 
-    /// Returns the configuration.
     pub fn config(&self) -> &'a CompactConfig
         ensures { result.now ≡ self.now.config }
     {
         self.config
     }
 
-    /// Returns how many columns of its content width a text leaves free; 0 if it is wider.
     fn free_columns<T: CellText>(&self, column: usize, cell: &T) -> usize
         requires { column < self.now.count }
         ensures { result ≡ free_columns self.now.config (slice_index self.now.widths column)
@@ -100,8 +98,6 @@ impl<'a, D: Dimension> CompactColumns<'a, D> {
         write_padded_text(sink, config.get_padding(), before, cell.text(), behind)
     }
 
-    /// Writes the next cell, and returns the column after it. A cell after the last column is
-    /// ignored.
     pub fn write_next_cell<T: CellText, S: TextSink>(
         &self,
         sink: &mut S,
@@ -136,7 +132,6 @@ impl<'a, D: Dimension> CompactColumns<'a, D> {
         }
     }
 
-    /// Writes the rest of a row that has no cell from a column on: empty cells, and the right edge.
     pub fn end_row<S: TextSink>(&self, sink: &mut S, from: usize) -> Result<(), TableError>
         requires { from ≤ self.now.count }
         ensures { (start : Sent) (begun : Bool) (row : List (List ℕ))

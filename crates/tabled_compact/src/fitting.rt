@@ -21,11 +21,14 @@ impl<T: CellText, const COLUMNS: usize, const ROWS: usize> CellRows<COLUMNS, ROW
     ghost cells = { λ rows. map (map T.text) rows };
 
     fn fitting_widths(&self) -> [usize; COLUMNS] {
-        fitting_widths(self)
+        let mut widths = [0; COLUMNS];
+        'columns: for column in 0..COLUMNS {
+            widths[column] = widest_cell(self, column).saturating_add(2);
+        }
+        widths
     }
 }
 
-/// Returns the width of a cell of a row, without padding.
 fn cell_width<T: CellText, const COLUMNS: usize>(row: &[T; COLUMNS], column: usize) -> usize
     requires { column < COLUMNS }
     ensures { result ≡ text_columns (slice_index_or (map T.text row.now) column []) }
@@ -33,7 +36,6 @@ fn cell_width<T: CellText, const COLUMNS: usize>(row: &[T; COLUMNS], column: usi
     row[column].width()
 }
 
-/// Returns the width of the widest cell in a column, without padding.
 fn widest_cell<T: CellText, const COLUMNS: usize, const ROWS: usize>(
     rows: &[[T; COLUMNS]; ROWS],
     column: usize,
@@ -46,17 +48,4 @@ fn widest_cell<T: CellText, const COLUMNS: usize, const ROWS: usize>(
         widest = widest.max(cell_width(row, column));
     }
     widest
-}
-
-/// Returns the width of the widest cell in each column, plus 2 for padding, at most `usize::MAX`.
-fn fitting_widths<T: CellText, const COLUMNS: usize, const ROWS: usize>(
-    rows: &[[T; COLUMNS]; ROWS],
-) -> [usize; COLUMNS]
-    ensures { result ≡ fitting_widths COLUMNS (map (map T.text) rows.now) }
-{
-    let mut widths = [0; COLUMNS];
-    'columns: for column in 0..COLUMNS {
-        widths[column] = widest_cell(rows, column).saturating_add(2);
-    }
-    widths
 }

@@ -1,15 +1,12 @@
 //! Prints a compact table, and checks its columns before the first byte.
-ghost use Rattle.std.specs.Prelude.{◌≡◌, ◌≤◌, ◌+◌, ℕ, Bool, List, length, true, IfErr, IfOk, MatchResult, OnOk};
+ghost use Rattle.std.specs.Prelude.{◌≡◌, ◌≤◌, ◌+◌, ℕ, Bool, List, length, true, MatchResult};
 ghost use Rattle.tabled_base.specs.RowsGiven.{RowsBegin, RowsEnd};
 ghost use Rattle.tabled_line.specs.Sent.{Sent};
 ghost use Rattle.tabled_compact.specs.Shown.{Came};
 ghost use Rattle.tabled_compact.specs.CompactCells.{sheet_by};
-ghost use Rattle.tabled_compact.specs.CompactLines.{compact_width};
-ghost use Rattle.tabled_compact.specs.Printed.{IsPrintable, IsRefused, PrintsCompact};
+ghost use Rattle.tabled_compact.specs.Printed.{PrintsCompact};
 
-use crate::columns::CompactColumns;
 use crate::rows::{RowPrinter, walk};
-use crate::total::line_total;
 use crate::window::Window;
 use tabled_base::{CellText, IntoRecords, TableError};
 use tabled_config::CompactConfig;
@@ -39,26 +36,6 @@ where
         left -= 1;
     }
     Ok(())
-}
-
-/// Returns the columns of a table, and its total width. Fails with `ShortWidths` if the dimension
-/// lacks the width of a column, and otherwise with `Range` if the total width exceeds `usize::MAX`.
-fn checked_columns<'a, D: Dimension>(
-    config: &'a CompactConfig,
-    dimension: &'a D,
-    count: usize,
-) -> Result<(CompactColumns<'a, D>, usize), TableError>
-    ensures ok { let t = sheet_by config.now (D.width_at dimension.now) count in
-        IfOk result (λ x. (x.0 ≡ t) × (x.1 ≡ compact_width t)) }
-    ensures printable { OnOk result
-        (IsPrintable (sheet_by config.now (D.width_at dimension.now) count)) }
-    ensures err { IfErr result (IsRefused (sheet_by config.now (D.width_at dimension.now) count)) }
-{
-    let columns = CompactColumns::new(config, dimension, count)?;
-    match line_total(&columns) {
-        Some(total) => Ok((columns, total)),
-        None => Err(TableError::Range),
-    }
 }
 
 /// Prints rows of a source as the lines of a compact table, joined by line feeds. The rows are
@@ -94,11 +71,8 @@ where
         let _rows = rows.into_iter();
         return Ok(());
     }
-    match checked_columns(config, dimension, columns) {
-        Ok((table, total)) => {
-            let mut printer = RowPrinter::new(table, total);
-            printer.print_table(sink, rows, window)
-        }
+    match RowPrinter::new(config, dimension, columns) {
+        Ok(mut printer) => printer.print_table(sink, rows, window),
         Err(error) => refuse(rows, window.skip, error),
     }
 }

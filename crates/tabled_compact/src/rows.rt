@@ -1,5 +1,5 @@
 //! Prints the rows of a source, one by one.
-ghost use Rattle.std.specs.Prelude.{◌≡◌, ◌==◌, ℕ, Bool, List, [], map, min, length, true, false, if◌then◌else◌, IfOk, OnErr, OnOk};
+ghost use Rattle.std.specs.Prelude.{◌≡◌, ◌==◌, ℕ, Bool, List, [], map, min, length, true, false, if◌then◌else◌, IfErr, IfOk, OnErr, OnOk};
 ghost use Rattle.std.specs.Iterator.{IsFiniteIterable};
 ghost use Rattle.std.proofs.Props.{props};
 ghost use Rattle.tabled_base.specs.Given.{Given};
@@ -7,16 +7,17 @@ ghost use Rattle.tabled_base.specs.RowsGiven.{RowsBegin, RowsEnd};
 ghost use Rattle.tabled_line.specs.Leading.{WritesLines};
 ghost use Rattle.tabled_line.specs.LineCache.{IsCacheOf};
 ghost use Rattle.tabled_line.specs.Sent.{Sent, Writes};
-ghost use Rattle.tabled_compact.specs.CompactCells.{columns_of};
+ghost use Rattle.tabled_compact.specs.CompactCells.{columns_of, sheet_by};
 ghost use Rattle.tabled_compact.specs.CompactLines.{above, compact_width, part_front, row_part, separator, tail_lines};
-ghost use Rattle.tabled_compact.specs.Printed.{IsPrintable, PrintsCompact};
+ghost use Rattle.tabled_compact.specs.Printed.{IsPrintable, IsRefused, PrintsCompact};
 ghost use Rattle.tabled_compact.specs.RowsPut.{PutsRows};
 ghost use Rattle.tabled_compact.specs.Shown.{Came, IsSpent, window_after};
 
 use crate::columns::CompactColumns;
+use crate::total::line_total;
 use crate::window::Window;
 use tabled_base::{CellText, TableError};
-use tabled_config::{Borders, HorizontalLine};
+use tabled_config::{Borders, CompactConfig, HorizontalLine};
 use tabled_line::{LinePrinter, TableColumns, TextSink, write_left_edge};
 use tabled_size::Dimension;
 
@@ -25,15 +26,10 @@ use tabled_size::Dimension;
 fn separator(borders: &Borders<char>) -> Option<HorizontalLine>
     ensures { result ≡ separator borders.now }
 {
-    let there = borders.horizontal.is_some()
-        || borders.left_intersection.is_some()
-        || borders.right_intersection.is_some()
-        || borders.intersection.is_some();
-    there.then_some(HorizontalLine {
-        main: borders.horizontal,
+    borders.line_at(2, 1).map(|line| HorizontalLine {
         left: borders.left,
-        intersection: borders.intersection,
         right: borders.right,
+        ..line
     })
 }
 
@@ -58,15 +54,29 @@ pub(crate) struct RowPrinter<'a, D: Dimension> {
 }
 
 impl<'a, D: Dimension> RowPrinter<'a, D> {
-    /// Returns a printer that has printed no row yet.
-    pub fn new(columns: CompactColumns<'a, D>, total: usize) -> RowPrinter<'a, D>
-        requires { total ≡ compact_width columns }
-        ensures columns { result.lines.columns ≡ columns.entry }
-        ensures begun { result.lines.begun ≡ false }
+    /// Returns a printer of a table with `count` columns. Fails with `ShortWidths` if the dimension
+    /// lacks the width of a column, and otherwise with `Range` if the total width exceeds
+    /// `usize::MAX`.
+    pub fn new(
+        config: &'a CompactConfig,
+        dimension: &'a D,
+        count: usize,
+    ) -> Result<RowPrinter<'a, D>, TableError>
+        ensures ok { IfOk result (λ printer. printer.lines.columns
+            ≡ sheet_by config.now (D.width_at dimension.now) count) }
+        ensures begun { IfOk result (λ printer. printer.lines.begun ≡ false) }
+        ensures printable { OnOk result
+            (IsPrintable (sheet_by config.now (D.width_at dimension.now) count)) }
+        ensures err { IfErr result
+            (IsRefused (sheet_by config.now (D.width_at dimension.now) count)) }
     {
-        RowPrinter {
-            lines: LinePrinter::new(columns, None),
-            total,
+        let columns = CompactColumns::new(config, dimension, count)?;
+        match line_total(&columns) {
+            Some(total) => Ok(RowPrinter {
+                lines: LinePrinter::new(columns, None),
+                total,
+            }),
+            None => Err(TableError::Range),
         }
     }
 
@@ -87,7 +97,6 @@ impl<'a, D: Dimension> RowPrinter<'a, D> {
             .write_rule(sink, config.get_borders().line_at(1, 0))
     }
 
-    /// Writes what is above a row, and the left edge of its line. Returns the first column.
     fn begin_row<S: TextSink>(&mut self, sink: &mut S) -> Result<usize, TableError>
         ensures put { Writes (S.sent sink.old) result (S.sent sink.new)
             (part_front self.old.lines.columns self.old.lines.begun [] 0) }
@@ -132,7 +141,6 @@ impl<'a, D: Dimension> RowPrinter<'a, D> {
         next
     }
 
-    /// Writes a row with what is above it. The cells are read to their end, even if the sink fails.
     fn write_row<C: IntoIterator, S: TextSink>(
         &mut self,
         sink: &mut S,
@@ -213,7 +221,6 @@ impl<'a, D: Dimension> RowPrinter<'a, D> {
         Ok(())
     }
 
-    /// Writes what is below the rows, if one was printed: the bottom line and the bottom margin.
     fn write_tail<S: TextSink>(&mut self, sink: &mut S) -> Result<(), TableError>
         ensures printed { WritesLines (S.sent sink.old) self.old.lines.begun result
             (S.sent sink.new) self.new.lines.begun

@@ -1,15 +1,13 @@
 //! `CompactTable`: its settings, its options, and printing it.
-ghost use Rattle.std.specs.Prelude.{◌≡◌, ◌⊎◌, Some, None, [], string_bytes, IfErr, IfOk, true};
+ghost use Rattle.std.specs.Prelude.{◌≡◌, ◌⊎◌, Some, [], string_bytes, IfErr, IfOk, true};
 ghost use Rattle.std.specs.Borrow.{Lends, sem};
 ghost use Rattle.tabled_base.specs.declared.error.TableError.TheVariants.{Memory, Range};
 ghost use Rattle.tabled_config.specs.declared.compact.CompactConfig.{CompactConfig};
-ghost use Rattle.tabled_line.specs.NewConfig.{IsNewConfig};
 ghost use Rattle.tabled_line.specs.Sent.{Sent};
-ghost use Rattle.tabled_compact.specs.Applied.{no_records};
+ghost use Rattle.tabled_compact.specs.Tables.{IsNewTable, IsResized, no_records, sheet_of, window_of};
 ghost use Rattle.tabled_compact.specs.Shown.{Came};
 ghost use Rattle.tabled_records.specs.declared.empty.EmptyRecords.{EmptyRecords};
 ghost use Rattle.tabled_size.specs.declared.const_dimension.ConstSize.TheVariants.{Value};
-ghost use Rattle.tabled_compact.specs.CompactCells.{sheet_by};
 ghost use Rattle.tabled_compact.specs.Fitting.{IsTableOf};
 ghost use Rattle.tabled_compact.specs.Printed.{BuildsCompact, IsEnded, IsPrinted, PrintsCompact};
 
@@ -47,13 +45,9 @@ impl<I> CompactTable<I, ConstDimension<0, 0>> {
     pub fn new(records: I) -> Self
     where
         I: IntoRecords,
-        ensures records { result.records ≡ records }
-        ensures config { IsNewConfig result.config }
+        ensures made { IsNewTable records result }
         ensures width { result.dimension.width ≡ Value 2 }
         ensures height { result.dimension.height ≡ Value 1 }
-        ensures columns { result.columns ≡ 0 }
-        ensures limit { result.limit ≡ None }
-        ensures skip { result.skip ≡ 0 }
     {
         CompactTable::with_dimension(
             records,
@@ -72,11 +66,7 @@ impl<I, D> CompactTable<I, D> {
     where
         D: SetHeight<S, COUNT>,
         ensures height { D.heightened self.dimension height result.dimension }
-        ensures records { result.records ≡ self.records }
-        ensures config { result.config ≡ self.config }
-        ensures columns { result.columns ≡ self.columns }
-        ensures limit { result.limit ≡ self.limit }
-        ensures skip { result.skip ≡ self.skip }
+        ensures same { IsResized self result }
     {
         CompactTable {
             records: self.records,
@@ -98,11 +88,7 @@ impl<I, D> CompactTable<I, D> {
     where
         D: SetWidth<S, COUNT>,
         ensures width { D.widened self.dimension width result.dimension }
-        ensures records { result.records ≡ self.records }
-        ensures config { result.config ≡ self.config }
-        ensures columns { result.columns ≡ self.columns }
-        ensures limit { result.limit ≡ self.limit }
-        ensures skip { result.skip ≡ self.skip }
+        ensures same { IsResized self result }
     {
         CompactTable {
             records: self.records,
@@ -119,12 +105,8 @@ impl<I, D> CompactTable<I, D> {
     pub fn with_dimension(records: I, dimension: D) -> Self
     where
         I: IntoRecords,
-        ensures records { result.records ≡ records }
-        ensures config { IsNewConfig result.config }
+        ensures made { IsNewTable records result }
         ensures dimension { result.dimension ≡ dimension }
-        ensures columns { result.columns ≡ 0 }
-        ensures limit { result.limit ≡ None }
-        ensures skip { result.skip ≡ 0 }
     {
         CompactTable {
             records,
@@ -137,33 +119,27 @@ impl<I, D> CompactTable<I, D> {
     }
 
     /// Sets how many rows are shown at most, not counting those that are skipped.
-    pub fn rows(self, count: usize) -> Self
+    pub fn rows(mut self, count: usize) -> Self
         ensures { result ≡ record self { limit = Some count } }
     {
-        CompactTable {
-            limit: Some(count),
-            ..self
-        }
+        self.limit = Some(count);
+        self
     }
 
     /// Sets the number of columns. Further cells of a row are ignored, and missing ones are empty.
-    pub fn columns(self, count: usize) -> Self
+    pub fn columns(mut self, count: usize) -> Self
         ensures { result ≡ record self { columns = count } }
     {
-        CompactTable {
-            columns: count,
-            ..self
-        }
+        self.columns = count;
+        self
     }
 
     /// Sets how many rows are skipped before the first that is shown.
-    pub fn skip(self, count: usize) -> Self
+    pub fn skip(mut self, count: usize) -> Self
         ensures { result ≡ record self { skip = count } }
     {
-        CompactTable {
-            skip: count,
-            ..self
-        }
+        self.skip = count;
+        self
     }
 
     /// Returns the configuration.
@@ -229,26 +205,17 @@ impl<I: Drop, D: Drop> CompactTable<I, D> {
         ensures range { IfErr result (λ e. e ≡ Range
             → O.out_of_range option no_records self.config self.dimension) }
     {
-        let CompactTable {
-            records,
-            mut config,
-            mut dimension,
-            columns,
-            limit,
-            skip,
-        } = self;
         let mut none = EmptyRecords {
             rows: 0,
             columns: 0,
         };
+        let mut config = self.config;
+        let mut dimension = self.dimension;
         option.change(&mut none, &mut config, &mut dimension)?;
         Ok(CompactTable {
-            records,
             config,
             dimension,
-            columns,
-            limit,
-            skip,
+            ..self
         })
     }
 }
@@ -267,15 +234,22 @@ where
     /// Every later error is the sink's.
     pub fn fmt<S: TextSink>(self, sink: &mut S) -> Result<(), TableError>
         requires { I.ends self.records }
-        ensures { PrintsCompact (sheet_by self.config (D.width_at self.dimension) self.columns)
-            (record { skip = self.skip; limit = self.limit })
-            (Came (I.begins self.records) I.Cell.text)
-            (S.sent sink.old) result (S.sent sink.new) }
+        ensures { PrintsCompact (sheet_of D.width_at self) (window_of self)
+            (Came (I.begins self.records) I.Cell.text) (S.sent sink.old) result (S.sent sink.new) }
     {
-        let (columns, skip, limit) = (self.columns, self.skip, self.limit);
+        let window = Window {
+            skip: self.skip,
+            limit: self.limit,
+        };
         let (config, dimension) = (self.config, self.dimension);
-        let window = Window { skip, limit };
-        print_compact(sink, self.records, &config, &dimension, columns, window)
+        print_compact(
+            sink,
+            self.records,
+            &config,
+            &dimension,
+            self.columns,
+            window,
+        )
     }
 
     /// Prints the table to a writer, as `fmt` does to a sink. The writer isn't flushed, and nothing
@@ -286,8 +260,7 @@ where
     /// Nothing is written after that.
     pub fn build<W: Write>(self, writer: &mut W) -> Result<(), TableError>
         requires { I.ends self.records }
-        ensures { BuildsCompact (sheet_by self.config (D.width_at self.dimension) self.columns)
-            (record { skip = self.skip; limit = self.limit })
+        ensures { BuildsCompact (sheet_of D.width_at self) (window_of self)
             (Came (I.begins self.records) I.Cell.text)
             (W.contents writer.old) result (W.contents writer.new) }
     {
@@ -303,15 +276,12 @@ where
     /// `Memory`.
     pub fn to_string(self, alloc: Global) -> Result<String, TableError>
         requires { I.ends self.records }
-        ensures ok { IfOk result (λ text.
-            IsPrinted (sheet_by self.config (D.width_at self.dimension) self.columns)
-            (record { skip = self.skip; limit = self.limit })
+        ensures ok { IfOk result (λ text. IsPrinted (sheet_of D.width_at self) (window_of self)
             (Came (I.begins self.records) I.Cell.text)
             (record { bytes = Some []; failures = 0; grows = true })
             (record { bytes = Some (string_bytes text); failures = 0; grows = true })) }
         ensures err { IfErr result (λ e. (new : Sent)
-            × IsEnded (sheet_by self.config (D.width_at self.dimension) self.columns)
-            (record { skip = self.skip; limit = self.limit })
+            × IsEnded (sheet_of D.width_at self) (window_of self)
             (Came (I.begins self.records) I.Cell.text)
             (record { bytes = Some []; failures = 0; grows = true }) e new × (new.failures ≡ 0)) }
     {

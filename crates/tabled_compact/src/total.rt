@@ -12,7 +12,6 @@ fn one_if(there: bool) -> usize
     if there { 1 } else { 0 }
 }
 
-/// Returns the sum of the first `known` widths; `None` if it exceeds `usize::MAX`.
 #[tactic(auto, using(tabled_priority::proofs::Sums::sum_step))]
 fn known_widths<C: TableColumns>(columns: &C, known: usize) -> Option<usize>
     requires { known ≤ (C.sheet columns.now).count }
@@ -34,8 +33,6 @@ fn add_times(sum: usize, times: usize, each: usize) -> Option<usize>
     sum.checked_add(times.checked_mul(each)?)
 }
 
-/// Returns `sum` plus the widths from a column on, which are all equal; `None` if that exceeds
-/// `usize::MAX`.
 fn add_alike<C: TableColumns>(columns: &C, sum: usize, from: usize) -> Option<usize>
     requires within { from ≤ (C.sheet columns.now).count }
     requires summed { sum ≡ sum_below (C.sheet columns.now).width from }

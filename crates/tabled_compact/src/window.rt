@@ -13,17 +13,12 @@ pub struct Window {
 impl Window {
     ghost use Rattle.tabled_compact.specs.Shown.{IsSpent, window_after};
 
-    /// Whether no further row is shown.
     pub(crate) fn is_spent(&self) -> bool
         ensures { IsTrue result ↔ IsSpent self.now }
     {
-        match self.limit {
-            Some(left) => left == 0,
-            None => false,
-        }
+        self.limit == Some(0)
     }
 
-    /// Counts the next row, and returns whether it is shown.
     pub(crate) fn take_row(&mut self) -> bool
         ensures shown { result ≡ (self.old.skip == 0) }
         ensures left { self.new ≡ window_after self.old 1 }
@@ -32,10 +27,7 @@ impl Window {
             self.skip -= 1;
             return false;
         }
-        self.limit = match self.limit {
-            Some(left) => Some(left.saturating_sub(1)),
-            None => None,
-        };
+        self.limit = self.limit.map(|left| left.saturating_sub(1));
         true
     }
 }

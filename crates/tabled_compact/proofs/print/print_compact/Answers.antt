@@ -32,7 +32,7 @@ returns-then-columns-eq0 g c =
 pub returns-in-Ok : goal.returns-in-Ok
 returns-in-Ok g c =
     let t = sheet_by c.args.config.now (g.D.Dimension.width_at c.args.dimension.now) c.args.columns in
-    let put = rw (c.new-printer.ensures.columns, c.in-Ok.ensures.ok.0) at c.print_table.ensures in
+    let put = rw c.in-Ok.ensures.ok at c.print_table.ensures in
     prints-as t c.args.window _ _ _ _ c.print_table.result
     (λ rows whole came. (came.0, c.iter_rows-rows.ensures.begins came.0 whole came.1, came.2)) put
 

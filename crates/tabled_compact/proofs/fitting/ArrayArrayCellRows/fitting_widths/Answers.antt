@@ -3,11 +3,11 @@ use Rattle.std.proofs.Math.Seq.{take-length}
 use Rattle.std.specs.List.{range_with_len}
 use Rattle.tabled_compact.specs.Fitting.{fitting_width}
 use Rattle.tabled_compact.proofs.FittingLemmas.{written-next}
-use Rattle.tabled_compact.proofs.fitting.fitting_widths.Goals as goal
+use Rattle.tabled_compact.proofs.fitting.ArrayArrayCellRows.fitting_widths.Goals as goal
 
 pub columns-preserved : goal.columns-preserved
 columns-preserved g c =
-    let cells = map (map g.T.CellText.text) c.args.rows.now in
+    let cells = map (map g.T.CellText.text) c.args.self.now in
     let inside : c.columns.column < length c.columns.widths = omega arith in
     record {
       sized = search rules;
@@ -18,7 +18,7 @@ columns-preserved g c =
 
 pub returns : goal.returns
 returns g c =
-    let cells = map (map g.T.CellText.text) c.args.rows.now in
+    let cells = map (map g.T.CellText.text) c.args.self.now in
     let full : length c.columns.widths ≡ c.columns.column = omega arith in
     let all : c.columns.column ≡ g.row.COLUMNS = omega arith in
     sym (take-length c.columns.widths)

@@ -1,10 +1,10 @@
-use Rattle.std.proofs.Common.{◌≡◌, ◌^◌, ◌<◌, ◌≤◌, IfErr, Result, Ok, Err, ap, subst, sym, ◌∙◌}
+use Rattle.std.proofs.Common.{◌≡◌, ◌^◌, ◌<◌, ◌≤◌, IfErr, Result, Ok, Err, subst, sym}
 use Rattle.std.specs.Result.{IsErrAnd}
 use Rattle.tabled_base.specs.declared.error.TableError.{TableError}
 use Rattle.tabled_compact.specs.CompactCells.{CompactSheet, sheet_by}
 use Rattle.tabled_compact.specs.CompactLines.{compact_width}
 use Rattle.tabled_compact.specs.Printed.{IsRefused}
-use Rattle.tabled_compact.proofs.print.checked_columns.Goals as goal
+use Rattle.tabled_compact.proofs.rows.RowPrinter.new.Goals as goal
 
 refused : {T : Type 0} (t : CompactSheet) (r : Result T TableError) (e : TableError) → IsErrAnd r (λ d. d ≡ e) → IsRefused t e → IfErr r (IsRefused t)
 refused t (Ok x) e i h = absurd i
@@ -16,9 +16,6 @@ returns-in_err-columns-clause-err g c =
     let short = c.in_err-columns.ensures.err in
     let P : TableError → Type 0 = λ k. IsRefused t k in
     refused t c.from_residual.result _ c.from_residual.ensures.1 (subst P (sym short.0) short.1)
-
-pub returns-in-Some-clause-ok : goal.returns-in-Some-clause-ok
-returns-in-Some-clause-ok g c = (c.in_ok-columns.ensures.ok, c.in-Some.ensures.0 ∙ ap compact_width c.in_ok-columns.ensures.ok)
 
 pub returns-in-Some-clause-printable : goal.returns-in-Some-clause-printable
 returns-in-Some-clause-printable g c =
