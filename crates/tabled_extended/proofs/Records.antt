@@ -1,31 +1,6 @@
 -- Records that are printed one after another.
-use Rattle.std.proofs.Common.{
-  ◌≡◌,
-  ◌⊎◌,
-  inl,
-  inr,
-  ℕ,
-  ◌+◌,
-  ◌<◌,
-  List,
-  [],
-  ◌∷◌,
-  ◌++◌,
-  Bool,
-  false,
-  Ok,
-  Err,
-  Result,
-  length,
-  get_or,
-  sym,
-  ap,
-  subst,
-  ◌∙◌,
-  refl,
-  arith,
-  append-nil,
-}
+use Rattle.std.proofs.Common.{◌≡◌, ◌⊎◌, inl, inr, ℕ, ◌+◌, ◌<◌, List, [], ◌∷◌, ◌++◌, Bool, false, Ok, Err}
+use Rattle.std.proofs.Common.{Result, length, get_or, sym, ap, subst, ◌∙◌, refl, arith, append-nil}
 use Rattle.std.specs.List.{flat_map}
 use Rattle.std.proofs.lemmas.Grind.{flat_map-append}
 use Rattle.std.proofs.lemmas.List.{length-append, get_or_append_left, get_or_push}

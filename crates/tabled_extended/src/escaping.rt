@@ -8,7 +8,6 @@ use std::alloc::{AllocError, Global};
 use std::borrow::CowStr;
 use tabled_base::{TableError, Text};
 
-/// Whether a character is in U+0001 to U+001F or U+007F to U+009F.
 fn is_control(c: char) -> bool
     ensures { result ≡ is_control c }
 {
@@ -16,35 +15,26 @@ fn is_control(c: char) -> bool
     code < 0x20 || (code >= 0x7F && code <= 0x9F)
 }
 
-/// Appends a character, escaped if it has to be.
 fn push_escaped(text: &mut String, c: char) -> Result<(), AllocError>
     ensures { OnOk result (string_bytes text.new ≡ string_bytes text.old ++ escape c) }
 {
-    if c == '"' || c == '\'' || c == '\\' {
-        text.push('\\')?;
-        return text.push(c);
+    match c {
+        '"' | '\'' | '\\' => {
+            text.push('\\')?;
+            text.push(c)
+        }
+        '\t' => text.push_str("\\t"),
+        '\r' => text.push_str("\\r"),
+        '\n' => text.push_str("\\n"),
+        '\0' => text.push_str("\\0"),
+        _ if is_control(c) => {
+            let code = format!(in *text.allocator(); "\\u{{{:x}}}", c as u32)?;
+            text.push_str(&code)
+        }
+        _ => text.push(c),
     }
-    if c == '\t' {
-        return text.push_str("\\t");
-    }
-    if c == '\r' {
-        return text.push_str("\\r");
-    }
-    if c == '\n' {
-        return text.push_str("\\n");
-    }
-    if c == '\0' {
-        return text.push_str("\\0");
-    }
-    if is_control(c) {
-        let alloc = *text.allocator();
-        let code = format!(in alloc; "\\u{{{:x}}}", c as u32)?;
-        return text.push_str(&code);
-    }
-    text.push(c)
 }
 
-/// Returns an escaped text.
 pub(crate) fn escaped(alloc: Global, text: &str) -> Result<String, AllocError>
     ensures { IfOk result (λ answer. string_bytes answer ≡ escaped text.now) }
 {
@@ -55,7 +45,6 @@ pub(crate) fn escaped(alloc: Global, text: &str) -> Result<String, AllocError>
     Ok(answer)
 }
 
-/// Escapes texts, and measures them.
 pub(crate) fn escaped_texts(
     alloc: Global,
     texts: Vec<CowStr<'_>>,

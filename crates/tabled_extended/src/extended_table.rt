@@ -64,7 +64,6 @@ impl<F: Copy> ExtendedTable<F> {
     }
 }
 
-/// Copies the cells of records.
 fn copied_records(
     alloc: Global,
     records: &[Vec<Text<String>>],
@@ -79,7 +78,6 @@ fn copied_records(
     Ok(copy)
 }
 
-/// Copies cells.
 fn copied_texts(alloc: Global, texts: &[Text<String>]) -> Result<Vec<Text<String>>, TableError>
     ensures ok { IfOk result (λ copy. copy.items ≡ texts.now) }
     ensures only { IfErr result (λ e. e ≡ Memory) }

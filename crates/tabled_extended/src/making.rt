@@ -64,7 +64,6 @@ impl ExtendedTable<RecordTemplate> {
     }
 }
 
-/// Copies the cells of rows.
 fn collect_rows<I: IntoRecords>(
     alloc: Global,
     rows: I,
@@ -83,7 +82,6 @@ where
     Ok(all)
 }
 
-/// Copies the cells of a row.
 fn collect_row<I: IntoIterator>(alloc: Global, cells: I) -> Result<Vec<Text<String>>, TableError>
 where
     I::Item: CellText + Drop,
@@ -100,20 +98,16 @@ where
     Ok(row)
 }
 
-/// Makes a table of rows. The first has the names of the fields.
 #[tactic(auto, using(crate::proofs::FirstRow::first_removed, crate::proofs::FirstRow::further_removed, crate::proofs::FirstRow::first_of_none, crate::proofs::FirstRow::further_of_none))]
 fn named_by_first(alloc: Global, mut rows: Vec<Vec<Text<String>>>) -> ExtendedTable<RecordTemplate>
     ensures fields { result.fields.items ≡ first_row (row_texts rows.items) }
     ensures records { row_texts result.records.items ≡ further_rows (row_texts rows.items) }
 {
-    if rows.is_empty() {
-        return ExtendedTable {
-            fields: Vec::new(alloc),
-            records: rows,
-            template: RecordTemplate,
-        };
-    }
-    let fields = rows.remove(0);
+    let fields = if rows.is_empty() {
+        Vec::new(alloc)
+    } else {
+        rows.remove(0)
+    };
     ExtendedTable {
         fields,
         records: rows,

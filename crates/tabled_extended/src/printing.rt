@@ -29,7 +29,6 @@ struct Widths {
     ghost in_range: { field + 3 + value < 2 ^ 64 },
 }
 
-/// Returns the columns of the widest cell.
 pub(crate) fn widest(texts: &[Text<String>]) -> usize
     ensures { result ≡ widest texts.now }
 {
@@ -40,7 +39,6 @@ pub(crate) fn widest(texts: &[Text<String>]) -> usize
     columns
 }
 
-/// Returns the columns of the widest value.
 fn widest_value(records: &[Vec<Text<String>>]) -> usize
     ensures { result ≡ widest_value (row_texts records.now) }
 {
@@ -67,7 +65,6 @@ fn title_width(label: &str) -> usize
     widest.max(last.saturating_add(1))
 }
 
-/// Writes the end of a header: dashes, with a `+` above the bar.
 fn write_cross<S: TextSink>(sink: &mut S, before: usize, behind: usize) -> Result<(), TableError>
     ensures { Writes (S.sent sink.old) result (S.sent sink.new)
         (fill 45 before ++ (43 ∷ fill 45 behind)) }
@@ -77,7 +74,6 @@ fn write_cross<S: TextSink>(sink: &mut S, before: usize, behind: usize) -> Resul
     write_fill(sink, '-', behind)
 }
 
-/// Fills a header up after a title of `columns` columns.
 fn write_title_rule<S: TextSink>(
     sink: &mut S,
     widths: Widths,
@@ -97,7 +93,6 @@ fn write_title_rule<S: TextSink>(
     }
 }
 
-/// Writes the header of a record, on a line of its own: a label between dashes, filled up.
 fn write_header<S: TextSink>(
     sink: &mut S,
     begun: &mut bool,
@@ -114,7 +109,6 @@ fn write_header<S: TextSink>(
     write_title_rule(sink, widths, title_width(label))
 }
 
-/// Writes a field, spaces, the bar and a value.
 fn write_field<S: TextSink>(
     sink: &mut S,
     field: &str,
@@ -130,7 +124,6 @@ fn write_field<S: TextSink>(
     sink.write_text(value)
 }
 
-/// Writes the line of a field, padded to `columns`, and its value.
 fn write_value_line<S: TextSink>(
     sink: &mut S,
     begun: &mut bool,
@@ -146,7 +139,6 @@ fn write_value_line<S: TextSink>(
     write_field(sink, field.text(), spaces, value.text())
 }
 
-/// Writes a line for each field that has a value.
 fn write_value_lines<S: TextSink>(
     sink: &mut S,
     begun: &mut bool,
@@ -164,15 +156,6 @@ fn write_value_lines<S: TextSink>(
     Ok(())
 }
 
-/// Returns the values of a record.
-fn values_at(records: &[Vec<Text<String>>], index: usize) -> &[Text<String>]
-    requires { index < length records.now }
-    ensures { result.now ≡ slice_index_or (row_texts records.now) index [] }
-{
-    records[index].as_slice()
-}
-
-/// Writes the lines of a record, with the label that the template returns for its index.
 fn write_record<F: Template, S: TextSink>(
     sink: &mut S,
     begun: &mut bool,
@@ -188,12 +171,11 @@ fn write_record<F: Template, S: TextSink>(
 {
     let label = table.template.label(*table.fields.allocator(), index)?;
     write_header(sink, begun, widths, label.as_str())?;
-    let values = values_at(table.records.as_slice(), index);
+    let values = table.records[index].as_slice();
     write_value_lines(sink, begun, widths.field, table.fields.as_slice(), values)
 }
 
 impl Widths {
-    /// Returns the widths of a table; `None` if a field, a bar and a value don't fit `usize`.
     fn of<F>(table: &ExtendedTable<F>) -> Option<Widths>
         ensures fields { IfSome result (λ widths. widths.field ≡ widest table.now.fields.items) }
         ensures values { IfSome result

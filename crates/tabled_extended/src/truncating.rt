@@ -91,7 +91,6 @@ fn truncated(
     Ok(Some(answer))
 }
 
-/// Truncates a text in place. A text that fits isn't changed.
 fn truncate_text(
     alloc: Global,
     text: &mut Text<String>,
@@ -108,7 +107,6 @@ fn truncate_text(
     Ok(())
 }
 
-/// Truncates the cells of a row.
 fn truncate_row(
     alloc: Global,
     row: &mut Vec<Text<String>>,
@@ -144,7 +142,6 @@ fn truncate_if_limited(
     }
 }
 
-/// Truncates the values of all records.
 fn truncate_rows(
     alloc: Global,
     rows: &mut Vec<Vec<Text<String>>>,
@@ -164,7 +161,6 @@ fn truncate_rows(
 }
 
 impl<F> ExtendedTable<F> {
-    /// Truncates values, and fields if they have a width limit.
     fn truncate_to(&mut self, text_widths: TextWidths, suffix: &str) -> Result<(), TableError>
         ensures ok { OnOk result (AreTruncated suffix.now text_widths
             self.old.fields.items (row_texts self.old.records.items)
