@@ -8,17 +8,6 @@ ghost use Rattle.tabled_c.specs.Asked.{Asks, order_number, style_of, style_word}
 use tabled::settings::Style;
 use tabled::{Order, Plan};
 
-/// The numbers that a plan is given by.
-#[derive(Clone, Copy, Debug)]
-pub(crate) struct PlanNumbers {
-    /// The kind of the plan.
-    pub kind: u32,
-    /// The order in which columns shrink.
-    pub order: u32,
-    /// The total width, in columns.
-    pub columns: usize,
-}
-
 /// The name of a style.
 #[derive(Clone, Copy, Debug)]
 pub(crate) enum StyleName {
@@ -73,26 +62,26 @@ fn order_of(number: u32) -> Option<Order>
     }
 }
 
-/// Returns the plan of these numbers.
-pub(crate) fn plan_of(numbers: PlanNumbers) -> Option<Plan>
-    ensures { (plan : Plan) → (result ≡ Some plan)
-        ↔ Asks plan numbers.kind numbers.order numbers.columns }
+/// Returns the plan that these numbers ask for: its kind, the order in which columns shrink, and the
+/// total width in columns.
+pub(crate) fn plan_of(kind: u32, order: u32, columns: usize) -> Option<Plan>
+    ensures { (plan : Plan) → (result ≡ Some plan) ↔ Asks plan kind order columns }
 {
-    let order = order_of(numbers.order)?;
-    match numbers.kind {
+    let order = order_of(order)?;
+    match kind {
         0 => Some(Plan::Buffered),
         1 => Some(Plan::Wrapped {
-            target: numbers.columns,
+            target: columns,
             words: false,
             order,
         }),
         2 => Some(Plan::Wrapped {
-            target: numbers.columns,
+            target: columns,
             words: true,
             order,
         }),
         3 => Some(Plan::Shortened {
-            target: numbers.columns,
+            target: columns,
             order,
         }),
         _ => None,

@@ -1,15 +1,27 @@
 //! The exported functions. A slice is a pointer and a length.
 ghost use Rattle.std.specs.Prelude.{◌<◌};
 ghost use Rattle.tabled_text.specs.Cut.{NeedsFill};
-ghost use Rattle.tabled_c.specs.Answers.{Answers};
+ghost use Rattle.tabled_c.specs.Answers.{Answers, IsPut};
 ghost use Rattle.tabled_c.specs.Printed.{IsCutText, IsMeasured, IsTable, IsTableCause, IsTextCause};
 ghost use Rattle.tabled_c.specs.Printed.{IsWrappedText};
 
-use crate::arguments::PlanNumbers;
-use crate::room::put;
-use crate::tables::table_of;
-use crate::texts::{columns_of, cut_text, wrapped_text};
+use crate::arguments::{plan_of, style_named, style_of};
+use crate::error_code::ErrorCode;
+use simdutf8::compat::from_utf8;
 use std::alloc::Global;
+use tabled::grid::util::string::{cut_str, text_width, wrap_text};
+use tabled::{TableError, render_styled};
+
+/// Copies a text into a buffer, unless the buffer is too small. Returns the number of bytes needed.
+fn put(text: &str, buffer: &mut [u8]) -> isize
+    ensures { IsPut text.now buffer.old result buffer.new }
+{
+    let bytes = text.as_bytes();
+    if bytes.len() <= buffer.len() {
+        buffer[..bytes.len()].copy_from_slice(bytes);
+    }
+    bytes.len() as isize
+}
 
 /// Prints tab-separated rows as a table into `room`. Returns the number of bytes needed, or an
 /// error code below 0. If `room` is too small, nothing is written.
@@ -33,14 +45,20 @@ pub extern "C" fn fanlightnard_print(
         (IsTableCause text.now style.now kind order columns)
         room.old result room.new }
 {
-    let numbers = PlanNumbers {
-        kind,
-        order,
-        columns,
+    let Some(name) = style_named(style) else {
+        return ErrorCode::NoStyle.code();
     };
-    match table_of(alloc, text, style, numbers) {
-        Ok(table) => put(table.as_str(), room),
-        Err(refusal) => refusal.code(),
+    let Some(plan) = plan_of(kind, order, columns) else {
+        return ErrorCode::NoPlan.code();
+    };
+    let Ok(text) = from_utf8(text) else {
+        return ErrorCode::NoText.code();
+    };
+    let mut out = String::new(alloc);
+    match render_styled(alloc, text, style_of(name), plan, &mut out) {
+        Ok(()) => put(out.as_str(), room),
+        Err(TableError::Range) => ErrorCode::Range.code(),
+        Err(_) => ErrorCode::Memory.code(),
     }
 }
 
@@ -49,7 +67,14 @@ pub extern "C" fn fanlightnard_print(
 pub extern "C" fn fanlightnard_measure(text: &[u8]) -> isize
     ensures { IsMeasured text.now result }
 {
-    columns_of(text)
+    let Ok(text) = from_utf8(text) else {
+        return ErrorCode::NoText.code();
+    };
+    let columns = text_width(text);
+    if columns > isize::MAX as usize {
+        return ErrorCode::Range.code();
+    }
+    columns as isize
 }
 
 /// Cuts a text to `columns`, into `room`. Returns the number of bytes needed, or an error code
@@ -64,9 +89,12 @@ pub extern "C" fn fanlightnard_cut(
     ensures { Answers (IsCutText columns text.now)
         (IsTextCause text.now (NeedsFill columns text.now)) room.old result room.new }
 {
-    match cut_text(alloc, text, columns) {
+    let Ok(text) = from_utf8(text) else {
+        return ErrorCode::NoText.code();
+    };
+    match cut_str(alloc, text, columns) {
         Ok(cut) => put(cut.as_str(), room),
-        Err(refusal) => refusal.code(),
+        Err(_) => ErrorCode::Memory.code(),
     }
 }
 
@@ -83,8 +111,11 @@ pub extern "C" fn fanlightnard_wrap(
     ensures { Answers (IsWrappedText columns words text.now)
         (IsTextCause text.now (0 < columns)) room.old result room.new }
 {
-    match wrapped_text(alloc, text, columns, words) {
+    let Ok(text) = from_utf8(text) else {
+        return ErrorCode::NoText.code();
+    };
+    match wrap_text(alloc, text, columns, words) {
         Ok(wrapped) => put(wrapped.as_str(), room),
-        Err(refusal) => refusal.code(),
+        Err(_) => ErrorCode::Memory.code(),
     }
 }

@@ -5,16 +5,12 @@
 //! returns the number of bytes needed. A buffer that is too small is left untouched. A negative
 //! result is an error. Everything that a call allocates is freed before it returns.
 //!
-//! - `exports.rt`: the exported functions; `tables.rt`, `texts.rt`: what they return.
+//! - `exports.rt`: the exported functions, and filling the buffer of the caller.
 //! - `arguments.rt`: styles and plans by name and number; `error_code.rt`: error codes.
-//! - `room.rt`: fills the buffer of the caller.
 #![tactic(auto)]
 
 mod arguments;
 mod error_code;
 mod exports;
-mod room;
-mod tables;
-mod texts;
 
 pub use exports::{fanlightnard_cut, fanlightnard_measure, fanlightnard_print, fanlightnard_wrap};

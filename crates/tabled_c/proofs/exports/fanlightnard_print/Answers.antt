@@ -1,0 +1,41 @@
+use Rattle.std.proofs.Common.{inl, inr, refl, rules, string_bytes, subst, sym}
+use Rattle.tabled_c.specs.declared.error_code.ErrorCode.TheVariants.{NoPlan, NoText, Range}
+use Rattle.tabled_c.specs.Printed.{IsAsked, IsTable}
+use Rattle.tabled_c.proofs.Given.{given, passed, text_sent}
+use Rattle.tabled_c.proofs.exports.fanlightnard_print.Goals as goal
+
+pub returns-in_default-plan_of : goal.returns-in_default-plan_of
+returns-in_default-plan_of c =
+    inr (NoPlan, λ plan asks. c.in_default-plan_of.not-Some plan ((c.plan_of.ensures plan).1 asks), record { code = rw c.code-in_default-plan_of.ensures refl; room = refl })
+
+pub returns-in_default-from_utf8 : goal.returns-in_default-from_utf8
+returns-in_default-from_utf8 c =
+    inr (NoText, c.in_default-from_utf8.ensures.cases.0, record { code = rw c.code-in_default-from_utf8.ensures refl; room = refl })
+
+pub returns-in-Ok-render_styled : goal.returns-in-Ok-render_styled
+returns-in-Ok-render_styled c =
+    let a = c.args in
+    let name = c.in-Some.name in
+    let plan = c.in-Some-plan_of.plan in
+    let asked : IsAsked a.text.now a.style.now a.kind a.order a.columns name plan =
+    record { named = (c.in-Some.ensures name).0 refl; asks = (c.in-Some-plan_of.ensures plan).0 refl; utf8 = c.in-Ok.ensures.cases.1 } in
+    let table = given a.text.now a.style.now a.kind a.order a.columns name plan asked c.in-Ok.text.now c.style_of.result c.in-Ok.ensures.cases.0
+    c.style_of.ensures (string_bytes c.new-out.result) (string_bytes c.render_styled.new.sink) c.new-out.ensures.bytes c.in-Ok-render_styled.ensures.rendered in inl (
+      c.as_str.result.now,
+      subst (IsTable a.text.now a.style.now a.kind a.order a.columns) (sym c.as_str.ensures.value) table,
+      record { count = search rules; room = c.put.ensures.room },
+    )
+
+pub returns-in-Err-Range : goal.returns-in-Err-Range
+returns-in-Err-Range c =
+    let a = c.args in
+    let name = c.in-Some.name in
+    let plan = c.in-Some-plan_of.plan in
+    let asked : IsAsked a.text.now a.style.now a.kind a.order a.columns name plan =
+    record { named = (c.in-Some.ensures name).0 refl; asks = (c.in-Some-plan_of.ensures plan).0 refl; utf8 = c.in-Ok.ensures.cases.1 } in inr (
+      Range,
+      passed a.text.now a.style.now a.kind a.order a.columns name plan asked c.in-Ok.text.now c.style_of.result c.in-Ok.ensures.cases.0 c.style_of.ensures
+          (Unit {0}) (text_sent (string_bytes c.new-out.result)) (text_sent (string_bytes c.render_styled.new.sink)) c.in-Err-Range.field-0
+          c.in-Err-Range.field-0-is c.in-Err-Range.ensures.rendered,
+      record { code = rw c.code-in-Err-Range.ensures refl; room = refl },
+    )
