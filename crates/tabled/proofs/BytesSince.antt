@@ -1,16 +1,60 @@
 -- A writer that stays the same, and keeps what it held, while a sink stands before it.
-use Rattle.std.proofs.Common.{◌≡◌, ℕ, ◌≤◌, ◌==◌, ◌&&◌, if◌then◌else◌, Bool, true, false, List, [], ◌∷◌, ◌++◌, take, drop, Option, Some, None, Result, Ok, Err, IfSome, MatchResult, OnOk, refl, sym, ap, subst, ◌∙◌, append-nil, append_assoc, arith, inl, inr, ⊎_elim}
+use Rattle.std.proofs.Common.{◌≡◌, ℕ, ◌≤◌, ◌==◌, ◌&&◌, if◌then◌else◌, Bool, true, false, List, [], ◌∷◌, ◌++◌, take, drop, Option, Some}
+use Rattle.std.proofs.Common.{None, Result, Ok, Err, IfSome, MatchResult, OnOk, refl, sym, ap, subst, ◌∙◌, append-nil, append_assoc, arith}
+use Rattle.std.proofs.Common.{inl, inr, ⊎_elim, ◌+◌, length}
 use Rattle.std.proofs.lemmas.Bool.Decides.{nat_tests}
-use Rattle.std.proofs.lemmas.List.{append_cancel_left}
+use Rattle.std.proofs.lemmas.List.{append_cancel_left, drop-append-le, length-take-le, take-append-drop, take-take}
 use Rattle.std.specs.Io.KnownBytes.{Appends, Keeps, append_known}
 use Rattle.std.specs.Result.{IsErrAnd}
 use Rattle.tabled_base.specs.declared.error.TableError.{TableError}
 use Rattle.tabled_base.specs.declared.error.TableError.TheVariants.{Writer}
 use Rattle.tabled_line.specs.Sent.{IsCause, Rose, Sent, Sends, Stops, Writes}
 use Rattle.tabled_line.proofs.Sending.{Appends-nil, Appends-then, Keeps-same}
-use Rattle.tabled.proofs.Blocks.{delivered, handed_over, kept_waiting}
 use Rattle.tabled.specs.BlockSent.{Advances, Block, begins, block_sent, sent_since, since}
-use Rattle.tabled.specs.Output.{Begins, Puts}
+use Rattle.tabled.specs.Output.{Begins, Puts, Handed}
+use Rattle.std.proofs.Math.Seq.{take-append-add, take-append_seam}
+
+-- ---- bytes that wait behind a writer
+
+-- the writer took n bytes of what waited
+pub handed_over : (a b : Option (List ℕ)) (waiting : List ℕ) (n : ℕ) → Appends a b (take n waiting)
+    → Appends (append_known a waiting) (append_known b (drop n waiting)) []
+handed_over None b waiting n h = tt
+handed_over (Some xs) None waiting n h = h
+handed_over (Some xs) (Some ys) waiting n h =
+    ap (λ u. u ++ drop n waiting) h ∙ append_assoc xs (take n waiting) (drop n waiting)
+    ∙ ap (λ u. xs ++ u) (take-append-drop n waiting) ∙ sym (append-nil (xs ++ waiting))
+
+-- it took none
+pub kept_waiting : (a b : Option (List ℕ)) (waiting : List ℕ) → Keeps a b → Appends (append_known a waiting) (append_known b waiting) []
+kept_waiting None b waiting h = tt
+kept_waiting (Some xs) None waiting h = h
+kept_waiting (Some xs) (Some ys) waiting h = ap (λ u. u ++ waiting) h ∙ sym (append-nil (xs ++ waiting))
+
+-- nothing waited before, and nothing waits now: the writer took all
+pub delivered : (a b : Option (List ℕ)) (before behind text : List ℕ) → before ≡ [] → behind ≡ []
+    → Appends (append_known a before) (append_known b behind) text → Appends a b text
+delivered None b before behind text e f h = tt
+delivered (Some xs) None before behind text e f h = h
+delivered (Some xs) (Some ys) before behind text e f h =
+    sym (append-nil ys) ∙ ap (λ u. ys ++ u) (sym f) ∙ h ∙ ap (λ u. (xs ++ u) ++ text) e ∙ ap (λ u. u ++ text) (append-nil xs)
+
+-- bytes that were copied behind those that are used wait behind the others
+pub held_more : (taken used size : ℕ) (items place more copied rest tail : List ℕ) → taken ≤ used → used ≤ length place → used + length more ≤ size
+    → place ≡ items → copied ≡ more
+    → drop taken (take (used + length more) (take size ((take used place ++ (copied ++ rest)) ++ tail))) ≡ drop taken (take used items) ++ more
+held_more taken used size items place more copied rest tail t u v e f =
+    let front = take used place in
+    let long : length front ≡ used = length-take-le used place u in
+    let whole : take (used + length more) (front ++ (more ++ (rest ++ tail))) ≡ front ++ more =
+    ap (λ n. take (n + length more) (front ++ (more ++ (rest ++ tail)))) (sym long) ∙ take-append-add front (more ++ (rest ++ tail)) (length more)
+    ∙ ap (λ w. front ++ w) (take-append_seam more (rest ++ tail)) in
+    let same : (front ++ (copied ++ rest)) ++ tail ≡ front ++ (more ++ (rest ++ tail)) =
+    append_assoc front (copied ++ rest) tail ∙ ap (λ w. front ++ w) (append_assoc copied rest tail) ∙ ap (λ c. front ++ (c ++ (rest ++ tail))) f in
+    ap (drop taken) (take-take (used + length more) size ((front ++ (copied ++ rest)) ++ tail) v ∙ ap (take (used + length more)) same ∙ whole)
+    ∙ drop-append-le taken front more (omega (arith, long)) ∙ ap (λ p. drop taken (take used p) ++ more) e
+
+-- ---- a writer that stays the same
 
 pub advances_none : (a : Block) → Advances a a
 advances_none a = record { same = refl; more = []; added = Appends-nil a.contents a.contents (Keeps-same a.contents) }
@@ -21,6 +65,19 @@ advances_then a b c p q = record {
   more = p.more ++ q.more;
   added = Appends-then a.contents b.contents c.contents p.more q.more p.added q.added;
 }
+
+-- bytes that were buffered behind the others
+known_more : (c : Option (List ℕ)) (waits text : List ℕ) → Appends (append_known c waits) (append_known c (waits ++ text)) text
+known_more None waits text = tt
+known_more (Some xs) waits text = sym (append_assoc xs waits text)
+
+pub buffered : (a : Block) (waits text : List ℕ) → waits ≡ a.waiting ++ text → Sends (block_sent a) (block_sent (record a { waiting = waits })) text
+buffered a waits text e =
+    let P : List ℕ → Type 0 = λ w. Sends (block_sent a) (block_sent (record a { waiting = w })) text in
+    subst P (sym e) (record { added = known_more a.contents a.waiting text; counted = omega arith; alike = refl })
+
+pub waits : (a : Block) (more : List ℕ) → Advances a (record a { waiting = more })
+waits a more = record { same = refl; more = []; added = Appends-nil a.contents a.contents (Keeps-same a.contents) }
 
 -- ---- beginnings
 
@@ -286,3 +343,22 @@ puts_from old same new r text e h = let P : Option (List ℕ) → Type 0 = λ c.
 pub puts_err : {T E : Type 0} (old new : Option (List ℕ)) (r : Result T E) (e : E) (text : List ℕ) → r ≡ Err e
     → Begins old new text → Puts old r new text
 puts_err {T} {E} old new r e text h b = let P : Result T E → Type 0 = λ x. Puts old x new text in subst P (sym h) b
+
+-- ---- lines that a writer is handed
+
+pub handed_more : (a b c : Option (List ℕ)) (text rest next : List ℕ) (n : ℕ) → Handed a b text rest → Appends b c (take n rest) → next ≡ drop n rest
+    → Handed a c text next
+handed_more a b c text rest next n h took e = record {
+  front = h.front ++ take n rest;
+  whole = append_assoc h.front (take n rest) next ∙ ap (λ u. h.front ++ (take n rest ++ u)) e ∙ ap (λ u. h.front ++ u) (take-append-drop n rest) ∙ h.whole;
+  added = Appends-then a b c h.front (take n rest) h.added took;
+}
+
+-- a writer that took nothing more
+pub handed_part : (a b c : Option (List ℕ)) (text rest : List ℕ) → Handed a b text rest → Keeps b c → Begins a c text
+handed_part a b c text rest h keeps = record {
+  front = h.front;
+  rest = rest;
+  whole = h.whole;
+  added = subst (Appends a c) (append-nil h.front) (Appends-then a b c h.front [] h.added (Appends-nil b c keeps));
+}

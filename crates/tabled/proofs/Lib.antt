@@ -1,8 +1,5 @@
-pub mod Blocks
-pub mod Failing
 pub mod FittedTables
 pub mod LowTables
-pub mod Narrowings
 pub mod Noting
 pub mod Outputs
 pub mod PlannedTables
@@ -11,6 +8,4 @@ pub mod RenderedTables
 pub mod BytesSince
 pub mod Spelling
 pub mod StreamedTables
-pub mod Knowing
-pub mod TextLines
 pub mod TextTables

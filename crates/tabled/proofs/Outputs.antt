@@ -1,5 +1,6 @@
 -- The output of a text, and beginnings of it.
-use Rattle.std.proofs.Common.{◌≡◌, ◌⊎◌, ℕ, Bool, List, [], ◌++◌, Option, Result, Ok, Err, refl, sym, ap, ◌∙◌, subst, append_assoc, inl, inr, ⊎_elim}
+use Rattle.std.proofs.Common.{◌≡◌, ◌⊎◌, ℕ, Bool, List, [], ◌++◌, Option, Result, Ok, Err, refl, sym, ap, ◌∙◌, subst, append_assoc, inl, inr}
+use Rattle.std.proofs.Common.{⊎_elim, ◌∷◌, IfErr, IfSome}
 use Rattle.std.specs.Prelude.{MatchResult}
 use Rattle.std.specs.Result.{IsErrAnd}
 use Rattle.tabled_base.specs.declared.error.TableError.{TableError}
@@ -9,11 +10,18 @@ use Rattle.tabled_grid.specs.Picture.{table_text}
 use Rattle.tabled_line.specs.Sent.{IsCause, Sent, Writes}
 use Rattle.tabled.specs.declared.plan.Plan.{Plan}
 use Rattle.tabled.specs.Headline.{IsBestPlanned}
-use Rattle.tabled.specs.Output.{IsBegunOn, IsOutput, Overflows, PutsOutput, with_feed}
+use Rattle.tabled.specs.Output.{IsBegunOn, IsOutput, Overflows, PutsOutput, with_feed, Begins}
 use Rattle.tabled.specs.Planned.{IsPlanned}
 use Rattle.tabled.specs.Rendered.{BreaksOff, Halts, IsRendered, SendsTable}
-use Rattle.tabled.proofs.BytesSince.{begun_none}
+use Rattle.tabled.specs.BlockSent.{Advances, Block, block_sent, sent_since}
+use Rattle.tabled.proofs.BytesSince.{begun_none, left, left_advances}
 use Rattle.tabled.proofs.TextTables.{feed_whole}
+use Rattle.std.specs.Io.KnownBytes.{Appends}
+use Rattle.tabled.specs.Faults.{fault_of}
+use Rattle.tabled.specs.Runs.{HasFailed, HasRead}
+use Rattle.tabled.specs.Arguments.{SpellsPlan}
+use Rattle.tabled.specs.declared.fault.Fault.{Fault}
+use Rattle.tabled_base.specs.declared.error.TableError.TheVariants as refusal
 
 -- in the middle of an output, memory is refused or the writer fails
 uncaused : {A : Type 0} (plan : Plan) (e : TableError) → (e ≡ Memory → ⊥) → (⊥ ⊎ Halts plan e) → A
@@ -80,3 +88,41 @@ output_refused R plan text old new e r i h =
     ⊎_elim (λ m. subst P (sym m.1) (output_none plan text old.bytes e r i m.0))
     (λ k. ⊎_elim (λ q. subst P (sym q.1) (output_over plan text old.bytes e r i q.0 q.2)) (λ b. output_begun plan text old new e r i b) k.1)
     h
+
+-- what was printed to a block whose writer is known at the start
+pub since_put : {T : Type 0} (plan : Plan) (text : List ℕ) (name : ℕ) (held : List ℕ) (a b : Block) (r : Result T TableError) → a.name ≡ name
+    → IfSome a.contents (λ xs. xs ≡ held) → PutsOutput plan text (sent_since name held a).bytes r (sent_since name held b).bytes
+    → PutsOutput plan text (block_sent a).bytes r (block_sent b).bytes × IfSome a.contents (λ _. Advances a b)
+since_put plan text name held a b r e k h =
+    let all = left name held a b r h.output e k h.puts in
+    (record { output = h.output; is_output = h.is_output; puts = all.put }, left_advances a b r h.output all)
+
+-- ---- runs that failed, and what they leave
+
+front_none : (xs ys : List ℕ) → xs ++ ys ≡ [] → xs ≡ []
+front_none [] ys h = refl
+front_none (x ∷ xs) ys h = let bad : ⊥ = cc in absurd bad
+
+-- a beginning of nothing
+begun_nothing : (a b : Option (List ℕ)) (output : List ℕ) → output ≡ [] → Begins a b output → Appends a b []
+begun_nothing a b output e h = subst (Appends a b) (front_none h.front h.rest (h.whole ∙ e)) h.added
+
+-- by the refusal
+pub failed_by : {O : Type 0} (contents : O → Option (List ℕ)) (words : List (List ℕ)) (old left : Option (List ℕ)) (out now : O) (plan : Plan)
+    (text output : List ℕ) (e : TableError) → SpellsPlan words plan → HasRead old left text → IsBegunOn plan text output e
+    → Begins (contents out) (contents now) output → HasFailed contents words old left out now (fault_of e)
+failed_by contents words old left out now plan text output refusal.Memory s input b h =
+    ⊎_elim (λ n. inl (begun_nothing (contents out) (contents now) output n h))
+    (λ o. inr (plan, s, record { text = text; input = input; output = output; is_output = o; begun = h })) b
+failed_by contents words old left out now plan text output refusal.ShortWidths s input b h = absurd b
+failed_by contents words old left out now plan text output refusal.ShortHeights s input b h = absurd b
+failed_by contents words old left out now plan text output (refusal.Narrow row column) s input b h = absurd b
+failed_by contents words old left out now plan text output refusal.Range s input b h =
+    (plan, s, record { text = text; input = input; overflows = b.1; kept = begun_nothing (contents out) (contents now) output b.0 h })
+failed_by contents words old left out now plan text output refusal.Writer s input b h =
+    (plan, s, record { text = text; input = input; output = output; is_output = b; begun = h })
+
+-- a refusal that is one of the program's faults
+pub if_failed : {T : Type 0} (P : Fault → Type 0) (r : Result T Fault) (fault : Fault) → IsErrAnd r (λ d. d ≡ fault) → P fault → IfErr r P
+if_failed P (Ok x) fault i h = absurd i
+if_failed P (Err d) fault i h = subst P (sym i) h

@@ -28,9 +28,8 @@ use Rattle.tabled_text.proofs.StayLemmas.{IsAdditive-stays, StaysWithin-none}
 use Rattle.tabled.specs.declared.plan.Plan.{Plan}
 use Rattle.tabled.specs.declared.plan.Plan.TheVariants.{Buffered}
 use Rattle.tabled.specs.Headline.{IsBestOf, KeepsApart}
-use Rattle.tabled.specs.Narrowing.{IsMade}
 use Rattle.tabled.specs.Planned.{Cells, FitsInto, IsNarrowedTo, IsPlannedOf}
-use Rattle.tabled.specs.Rendered.{BreaksOff, IsRenderedOf, PassesRange, PrintsPlanned}
+use Rattle.tabled.specs.Rendered.{BreaksOff, IsMade, IsRenderedOf, PassesRange, PrintsPlanned}
 
 -- ---- cells that were changed are as many
 

@@ -130,15 +130,7 @@ module _ (cells : Cells) (config : SpannedConfig) (e : is_empty cells ≡ true) 
 
 -- what is told of a whole table is told of the new one, whose settings keep texts apart
 best_new : (plan : Plan) (cells : Cells) (t : Sheet) → IsBestOf plan (new_sheet cells) t → IsBestPlanned plan cells t
-best_new plan cells t b = record {
-  edges = b.edges new_apart;
-  lines = b.lines;
-  total = b.total;
-  least = b.least;
-  fewest = b.fewest;
-  longest = b.longest;
-  alike = b.alike;
-}
+best_new plan cells t b = record { edges = b.edges new_apart; best = b }
 
 -- under each other plan all is measured before it is printed
 pub measured_same : (plan : Plan) → (plan ≡ Streamed → ⊥) → measured plan ≡ plan

@@ -192,17 +192,21 @@ module _ (cells : Cells) (full : is_empty cells ≡ false) (rectangular : IsRect
     streamed_best t s =
         let e = new_spanned_is c n in
         let apart = subst (λ g. IsApartConfig g (length t.cells) (columns t.cells)) (sym (s.settings_of ∙ e)) (new_apart (length t.cells) (columns t.cells)) in
+        let edges = sheet_texts t (streamed_rectangular s) apart (streamed_texts s) (streamed_holds s) in
         record {
-          edges = sheet_texts t (streamed_rectangular s) apart (streamed_texts s) (streamed_holds s);
-          lines = sheet_lines t;
-          total = tt;
-          least = tt;
-          fewest = tt;
-          longest = tt;
-          alike = λ exact.
-              let whole : sniffed (all_ahead cells) cells ≡ cells = all-sniffed measured in
-              like_table (like exact) c t (subst (λ x. IsStreamed (all_ahead cells) c x cells t) (sym whole) s)
-              ∙ ap (λ g. record { cells = cells; config = g; widths = estimated_widths cells g; heights = estimated_heights cells g }) e;
+          edges = edges;
+          best = record {
+            edges = λ _. edges;
+            lines = sheet_lines t;
+            total = tt;
+            least = tt;
+            fewest = tt;
+            longest = tt;
+            alike = λ exact.
+                let whole : sniffed (all_ahead cells) cells ≡ cells = all-sniffed measured in
+                like_table (like exact) c t (subst (λ x. IsStreamed (all_ahead cells) c x cells t) (sym whole) s)
+                ∙ ap (λ g. record { cells = cells; config = g; widths = estimated_widths cells g; heights = estimated_heights cells g }) e;
+          };
         }
 
     -- where the width is in range, all is: a row is a line with a line above it, and few enough rows stand in memory

@@ -77,12 +77,7 @@ pub record IsBestOf (plan : Plan) (whole t : Sheet) : Type 0 where
   pub longest : HasLongestBeginnings plan whole t
   pub alike : IsAsBuffered plan whole t
 
--- the same properties of a new table, whose settings separate cells
+-- the same properties of a new table; its settings separate cells, so each line takes the total width
 pub record IsBestPlanned (plan : Plan) (cells : Cells) (t : Sheet) : Type 0 where
   pub edges : EachLineTakes (total_width t) (picture t)
-  pub lines : length (picture t) ≡ total_height t
-  pub total : HasWantedTotal plan (new_sheet cells) t
-  pub least : HasLeastGreatestWidth plan (new_sheet cells) t
-  pub fewest : HasFewestBreaks plan (new_sheet cells) t
-  pub longest : HasLongestBeginnings plan (new_sheet cells) t
-  pub alike : IsAsBuffered plan (new_sheet cells) t
+  pub best : IsBestOf plan (new_sheet cells) t

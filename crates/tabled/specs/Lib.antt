@@ -1,7 +1,6 @@
 pub mod BlockSent
 pub mod Faults
 pub mod Headline
-pub mod Narrowing
 pub mod Noted
 pub mod OrderLaws
 pub mod Orders

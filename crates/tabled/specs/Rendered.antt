@@ -6,6 +6,7 @@ use Rattle.tabled_base.specs.declared.error.TableError.TheVariants.{Memory, Rang
 use Rattle.tabled_grid.specs.Picture.{table_text}
 use Rattle.tabled_grid.specs.Printed.{IsOutOfRange, IsPrintable}
 use Rattle.tabled_line.specs.Sent.{IsCause, Sends, Sent}
+use Rattle.tabled_size.specs.Holds.{Holds, IsSized}
 use Rattle.tabled_size.specs.Sheet.{Sheet, is_empty}
 use Rattle.tabled_table.specs.TableSheet.{new_sheet}
 use Rattle.tabled.specs.declared.plan.Plan.{Plan}
@@ -65,3 +66,12 @@ IsRendered plan cells old result new =
 -- what rendering a whole table under any settings leaves, if it is measured before it is printed
 abbrev pub IsRenderedOf : {T : Type 0} → Plan → Sheet → Sent → Result T TableError → Sent → Type 0
 IsRenderedOf plan whole old result new = PrintsPlanned (IsPlannedOf plan whole) (IsBestOf plan whole) (λ error. ⊥) whole old result new
+
+-- a table that a plan makes of a whole one, with all properties of `IsBestOf`, and ready to be
+-- printed
+pub record IsMade (plan : Plan) (whole t : Sheet) : Type 0 where
+  pub planned : IsPlannedOf plan whole t
+  pub best : IsBestOf plan whole t
+  pub same : is_empty t.cells ≡ is_empty whole.cells
+  pub sized : IsSized t
+  pub holds : Holds t

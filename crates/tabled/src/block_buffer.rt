@@ -6,19 +6,6 @@ use std::alloc::{AllocError, Global};
 /// The size of the buffer, in bytes.
 pub(crate) const BLOCK: usize = 1 << 16;
 
-/// Copies bytes to a slice of the same length. A single byte, the most frequent case, is stored
-/// directly.
-#[inline(always)]
-fn copy(to: &mut [u8], bytes: &[u8])
-    requires { length to.old ≡ length bytes.now }
-    ensures { to.new ≡ bytes.now }
-{
-    match bytes {
-        [byte] => to[0] = *byte,
-        _ => to.copy_from_slice(bytes),
-    }
-}
-
 /// A buffer of `BLOCK` bytes. The first `used` are filled, and the writer took the first `taken`.
 #[derive(Drop)]
 pub(crate) struct BlockBuffer {
@@ -76,14 +63,19 @@ impl BlockBuffer {
         self.used = 0;
     }
 
-    /// Appends bytes, which must fit.
+    /// Appends bytes, which must fit. A single byte, the most frequent case, is stored directly.
     #[inline(always)]
     pub fn add(&mut self, bytes: &[u8])
         requires room { self.old.used + length bytes.now ≤ BLOCK }
         ensures added { waiting self.new ≡ waiting self.old ++ bytes.now }
     {
+        if let [byte] = bytes {
+            self.bytes[self.used] = *byte;
+            self.used += 1;
+            return;
+        }
         let end = self.used + bytes.len();
-        copy(&mut self.bytes[self.used..end], bytes);
+        self.bytes[self.used..end].copy_from_slice(bytes);
         self.used = end;
     }
 }

@@ -1,7 +1,7 @@
 //! A sink that writes in blocks.
-ghost use Rattle.std.specs.Prelude.{◌≡◌, ◌+◌, ◌<◌, ◌≤◌, ℕ, List, [], IfErr, OnOk, length};
+ghost use Rattle.std.specs.Prelude.{◌≡◌, ℕ, List, [], IfErr, OnOk};
 ghost use Rattle.tabled_base.specs.declared.error.TableError.TheVariants.{Writer};
-ghost use Rattle.tabled_line.specs.Sent.{Rose, Sends, Writes};
+ghost use Rattle.tabled_line.specs.Sent.{Rose, Writes};
 ghost use Rattle.tabled.specs.BlockSent.{Advances, Block, block, block_sent, sent_since, waiting};
 
 use crate::block_buffer::{BLOCK, BlockBuffer};
@@ -68,30 +68,6 @@ impl<'a, W: Write> BlockSink<'a, W> {
         Ok(())
     }
 
-    /// Makes room for at least one byte, by writing a full buffer.
-    fn make_room(&mut self) -> Result<(), TableError>
-        ensures written { Writes (block_sent (block W.contents self.old)) result
-            (block_sent (block W.contents self.new)) [] }
-        ensures advanced { Advances (block W.contents self.old) (block W.contents self.new) }
-        ensures room { OnOk result (self.new.held.now.used < BLOCK) }
-    {
-        if self.held.len() < BLOCK {
-            return Ok(());
-        }
-        self.flush_block()
-    }
-
-    /// Buffers bytes, which must fit.
-    #[inline(always)]
-    fn buffer_bytes(&mut self, bytes: &[u8])
-        requires room { self.old.held.now.used + length bytes.now ≤ BLOCK }
-        ensures written { Sends (block_sent (block W.contents self.old))
-            (block_sent (block W.contents self.new)) bytes.now }
-        ensures advanced { Advances (block W.contents self.old) (block W.contents self.new) }
-    {
-        self.held.add(bytes);
-    }
-
     /// Buffers bytes of any length, and writes each full buffer.
     #[inline(never)]
     fn buffer_parts(&mut self, bytes: &[u8]) -> Result<(), TableError>
@@ -100,14 +76,31 @@ impl<'a, W: Write> BlockSink<'a, W> {
         ensures advanced { Advances (block W.contents self.old) (block W.contents self.new) }
     {
         let mut rest = bytes;
-        'pieces: while !rest.is_empty() {
-            self.make_room()?;
+        'pieces: loop {
             let room = BLOCK - self.held.len();
-            let (front, back) = rest.split_at(room.min(rest.len()));
-            self.buffer_bytes(front);
+            if rest.len() <= room {
+                self.held.add(rest);
+                return Ok(());
+            }
+            let (front, back) = rest.split_at(room);
+            self.held.add(front);
+            self.flush_block()?;
             rest = back;
         }
-        Ok(())
+    }
+
+    /// Adds a text as a `TextSink` does.
+    #[inline(always)]
+    fn add_text(&mut self, text: &str) -> Result<(), TableError>
+        ensures written { Writes (block_sent (block W.contents self.old)) result
+            (block_sent (block W.contents self.new)) text.now }
+        ensures advanced { Advances (block W.contents self.old) (block W.contents self.new) }
+    {
+        if self.held.len() + text.len() <= BLOCK {
+            self.held.add(text.as_bytes());
+            return Ok(());
+        }
+        self.buffer_parts(text.as_bytes())
     }
 
     /// Writes all buffered bytes, and flushes the writer.
@@ -126,31 +119,6 @@ impl<'a, W: Write> BlockSink<'a, W> {
     }
 }
 
-/// A sink whose writer the proof can name, with the writer's contents.
-pub(crate) trait SinkOverWriter {
-    // The writer, and the buffered bytes.
-    ghost block: { Self → Block };
-
-    /// Adds a text as a `TextSink` does. The writer stays the same, and keeps its contents.
-    fn add_text(&mut self, text: &str) -> Result<(), TableError>
-        ensures written { Writes (block_sent (block self.old)) result
-            (block_sent (block self.new)) text.now }
-        ensures advanced { Advances (block self.old) (block self.new) };
-}
-
-impl<'a, W: Write> SinkOverWriter for BlockSink<'a, W> {
-    ghost block = { block W.contents };
-
-    #[inline(always)]
-    fn add_text(&mut self, text: &str) -> Result<(), TableError> {
-        if self.held.len() + text.len() <= BLOCK {
-            self.buffer_bytes(text.as_bytes());
-            return Ok(());
-        }
-        self.buffer_parts(text.as_bytes())
-    }
-}
-
 /// A writer as it was before a sink used it.
 pub(crate) trait WriterStart {
     // The name of the reference to the writer.
@@ -166,15 +134,16 @@ impl WriterStart for Brand {
     ghost held = { [] };
 }
 
-/// A sink whose bytes are known as long as its writer is the one of `B` and still has its contents.
+/// A block sink whose bytes are known as long as its writer is the one of `B` and still has its
+/// contents.
 #[derive(Drop)]
-pub(crate) struct BytesSince<S, B> {
-    pub sink: S,
+pub(crate) struct BytesSince<'a, W, B> {
+    pub sink: BlockSink<'a, W>,
     pub start: PhantomData<B>,
 }
 
-impl<S: SinkOverWriter, B: WriterStart> TextSink for BytesSince<S, B> {
-    ghost sent = { λ s. sent_since B.name B.held (S.block s.sink) };
+impl<'a, W: Write, B: WriterStart> TextSink for BytesSince<'a, W, B> {
+    ghost sent = { λ s. sent_since B.name B.held (block W.contents s.sink) };
 
     #[inline(always)]
     fn write_text(&mut self, text: &str) -> Result<(), TableError> {

@@ -1,13 +1,11 @@
 //! Why a run of the program failed.
 ghost use Rattle.std.specs.Prelude.{◌≡◌};
-ghost use Rattle.tabled.specs.Faults.{fault_of, word_of};
+ghost use Rattle.tabled.specs.Faults.{fault_of, line_of, word_of};
 
 use tabled_base::TableError;
-use thiserror::Error;
 
 /// A failure, with its message.
-#[derive(Debug, Drop, Error)]
-#[error("{}", self.word())]
+#[derive(Debug, Drop)]
 pub(crate) enum Fault {
     /// The arguments are wrong.
     Usage,
@@ -22,21 +20,21 @@ pub(crate) enum Fault {
 }
 
 impl Fault {
-    /// Returns the message: the name of the failure, or the usage.
-    pub fn word(&self) -> &'static str
-        ensures { result.now ≡ word_of self.now }
+    /// Returns the message as a line: the name of the failure, or the usage.
+    pub fn line(&self) -> &'static str
+        ensures { result.now ≡ line_of (word_of self.now) }
     {
         match self {
             Fault::Usage => {
-                "usage: tabprint [--wrap N | --cut N] [--priority none|min|max|left|right] [--words] [--stream]"
+                "usage: tabprint [--wrap N | --cut N] [--priority none|min|max|left|right] [--words] [--stream]\n"
             }
-            Fault::Input => "Input",
-            Fault::Memory => "Memory",
-            Fault::ShortWidths => "ShortWidths",
-            Fault::ShortHeights => "ShortHeights",
-            Fault::Narrow => "Narrow",
-            Fault::Range => "Range",
-            Fault::Writer => "Writer",
+            Fault::Input => "Input\n",
+            Fault::Memory => "Memory\n",
+            Fault::ShortWidths => "ShortWidths\n",
+            Fault::ShortHeights => "ShortHeights\n",
+            Fault::Narrow => "Narrow\n",
+            Fault::Range => "Range\n",
+            Fault::Writer => "Writer\n",
         }
     }
 }

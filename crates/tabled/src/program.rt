@@ -5,15 +5,15 @@ ghost use Rattle.std.specs.Io.KnownBytes.{IsAtEnd};
 ghost use Rattle.tabled.specs.declared.fault.Fault.{Fault};
 ghost use Rattle.tabled.specs.declared.fault.Fault.TheVariants.{Input, Memory, Usage};
 ghost use Rattle.tabled.specs.declared.plan.Plan.{Plan};
-ghost use Rattle.tabled.specs.BlockSent.{Advances, block_sent};
+ghost use Rattle.tabled.specs.BlockSent.{Advances, block, block_sent};
 ghost use Rattle.tabled.specs.Faults.{line_of, usage, word_of};
-ghost use Rattle.tabled.specs.Output.{Begins, Puts, PutsOutput};
+ghost use Rattle.tabled.specs.Output.{Begins, PutsOutput};
 ghost use Rattle.tabled.specs.Runs.{HasFailed, HasPrinted, HasRead};
 ghost use Rattle.tabled.specs.Arguments.{SpellsPlan};
 
 use crate::arguments::plan_of;
 use crate::block_buffer::BlockBuffer;
-use crate::block_sink::{BlockSink, BytesSince, SinkOverWriter, WriterStart};
+use crate::block_sink::{BlockSink, BytesSince, WriterStart};
 use crate::fault::Fault;
 use crate::plan::Plan;
 use crate::rendering::render;
@@ -66,41 +66,34 @@ fn read_text<I: Read>(alloc: Global, input: &mut I) -> Result<String, Fault>
     Ok(unsafe { String::from_utf8_unchecked(bytes) })
 }
 
-/// Prints a text as a table under a plan. Ends with a line feed, unless the text is empty.
-fn print_output<S: TextSink>(
-    alloc: Global,
-    text: &str,
-    plan: Plan,
-    sink: &mut S,
-) -> Result<(), TableError>
-    ensures { PutsOutput plan text.now (S.sent sink.old).bytes result (S.sent sink.new).bytes }
-{
-    render(alloc, text, plan, sink)?;
-    if text.is_empty() {
-        return Ok(());
-    }
-    sink.write_text("\n")
-}
-
-/// Prints a text to a block of bytes as `print_output` does, and returns the block.
-fn print_blocked<S: SinkOverWriter, B: WriterStart>(
+/// Prints a text as a table under a plan, and a line feed unless the text is empty. Returns the
+/// sink with the bytes that are still buffered.
+fn print_blocked<'a, W: Write, B: WriterStart>(
     alloc: Global,
     text: &String,
     plan: Plan,
-    sink: S,
-) -> (Result<(), TableError>, S)
-    requires name { (S.block sink).name ≡ B.name }
-    requires held { IfSome (S.block sink).contents (λ held. held ≡ B.held) }
-    ensures put { PutsOutput plan (string_bytes text.now) (block_sent (S.block sink)).bytes result.0
-        (block_sent (S.block result.1)).bytes }
-    ensures advanced { IfSome (S.block sink).contents
-        (λ _. Advances (S.block sink) (S.block result.1)) }
+    sink: BlockSink<'a, W>,
+) -> (Result<(), TableError>, BlockSink<'a, W>)
+    requires name { (block W.contents sink).name ≡ B.name }
+    requires held { IfSome (block W.contents sink).contents (λ held. held ≡ B.held) }
+    ensures put { PutsOutput plan (string_bytes text.now) (block_sent (block W.contents sink.entry)).bytes
+        result.0 (block_sent (block W.contents result.1)).bytes }
+    ensures advanced { IfSome (block W.contents sink.entry).contents
+        (λ _. Advances (block W.contents sink.entry) (block W.contents result.1)) }
 {
-    let mut since: BytesSince<S, B> = BytesSince {
+    let mut since: BytesSince<'a, W, B> = BytesSince {
         sink,
         start: PhantomData,
     };
-    let result = print_output(alloc, text.as_str(), plan, &mut since);
+    let text = text.as_str();
+    match render(alloc, text, plan, &mut since) {
+        Ok(()) => {}
+        Err(error) => return (Err(error), since.sink),
+    }
+    if text.is_empty() {
+        return (Ok(()), since.sink);
+    }
+    let result = since.write_text("\n");
     (result, since.sink)
 }
 
@@ -116,7 +109,7 @@ fn print_through<O: Write>(
 {
     let mut held = BlockBuffer::new(alloc)?;
     let sink = BlockSink::new(out, &mut held);
-    let (result, mut sink) = print_blocked::<BlockSink<'_, O>, Brand>(alloc, text, plan, sink);
+    let (result, mut sink) = print_blocked::<O, Brand>(alloc, text, plan, sink);
     let result = match result {
         Ok(()) => sink.finish(),
         Err(error) => Err(error),
@@ -153,38 +146,16 @@ fn attempt<I: Read, O: Write>(
     Ok(())
 }
 
-/// Writes a text, and fails at the first error, `Interrupted` too.
-fn write_once<W: Write>(text: &str, writer: &mut W) -> Result<(), TableError>
-    ensures { Puts (W.contents writer.old) result (W.contents writer.new) text.now }
+/// Writes a text, up to the first error, `Interrupted` too.
+fn write_once<W: Write>(text: &str, writer: &mut W)
+    ensures { Begins (W.contents writer.old) (W.contents writer.new) text.now }
 {
     let mut rest = text.as_bytes();
     'taken: while !rest.is_empty() {
         match writer.write(rest) {
             Ok(n) if n > 0 => rest = rest.split_at(n).1,
-            _ => return Err(TableError::Writer),
+            _ => return,
         }
-    }
-    Ok(())
-}
-
-/// Writes a text and a line feed as `write_once` does.
-fn write_line_once<W: Write>(word: &str, writer: &mut W) -> Result<(), TableError>
-    ensures { Puts (W.contents writer.old) result (W.contents writer.new) (line_of word.now) }
-{
-    write_once(word, writer)?;
-    write_once("\n", writer)
-}
-
-/// Writes the message of a failure as one line, and returns the exit status.
-pub(crate) fn report<E: Write>(fault: &Fault, err: &mut E) -> u8
-    ensures usage { result ≡ 2 ↔ (fault.now ≡ Fault.Usage) }
-    ensures range { (1 ≤ result) × (result ≤ 2) }
-    ensures told { Begins (E.contents err.old) (E.contents err.new) (line_of (word_of fault.now)) }
-{
-    let _ = write_line_once(fault.word(), err);
-    match fault {
-        Fault::Usage => 2,
-        _ => 1,
     }
 }
 
@@ -227,8 +198,12 @@ pub fn run<I: Read, O: Write, E: Write>(
     ensures silent { result ≡ 0 → err.new ≡ err.old }
     ensures shown { result ≡ 2 → Begins (E.contents err.old) (E.contents err.new) (line_of usage) }
 {
-    match attempt(alloc, words, input, out) {
-        Ok(()) => 0,
-        Err(fault) => report(&fault, err),
+    let Err(fault) = attempt(alloc, words, input, out) else {
+        return 0;
+    };
+    write_once(fault.line(), err);
+    match fault {
+        Fault::Usage => 2,
+        _ => 1,
     }
 }

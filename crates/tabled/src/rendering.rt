@@ -1,25 +1,21 @@
 //! `render`: prints a text as a table, and narrows it by wrapping or truncating its cells.
-ghost use Rattle.std.specs.Prelude.{◌≡◌, ◌⊎◌, [], IfErr, IfOk, MatchOption, false, length};
+ghost use Rattle.std.specs.Prelude.{◌≡◌, ◌⊎◌, IfErr, IfOk, false, length};
 ghost use Rattle.std.specs.List.{All};
 ghost use Rattle.tabled_text.specs.Measure.{lines_of};
 ghost use Rattle.tabled_base.specs.Cells.{IsRectangular};
 ghost use Rattle.tabled_base.specs.declared.error.TableError.TheVariants.{Memory, Range, Writer};
 ghost use Rattle.tabled_config.specs.Options.{with_style};
-ghost use Rattle.tabled_set.specs.declared.suffix.SuffixLimit.TheVariants.{Cut};
 ghost use Rattle.tabled_grid.specs.Printed.{IsOutOfRange};
-ghost use Rattle.tabled_line.specs.Sent.{Sent};
 ghost use Rattle.tabled_records.specs.TextRows.{text_rows};
 ghost use Rattle.tabled_size.specs.Effective.{effective};
 ghost use Rattle.tabled_size.specs.Sheet.{estimated, is_empty};
 ghost use Rattle.tabled_size.specs.TextCells.{AreTexts};
 ghost use Rattle.tabled_table.specs.NewConfig.{new_config};
-ghost use Rattle.tabled.specs.declared.plan.Plan.TheVariants.{Buffered, Shortened, Wrapped};
-ghost use Rattle.tabled.specs.Narrowing.{IsMade, plan_of};
 ghost use Rattle.tabled.specs.Planned.{measured};
-ghost use Rattle.tabled.specs.Rendered.{IsRendered, IsRenderedOf};
+ghost use Rattle.tabled.specs.Rendered.{IsMade, IsRendered, IsRenderedOf};
 
 use crate::order_priority::OrderPriority;
-use crate::plan::{Order, Plan};
+use crate::plan::Plan;
 use std::alloc::Global;
 use tabled_base::{
     CellText, ExactRecords, PeekableRecords, RecordsMut, TableError, TableOption, VecRecords,
@@ -31,126 +27,50 @@ use tabled_set::{Truncate, Wrap};
 use tabled_size::CompleteDimension;
 use tabled_table::{IterTable, new_config};
 
-/// What happens to cells that are wider than their columns.
-#[derive(Clone, Copy)]
-enum Fit {
-    /// Wraps them, between words if `keep_words`.
-    Wrap { keep_words: bool },
-    /// Truncates them, without a suffix.
-    Truncate,
-}
-
-/// How a table is narrowed.
-#[derive(Clone, Copy)]
-struct Narrowing {
-    /// The greatest total width, in columns.
-    target: usize,
-    fit: Fit,
-    /// The order in which its columns shrink.
-    order: Order,
-}
-
-impl Narrowing {
-    /// Returns how a plan narrows a table; `None` if it doesn't.
-    fn of(plan: Plan) -> Option<Narrowing>
-        ensures { MatchOption result (measured plan ≡ Buffered)
-            (λ how. plan_of how ≡ measured plan) }
-    {
-        match plan {
-            Plan::Buffered | Plan::Streamed => None,
-            Plan::Wrapped {
-                target,
-                words,
-                order,
-            } => Some(Narrowing {
-                target,
-                fit: Fit::Wrap { keep_words: words },
-                order,
-            }),
-            Plan::Shortened { target, order } => Some(Narrowing {
-                target,
-                fit: Fit::Truncate,
-                order,
-            }),
-        }
-    }
-
-    /// Returns the option that wraps.
-    fn wrap(self, keep_words: bool) -> Wrap<usize, OrderPriority>
-        ensures plan { Wrapped result.size result.transform.keep_words result.priority.order
-            ≡ Wrapped self.target keep_words self.order }
-        ensures start { result.priority.round.kept ≡ 0 }
-    {
-        Wrap::new(self.target)
-            .keep_words(keep_words)
-            .priority(OrderPriority::new(self.order))
-    }
-
-    /// Returns the option that truncates.
-    fn truncate(self) -> Truncate<'static, usize, OrderPriority>
-        ensures plan { Shortened result.size result.priority.order
-            ≡ Shortened self.target self.order }
-        ensures start { result.priority.round.kept ≡ 0 }
-        ensures suffix { result.transform.suffix.now ≡ [] }
-        ensures limit { result.transform.limit ≡ Cut }
-        ensures multiline { result.transform.multiline ≡ false }
-    {
-        Truncate::new(self.target).priority(OrderPriority::new(self.order))
-    }
-
-    /// Narrows a table with estimated sizes, and returns its new sizes.
-    fn apply<R: RecordsMut>(
-        self,
-        alloc: Global,
-        records: &mut R,
-        config: &mut ColoredConfig,
-    ) -> Result<CompleteDimension, TableError>
-        requires texts { AreTexts (R.cells records.old) }
-        requires rectangular { IsRectangular (R.cells records.old) }
-        ensures made { IfOk result (λ sizes. IsMade (plan_of self)
-            (estimated (R.cells records.old) config.old.config)
-            (effective (R.cells records.new) config.new.config sizes)) }
-        ensures only { IfErr result (λ e. (e ≡ Memory) ⊎ (e ≡ Range)) }
-        ensures range { IfErr result (λ e. e ≡ Range → (is_empty (R.cells records.old) ≡ false)
-            × IsOutOfRange (estimated (R.cells records.old) config.old.config)) }
-    {
-        let mut sizes = CompleteDimension::new(alloc);
-        match self.fit {
-            Fit::Wrap { keep_words } => {
-                TableOption::change(self.wrap(keep_words), records, config, &mut sizes)?;
-                sizes.clear_height();
-                Ok(sizes)
-            }
-            Fit::Truncate => {
-                TableOption::change(self.truncate(), records, config, &mut sizes)?;
-                Ok(sizes)
-            }
-        }
-    }
-}
-
-/// Prints the table of some records and settings, narrowed if it is too wide.
-fn print_narrowed<R: RecordsMut, S: TextSink>(
+/// Wraps or truncates the cells of a table with estimated sizes, as a plan says, and returns its
+/// new sizes.
+fn narrow<R: RecordsMut>(
     alloc: Global,
-    sink: &mut S,
+    plan: Plan,
     records: &mut R,
-    mut config: ColoredConfig,
-    how: Narrowing,
-) -> Result<(), TableError>
+    config: &mut ColoredConfig,
+) -> Result<CompleteDimension, TableError>
     requires texts { AreTexts (R.cells records.old) }
     requires rectangular { IsRectangular (R.cells records.old) }
-    ensures { IsRenderedOf (plan_of how) (estimated (R.cells records.old) config.config)
-        (S.sent sink.old) result (S.sent sink.new) }
+    ensures made { IfOk result (λ sizes. IsMade (measured plan)
+        (estimated (R.cells records.old) config.old.config)
+        (effective (R.cells records.new) config.new.config sizes)) }
+    ensures only { IfErr result (λ e. (e ≡ Memory) ⊎ (e ≡ Range)) }
+    ensures range { IfErr result (λ e. e ≡ Range → (is_empty (R.cells records.old) ≡ false)
+        × IsOutOfRange (estimated (R.cells records.old) config.old.config)) }
 {
-    let sizes = how.apply(alloc, records, &mut config)?;
-    print_standing(sink, records, config.as_ref(), &sizes)
+    let mut sizes = CompleteDimension::new(alloc);
+    match plan {
+        Plan::Buffered | Plan::Streamed => Ok(sizes),
+        Plan::Wrapped {
+            target,
+            words,
+            order,
+        } => {
+            let wrap = Wrap::new(target).keep_words(words);
+            let wrap = wrap.priority(OrderPriority::new(order));
+            TableOption::change(wrap, records, config, &mut sizes)?;
+            sizes.clear_height();
+            Ok(sizes)
+        }
+        Plan::Shortened { target, order } => {
+            let truncate = Truncate::new(target).priority(OrderPriority::new(order));
+            TableOption::change(truncate, records, config, &mut sizes)?;
+            Ok(sizes)
+        }
+    }
 }
 
 /// Prints the table of some records and settings under a plan. Measures all of it first.
 fn print_measured<R: PeekableRecords, S: TextSink>(
     alloc: Global,
     rows: &R,
-    config: ColoredConfig,
+    mut config: ColoredConfig,
     plan: Plan,
     sink: &mut S,
 ) -> Result<(), TableError>
@@ -159,10 +79,12 @@ fn print_measured<R: PeekableRecords, S: TextSink>(
     ensures { IsRenderedOf (measured plan) (estimated (R.cells rows.now) config.config)
         (S.sent sink.old) result (S.sent sink.new) }
 {
-    let Some(how) = Narrowing::of(plan) else {
+    if let Plan::Buffered | Plan::Streamed = plan {
         return print_estimated(alloc, sink, rows, config.as_ref());
-    };
-    print_narrowed(alloc, sink, &mut lend_cells(alloc, rows)?, config, how)
+    }
+    let mut records = lend_cells(alloc, rows)?;
+    let sizes = narrow(alloc, plan, &mut records, &mut config)?;
+    print_standing(sink, &records, config.as_ref(), &sizes)
 }
 
 /// Prints records as an `IterTable` that reads all rows ahead.

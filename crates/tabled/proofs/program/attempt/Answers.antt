@@ -1,7 +1,7 @@
 use Rattle.std.proofs.Common.{inr, map}
 use Rattle.std.specs.Prelude.{string_bytes}
 use Rattle.tabled.specs.Faults.{fault_of}
-use Rattle.tabled.proofs.Failing.{failed_by, if_failed}
+use Rattle.tabled.proofs.Outputs.{failed_by, if_failed}
 use Rattle.tabled.proofs.program.attempt.Goals as goal
 
 pub returns-in_err-print_through-clause-failed : goal.returns-in_err-print_through-clause-failed

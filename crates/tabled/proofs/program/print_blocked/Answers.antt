@@ -1,18 +1,62 @@
-use Rattle.std.proofs.Common.{ℕ, List, subst}
-use Rattle.tabled.specs.BlockSent.{sent_since}
-use Rattle.tabled.specs.Output.{PutsOutput}
-use Rattle.tabled.proofs.BytesSince.{left, left_advances}
+use Rattle.std.proofs.Common.{ℕ, List, Result, Ok, Err, refl, subst}
+use Rattle.tabled_base.specs.declared.error.TableError.{TableError}
+use Rattle.tabled_grid.specs.Picture.{table_text}
+use Rattle.tabled_line.proofs.Sending.{finished, sends-along}
+use Rattle.tabled.specs.BlockSent.{block, sent_since}
+use Rattle.tabled.specs.Output.{PutsOutput, with_feed}
+use Rattle.tabled.proofs.BytesSince.{puts_writes}
+use Rattle.tabled.proofs.Outputs.{either_output, output_of, output_refused, since_put}
+use Rattle.tabled.proofs.TextTables.{feed_none, feed_some}
 use Rattle.tabled.proofs.program.print_blocked.Goals as goal
+
+pub returns-in-Err : goal.returns-in-Err
+returns-in-Err g c =
+    let name = g.B.WriterStart.name in
+    let held = g.B.WriterStart.held in
+    let a = block g.W.Write.contents c.args.sink in
+    let b = block g.W.Write.contents c.render.new.sink.sink in
+    let r : Result (Unit {0}) TableError = Err c.in-Err.error in
+    let h : PutsOutput c.args.plan c.as_str-text.result.now (sent_since name held a).bytes r (sent_since name held b).bytes =
+    output_refused (Unit {0}) c.args.plan c.as_str-text.result.now (sent_since name held a) (sent_since name held b) c.in-Err.error r refl c.in-Err.ensures.rendered in
+    let P : List ℕ → Type 0 = λ u. PutsOutput c.args.plan u (sent_since name held a).bytes r (sent_since name held b).bytes in
+    let p = since_put c.args.plan _ name held a b r c.requires.name c.requires.held (subst P c.as_str-text.ensures.value h) in
+    record { put = p.0; advanced = p.1 }
+
+pub returns-then-is_empty : goal.returns-then-is_empty
+returns-then-is_empty g c =
+    let name = g.B.WriterStart.name in
+    let held = g.B.WriterStart.held in
+    let text = c.as_str-text.result.now in
+    let a = block g.W.Write.contents c.args.sink in
+    let b = block g.W.Write.contents c.render.new.sink.sink in
+    let r : Result (Unit {0}) TableError = Ok tt in
+    let s = c.in-Ok.ensures.rendered in
+    let h : PutsOutput c.args.plan text (sent_since name held a).bytes r (sent_since name held b).bytes =
+    record {
+      output = with_feed (table_text s.table);
+      is_output = output_of c.args.plan text _ _ s;
+      puts = (sends-along _ _ _ _ s.sends (feed_none c.args.plan text s.table c.if-is_empty.ensures s.is_planned)).added;
+    } in
+    let P : List ℕ → Type 0 = λ u. PutsOutput c.args.plan u (sent_since name held a).bytes r (sent_since name held b).bytes in
+    let p = since_put c.args.plan _ name held a b r c.requires.name c.requires.held (subst P c.as_str-text.ensures.value h) in
+    record { put = p.0; advanced = p.1 }
 
 pub returns : goal.returns
 returns g c =
-    let a = g.S.SinkOverWriter.block c.args.sink in
-    let b = g.S.SinkOverWriter.block c.print_output-result.new.sink.sink in
-    let P : List ℕ → Type 0 = λ u. PutsOutput c.args.plan u (sent_since g.B.WriterStart.name g.B.WriterStart.held a).bytes c.print_output-result.result
-    (sent_since g.B.WriterStart.name g.B.WriterStart.held b).bytes in
-    let h = subst P c.as_str.ensures.value c.print_output-result.ensures in
-    let all = left g.B.WriterStart.name g.B.WriterStart.held a b c.print_output-result.result h.output c.requires.name c.requires.held h.puts in
+    let name = g.B.WriterStart.name in
+    let held = g.B.WriterStart.held in
+    let text = c.as_str-text.result.now in
+    let a = block g.W.Write.contents c.args.sink in
+    let b = block g.W.Write.contents c.write_text-result.new.self.sink in
+    let r = c.write_text-result.result in
+    let s = c.in-Ok.ensures.rendered in
+    let h : PutsOutput c.args.plan text (sent_since name held a).bytes r (sent_since name held b).bytes =
     record {
-      put = record { output = h.output; is_output = h.is_output; puts = all.put };
-      advanced = left_advances a b c.print_output-result.result h.output all;
-    }
+      output = with_feed (table_text s.table);
+      is_output = either_output c.args.plan text _ _ _ r _ c.write_text-result.ensures.written (output_of c.args.plan text _ _ s);
+      puts = puts_writes _ _ r _
+          (finished _ _ _ _ s.sends c.write_text-result.ensures.written (feed_some c.args.plan text s.table c.if-is_empty.ensures s.is_planned));
+    } in
+    let P : List ℕ → Type 0 = λ u. PutsOutput c.args.plan u (sent_since name held a).bytes r (sent_since name held b).bytes in
+    let p = since_put c.args.plan _ name held a b r c.requires.name c.requires.held (subst P c.as_str-text.ensures.value h) in
+    record { put = p.0; advanced = p.1 }

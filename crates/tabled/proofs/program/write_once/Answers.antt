@@ -1,5 +1,4 @@
-use Rattle.tabled.proofs.BytesSince.{took_none}
-use Rattle.tabled.proofs.Knowing.{handed_more, handed_part}
+use Rattle.tabled.proofs.BytesSince.{took_none, handed_more, handed_part}
 use Rattle.tabled.proofs.program.write_once.Goals as goal
 
 pub taken-preserved : goal.taken-preserved

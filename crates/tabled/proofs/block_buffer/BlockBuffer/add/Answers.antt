@@ -1,5 +1,5 @@
 use Rattle.std.proofs.Common.{arith}
-use Rattle.tabled.proofs.Blocks.{held_more}
+use Rattle.tabled.proofs.BytesSince.{held_more}
 use Rattle.tabled.proofs.block_buffer.BlockBuffer.add.Goals as goal
 
 pub returns : goal.returns
@@ -10,6 +10,6 @@ returns c =
     let size = c.deref_mut.ensures.len in
     let fits = c.requires.room in
     record {
-      added = held_more held.taken held.used _ held.bytes.items c.deref_mut.result.now c.args.bytes.now c.copy.new.to _ _ held.within
-          (omega (arith, inside, whole, size)) (omega (arith, whole, fits)) c.deref_mut.ensures.value c.copy.ensures;
+      added = held_more held.taken held.used _ held.bytes.items c.deref_mut.result.now c.args.bytes.now c.copy_from_slice.new.self _ _ held.within
+          (omega (arith, inside, whole, size)) (omega (arith, whole, fits)) c.deref_mut.ensures.value c.copy_from_slice.ensures.after;
     }

@@ -1,21 +1,34 @@
-use Rattle.std.proofs.Common.{sym}
-use Rattle.tabled_line.proofs.Sending.{further, stopped, took-more, took-none}
-use Rattle.tabled.proofs.BytesSince.{advances_none, advances_then}
+use Rattle.std.proofs.Common.{append-nil, length, sym}
+use Rattle.tabled_line.proofs.Sending.{further, sends-along, stopped, took-more, took-none}
+use Rattle.tabled.specs.BlockSent.{block, waiting}
+use Rattle.tabled.proofs.BytesSince.{advances_none, advances_then, buffered, waits}
 use Rattle.tabled.proofs.block_sink.BlockSink.buffer_parts.Goals as goal
 
 pub pieces-init : goal.pieces-init
 pieces-init g c = record { took = took-none _ _; advanced = advances_none _ }
 
-pub returns-in_err-make_room : goal.returns-in_err-make_room
-returns-in_err-make_room g c = record {
-  written = stopped _ _ c.pieces.rest.now c.pieces.invariant.took.sends c.in_err-make_room.ensures.written
-      c.from_residual.ensures.1 (sym c.pieces.invariant.took.whole);
-  advanced = advances_then _ _ _ c.pieces.invariant.advanced c.in_err-make_room.ensures.advanced;
-}
+pub returns-in_err-flush_block : goal.returns-in_err-flush_block
+returns-in_err-flush_block g c =
+    let before = block g.W.Write.contents c.pieces.self in
+    let sends = buffered before (waiting c.add-in-pieces.new.self) c.split_at.result.0.now c.add-in-pieces.ensures.added in
+    let took = took-more _ _ _ _ _ _ _ c.pieces.invariant.took (sends-along _ _ _ _ sends c.split_at.ensures.front) c.split_at.ensures.back in
+    record {
+      written = stopped _ _ c.split_at.result.1.now took.sends c.in_err-flush_block.ensures.written c.from_residual.ensures.1 (sym took.whole);
+      advanced = advances_then _ _ _ (advances_then _ _ _ c.pieces.invariant.advanced (waits before (waiting c.add-in-pieces.new.self)))
+          c.in_err-flush_block.ensures.advanced;
+    }
 
 pub pieces-preserved : goal.pieces-preserved
-pieces-preserved g c = record {
-  took = took-more _ _ _ _ _ _ _ c.pieces.invariant.took
-      (further c.in_ok-make_room.ensures.written c.buffer_bytes.ensures.written (sym c.split_at.ensures.front)) c.split_at.ensures.back;
-  advanced = advances_then _ _ _ (advances_then _ _ _ c.pieces.invariant.advanced c.in_ok-make_room.ensures.advanced) c.buffer_bytes.ensures.advanced;
-}
+pieces-preserved g c =
+    let before = block g.W.Write.contents c.pieces.self in
+    let sends = buffered before (waiting c.add-in-pieces.new.self) c.split_at.result.0.now c.add-in-pieces.ensures.added in
+    let took = took-more _ _ _ _ _ _ _ c.pieces.invariant.took (sends-along _ _ _ _ sends c.split_at.ensures.front) c.split_at.ensures.back in
+    record {
+      took = record {
+        front = took.front;
+        whole = took.whole;
+        sends = further took.sends c.in_ok-flush_block.ensures.written (sym (append-nil took.front));
+      };
+      advanced = advances_then _ _ _ (advances_then _ _ _ c.pieces.invariant.advanced (waits before (waiting c.add-in-pieces.new.self)))
+          c.in_ok-flush_block.ensures.advanced;
+    }

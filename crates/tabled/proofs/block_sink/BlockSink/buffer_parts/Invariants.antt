@@ -1,4 +1,4 @@
-use Rattle.std.proofs.Common.{length}
+use Rattle.std.proofs.Common.{◌+◌, length}
 use Rattle.tabled_line.specs.Sent.{Took}
 use Rattle.tabled.specs.BlockSent.{Advances, block, block_sent}
 use Rattle.tabled.proofs.block_sink.BlockSink.buffer_parts.Given as goal
@@ -9,5 +9,6 @@ invariant-pieces g l = record {
   advanced : Advances (block g.W.Write.contents l.initial.self) (block g.W.Write.contents l.self);
 }
 
+-- each round but the last fills a buffer and empties it
 abbrev pub decreases-pieces : goal.decreases-pieces
-decreases-pieces g l = length l.rest
+decreases-pieces g l = length l.rest + l.self.held.now.used
