@@ -1,23 +1,14 @@
 -- The lemmas of streamed tables.
-pub mod Below
-pub mod CutExists
 pub mod Drawn
-pub mod Endings
 pub mod Finished
 pub mod FirstRows
 pub mod Going
 pub mod Measures
-pub mod NextPut
 pub mod Parts
-pub mod RowsAfter
-pub mod RowsPut
 pub mod SameSheet
-pub mod Slices
-pub mod Sources
 pub mod Steps
 pub mod StreamedTexts
 pub mod ToWriters
 pub mod TopAndBottom
-pub mod Unshown
 pub mod WholeTexts
 pub mod Widths

@@ -4,7 +4,5 @@ pub mod Lending
 pub mod NewConfig
 pub mod NewTable
 pub mod PrintedWith
-pub mod Rows
-pub mod Stopped
 pub mod Stream
 pub mod TableSheet

@@ -1,12 +1,10 @@
 -- The definitions of streamed tables.
 pub mod Applied
-pub mod Below
 pub mod GoesOn
 pub mod LikeTable
 pub mod NewTable
 pub mod Printed
 pub mod Progress
-pub mod Reading
 pub mod Row
 pub mod Streamed
 pub mod Streams

@@ -4,9 +4,8 @@ ghost use Rattle.std.specs.Borrow.{RestsIfErr, sem};
 ghost use Rattle.tabled_base.specs.Cells.{columns};
 ghost use Rattle.tabled_base.specs.declared.error.TableError.TheVariants.{Memory, Range};
 ghost use Rattle.tabled_table.specs.Applied.{ChangesEach, IsApplied, IsModified, IsRefusedBy};
-ghost use Rattle.tabled_table.specs.Applied.{named_in};
-ghost use Rattle.tabled_table.specs.Stopped.{IsModifyingRefused, IsPutBack, IsStopped};
-ghost use Rattle.tabled_table.specs.Stopped.{kept_config};
+ghost use Rattle.tabled_table.specs.Applied.{named_in, IsModifyingRefused, IsPutBack, IsStopped};
+ghost use Rattle.tabled_table.specs.Applied.{kept_config};
 ghost use Rattle.tabled_table.specs.declared.table.Table.{Table};
 
 use crate::table::Table;
@@ -150,40 +149,26 @@ impl Table {
     }
 }
 
-/// The parts that a target names. If there are several, also a copy of the configuration, which is
-/// restored when the option fails at one of them.
-#[derive(Drop)]
-struct Parts {
-    entities: Vec<Entity>,
-    before: Option<ColoredConfig>,
-}
-
-/// Returns the parts that a target names. Fails only if an allocation fails (`Memory`), and only if
-/// the target names a part. A modification itself allocates only here, before the first change.
-fn find_parts<T: Object<VecRecords<Text<String>>>>(
-    records: &VecRecords<Text<String>>,
+/// Returns a copy of the configuration if there are several parts, which is restored when the option
+/// fails at one of them. Fails only if an allocation fails (`Memory`).
+fn copy_config(
+    entities: &[Entity],
     config: &ColoredConfig,
-    target: &T,
-) -> Result<Parts, TableError>
-    ensures named { IfOk result (λ parts. parts.entities.items
-        ≡ T.picks target.now (length records.now) (columns records.now)) }
-    ensures copied { IfOk result (λ parts. parts.before
-        ≡ kept_config parts.entities.items config.now) }
-    ensures some { OnErr result
-        (0 < length (T.picks target.now (length records.now) (columns records.now))) }
+) -> Result<Option<ColoredConfig>, TableError>
+    ensures copied { IfOk result (λ before. before ≡ kept_config entities.now config.now) }
+    ensures some { OnErr result (0 < length entities.now) }
     ensures only { IfErr result (λ e. e ≡ Memory) }
 {
-    let entities = target.cells(records.allocator(), records)?;
-    let before = if entities.len() > 1 {
-        Some(config.clone()?)
+    if entities.len() > 1 {
+        Ok(Some(config.clone()?))
     } else {
-        None
-    };
-    Ok(Parts { entities, before })
+        Ok(None)
+    }
 }
 
 /// Applies an option to each part that a target names, in order. If it fails at one, the parts
-/// before it stay changed, and the configuration is restored if there is a copy.
+/// before it stay changed, and the configuration is restored if there is a copy. Allocates only
+/// before the first change.
 fn change_target<
     T: Object<VecRecords<Text<String>>>,
     O: CellOption<VecRecords<Text<String>>, ColoredConfig>,
@@ -202,7 +187,8 @@ fn change_target<
         e records.old config.old records.new config.new) }
     ensures only { IfErr result (λ e. (e ≡ Memory) ⊎ (e ≡ Range)) }
 {
-    let Parts { entities, before } = find_parts(records, config, target)?;
+    let entities = target.cells(records.allocator(), records)?;
+    let before = copy_config(entities.as_slice(), config)?;
     match change_each(records, config, entities.as_slice(), option) {
         Ok(()) => Ok(()),
         Err(e) => match before {

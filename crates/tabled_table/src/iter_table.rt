@@ -11,14 +11,14 @@ ghost use Rattle.tabled_table.specs.Stream.LikeTable.{PrintsLikeTable};
 ghost use Rattle.tabled_table.specs.Stream.NewTable.{new_settings, with_settings};
 ghost use Rattle.tabled_table.specs.Stream.Streams.{BuildsStream, Came, PrintsStream};
 
+mod first_rows;
 mod layout;
-mod printing;
+mod next_rows;
 mod row;
 mod settings;
 mod sniff;
-mod stream;
 
-use crate::iter_table::printing::Printer;
+use crate::iter_table::first_rows::Printer;
 use crate::iter_table::settings::StreamSettings;
 use std::alloc::Global;
 use std::io::Write;

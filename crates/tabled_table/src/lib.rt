@@ -12,11 +12,11 @@
 //! cut to its column:
 //! - `iter_table`: the table, its options, and printing it to a sink, a writer or a string
 //! - `iter_table/settings`: how many rows are read and shown, and the sizes that are set
-//! - `iter_table/printing`: an entire stream, from its source to its last line, and its layout
+//! - `iter_table/first_rows`: reads the first rows, lays out the columns by them, and prints all
 //! - `iter_table/sniff`: measures of the rows that are read ahead
 //! - `iter_table/layout`: the columns of a stream, what is around its cells, and its total width
 //! - `iter_table/row`: the columns that lines are printed over, and a row that is cut to them
-//! - `iter_table/stream`: a stream while its lines are printed
+//! - `iter_table/next_rows`: writes the rows that were read first, and reads and writes the next
 //!
 //! `laws`: facts about tables and streamed tables.
 #![tactic(auto)]

@@ -9,11 +9,10 @@ ghost use Rattle.tabled_base.specs.declared.error.TableError.TheVariants.{ShortW
 ghost use Rattle.tabled_size.specs.Holds.{Holds};
 ghost use Rattle.tabled_size.specs.PlainCells.{AreAdditive};
 ghost use Rattle.tabled_size.specs.Sheet.{is_empty};
-ghost use Rattle.tabled_size.specs.Stored.{is_stored, widths_of};
+ghost use Rattle.tabled_size.specs.Stored.{widths_of};
 ghost use Rattle.tabled_size.specs.TextCells.{AreTexts};
 ghost use Rattle.tabled_size.specs.Totals.{total_width};
 ghost use Rattle.tabled_line.specs.Plain.{EachLineTakes};
-ghost use Rattle.tabled_line.specs.Sent.{Sent};
 ghost use Rattle.tabled_grid.specs.Picture.{picture};
 ghost use Rattle.tabled_grid.specs.Printed.{Prints};
 ghost use Rattle.tabled_table.specs.PrintedWith.{asked, left_part, missing_columns, shown};
@@ -124,7 +123,7 @@ impl Table {
     ///
     /// Fails as `write_to` does, and also with `Memory`, before the first byte, if settings have to
     /// change.
-    #[tactic(auto, using(crate::proofs::ShownTables::total_of_shown, crate::proofs::ShownTables::texts_of_shown, crate::proofs::ShownTables::columns_of_shown))]
+    #[tactic(auto, using(crate::proofs::Shown::total_of_shown, crate::proofs::Shown::texts_of_shown, crate::proofs::Shown::columns_of_shown))]
     pub fn print_with<S: TextSink>(
         &self,
         sink: &mut S,

@@ -1,11 +1,11 @@
 //! `Table`: cells with settings and sizes, and the settings of a new table.
-ghost use Rattle.std.specs.Prelude.{◌≡◌, ◌↔◌, ◌≤◌, ◌^◌, [], IfErr, IfOk, IsTrue};
-ghost use Rattle.std.specs.Prelude.{None, Ok, OnOk, false, length, not, string_bytes, true};
+ghost use Rattle.std.specs.Prelude.{◌≡◌, ◌↔◌, [], IfErr, IfOk, IsTrue, None, Ok, false, length};
+ghost use Rattle.std.specs.Prelude.{not, string_bytes, true};
 ghost use Rattle.std.specs.Borrow.{Lends, sem};
 ghost use Rattle.tabled_base.specs.contracts.text.Text.{the_row as text_row};
 ghost use Rattle.tabled_base.specs.contracts.vec_records.VecRecords.{the_row as records_row};
 ghost use Rattle.tabled_base.specs.Cells.{columns};
-ghost use Rattle.tabled_base.specs.declared.error.TableError.TheVariants.{Memory, Range, Writer};
+ghost use Rattle.tabled_base.specs.declared.error.TableError.TheVariants.{Memory};
 ghost use Rattle.tabled_size.specs.Sheet.{is_empty};
 ghost use Rattle.tabled_size.specs.EffectiveTotals.{AnswersHeight, AnswersWidth};
 ghost use Rattle.tabled_size.specs.Stored.{heights_of, is_stored, widths_of};
@@ -16,9 +16,8 @@ ghost use Rattle.tabled_size.specs.PlainCells.{AreAdditive, ArePlain};
 ghost use Rattle.tabled_size.specs.TextCells.{AreTexts};
 ghost use Rattle.tabled_line.specs.Plain.{EachLineTakes};
 ghost use Rattle.tabled_grid.specs.Printed.{Prints};
-ghost use Rattle.tabled_line.specs.Sent.{Sent};
 ghost use Rattle.tabled_table.specs.NewConfig.{new_config};
-ghost use Rattle.tabled_table.specs.Rows.{string_row};
+ghost use Rattle.tabled_table.specs.Lending.{string_row};
 
 use std::alloc::Global;
 use std::convert::AsStr;
@@ -66,8 +65,8 @@ impl Table {
     ghost use Rattle.tabled_table.specs.contracts.table.Table.{the_row};
     ghost use Rattle.tabled_table.specs.Lending.{LendsConfig, LendsDimension};
     ghost use Rattle.tabled_table.specs.NewTable.{IsNew};
-    ghost use Rattle.tabled_table.specs.TableSheet.{HasNoText, HasText, IsApart, IsPlain};
-    ghost use Rattle.tabled_table.specs.TableSheet.{cells_of, sheet};
+    ghost use Rattle.tabled_table.specs.TableSheet.{HasNoText, HasText, IsApart, IsPlain, cells_of};
+    ghost use Rattle.tabled_table.specs.TableSheet.{sheet};
 
     /// Returns a table of these records with the settings of a new one. Allocates nothing.
     pub(crate) fn of_records(records: VecRecords<Text<String>>) -> Table

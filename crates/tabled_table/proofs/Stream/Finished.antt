@@ -11,12 +11,12 @@ use Rattle.tabled_line.specs.Sent.{Sent, Sends}
 use Rattle.tabled_line.proofs.Leading.{lines_after-joined}
 use Rattle.tabled_table.specs.declared.iter_table.layout.Layout.{Layout}
 use Rattle.tabled_table.specs.declared.iter_table.settings.StreamSettings.{StreamSettings}
-use Rattle.tabled_table.specs.Stream.Below.{StopsBelow}
+use Rattle.tabled_table.specs.Stream.Printed.{StopsBelow}
 use Rattle.tabled_table.specs.Stream.Printed.{lines_above, lines_before, text_above}
 use Rattle.tabled_table.specs.Stream.Progress.{AreFirst, AreFurther, EndsSheet, Halts, HaltsBefore, HaltsWithin, IsLaidOut, IsLimited, left_of}
 use Rattle.tabled_table.specs.Stream.Streamed.{IsStreamed, ahead, column_count, limited, sniffed}
 use Rattle.tabled_table.specs.Stream.Streams.{AreEnough, AreSniffed, IsTooHighFirst, IsWholeStream, StreamStops, Streams, reaches, stream_total}
-use Rattle.tabled_table.proofs.Stream.Below.{joined-below}
+use Rattle.tabled_table.proofs.Stream.Steps.{joined-below}
 use Rattle.tabled_table.proofs.Stream.FirstRows.{few-first, few-more, length-limited, limited-more, read-more}
 
 high-more : (settings : StreamSettings) (config : CompactConfig) (ahead_rows : List (List (List ℕ))) (index : ℕ) (rest others : List (List (List ℕ)))

@@ -179,33 +179,21 @@ module _ {settings : StreamSettings} {rows : List (List (List ℕ))} (a : AreMea
 
 -- ---- rows that make a stream like a table
 
-pub measured-of : {settings : StreamSettings} {rows : List (List (List ℕ))} → IsLikeTable settings rows → AreMeasured settings rows
-measured-of a = record {
-  has_row = a.has_row;
-  has_column = a.has_column;
-  rectangular = a.rectangular;
-  sniffed = a.sniffed;
-  no_columns = a.no_columns;
-  no_rows = a.no_rows;
-  no_width = a.no_width;
-  no_height = a.no_height;
-}
-
 module _ {settings : StreamSettings} {rows : List (List (List ℕ))} (a : IsLikeTable settings rows) where
   cell-exact : (index column : ℕ) → index < length rows → column < columns rows → IsExactLine (get_or (get_or rows index []) column [])
-  cell-exact index column b c = a.exact index [] b column [] (let l = a.rectangular index [] b in omega arith)
+  cell-exact index column b c = a.exact index [] b column [] (let l = a.measured.rectangular index [] b in omega arith)
 
   -- no cell is cut
   row-kept : (index : ℕ) (cells : List (List ℕ)) → index < length rows
       → IsCutRow (content_width settings rows) (column_count settings rows) (get_or rows index []) cells → cells ≡ get_or rows index []
   row-kept index cells b c =
       let row = get_or rows index [] in
-      let cut = row-cut (measured-of a) index cells b c in
-      let long = a.rectangular index [] b in
+      let cut = row-cut a.measured index cells b c in
+      let long = a.measured.rectangular index [] b in
       let many = cut.1 in
       cut.0
       ∙ ext_get_or [] c.cut row (omega arith)
-      (λ k l. exact-kept (content_width settings rows k) (get_or row k []) (get_or c.cut k []) (cell-exact index k b (omega arith)) (cell-room (measured-of a) index k b) (c.each k l))
+      (λ k l. exact-kept (content_width settings rows k) (get_or row k []) (get_or c.cut k []) (cell-exact index k b (omega arith)) (cell-room a.measured index k b) (c.each k l))
 
   module _ (config : CompactConfig) where
     same-sheet : (t : Sheet) → IsStreamed settings config rows rows t → t ≡ estimated rows (spanned_of_compact config)
@@ -214,23 +202,22 @@ module _ {settings : StreamSettings} {rows : List (List (List ℕ))} (a : IsLike
         ext_get_or [] t.cells rows s.as_many (λ k l. row-kept k (get_or t.cells k []) (let m = s.as_many in omega arith) (s.cells k (let m = s.as_many in omega arith))) in
         let F : List (List (List ℕ)) → SpannedConfig → List ℕ → List ℕ → Sheet = λ c g w h. record { cells = c; config = g; widths = w; heights = h } in
         ap (λ c. F c t.config t.widths t.heights) cells ∙ ap (λ g. F rows g t.widths t.heights) s.settings_of
-        ∙ ap (λ w. F rows (spanned_of_compact config) w t.heights) (s.widths ∙ widths-same (measured-of a) config)
-        ∙ ap (λ h. F rows (spanned_of_compact config) (estimated_widths rows (spanned_of_compact config)) h) (heights-same (measured-of a) config t.heights s.as_high s.heights)
+        ∙ ap (λ w. F rows (spanned_of_compact config) w t.heights) (s.widths ∙ widths-same a.measured config)
+        ∙ ap (λ h. F rows (spanned_of_compact config) (estimated_widths rows (spanned_of_compact config)) h) (heights-same a.measured config t.heights s.as_high s.heights)
 
     pub like_table : (t : Sheet) → IsStreamed settings config (sniffed settings rows) (limited settings.rows rows) t → t ≡ estimated rows (spanned_of_compact config)
     like_table t s =
         let P : List (List (List ℕ)) → List (List (List ℕ)) → Type 0 = λ x y. IsStreamed settings config x y t in
-        same-sheet t (subst (λ x. P x rows) (all-sniffed (measured-of a)) (subst (λ y. P (sniffed settings rows) y) (all-shown (measured-of a)) s))
+        same-sheet t (subst (λ x. P x rows) (all-sniffed a.measured) (subst (λ y. P (sniffed settings rows) y) (all-shown a.measured) s))
 
--- ---- what was printed
+  -- ---- what was printed
 
-module _ {settings : StreamSettings} {rows : List (List (List ℕ))} (a : IsLikeTable settings rows) where
   all-came : (whole : Bool) → AreEnough settings rows whole → whole ≡ true
   all-came whole (inl h) = h
-  all-came whole (inr (l, inl h)) = absurd (subst (λ limit. reaches limit (length rows)) a.no_rows h)
+  all-came whole (inr (l, inl h)) = absurd (subst (λ limit. reaches limit (length rows)) a.measured.no_rows h)
   all-came whole (inr (l, inr h)) =
-      let count = ap (column_count settings) (all-sniffed (measured-of a)) ∙ counted-columns (measured-of a) in
-      let some = a.has_column in
+      let count = ap (column_count settings) (all-sniffed a.measured) ∙ counted-columns a.measured in
+      let some = a.measured.has_column in
       absurd (omega arith)
 
 pub like_printed : {R : Type 0} {settings : StreamSettings} {config : CompactConfig} {comes : List (List (List ℕ)) → Bool → Type 0} {old new : Sent}

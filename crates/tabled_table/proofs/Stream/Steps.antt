@@ -1,6 +1,8 @@
 -- A table that is printed, one row further.
-use Rattle.std.proofs.Common.{◌≡◌, ℕ, ◌+◌, ◌==◌, ◌<◌, ◌^◌, Bool, false, List, [], ◌∷◌, ◌++◌, length, min, replicate, refl, sym, ◌∙◌, ap, subst, add-one, arith, get_or, append_assoc, length-append}
-use Rattle.std.specs.List.{flat_map, range_with_len, slice_index}
+use Rattle.std.proofs.Common.{◌≡◌, ℕ, ◌+◌, ◌==◌, ◌<◌, ◌^◌, Bool, false, List, [], ◌∷◌, ◌++◌, length, min, replicate, refl, sym, ◌∙◌, ap}
+use Rattle.std.proofs.Common.{subst, add-one, arith, get_or, append_assoc, length-append, Result, Ok, Err, ◌-◌, Option, inl, inr}
+use Rattle.std.proofs.Common.{below_more, ◌⊎◌, ◌≤◌, OnOk, append-nil, ⊎_elim}
+use Rattle.std.specs.List.{flat_map, range_with_len, slice_index, join_with_byte}
 use Rattle.tabled_text.specs.Cut.{IsCut}
 use Rattle.tabled_base.specs.Cells.{lengthened}
 use Rattle.tabled_base.specs.declared.error.TableError.{TableError}
@@ -8,22 +10,110 @@ use Rattle.tabled_config.specs.declared.compact.CompactConfig.{CompactConfig}
 use Rattle.tabled_config.specs.Settings.{frame}
 use Rattle.tabled_grid.specs.Picture.{row_part}
 use Rattle.tabled_line.specs.Fill.{fill}
-use Rattle.tabled_line.specs.Sent.{Sent}
+use Rattle.tabled_line.specs.Sent.{Sent, Sends, Stops}
 use Rattle.tabled_line.proofs.Each.{each-more}
-use Rattle.tabled_line.specs.Leading.{lines_after}
-use Rattle.tabled_line.proofs.Leading.{lines-further}
+use Rattle.tabled_line.specs.Leading.{lines_after, LineSends, LineStops, WritesLines}
+use Rattle.tabled_line.proofs.Leading.{lines-further, lines_after-append, lines_after-joined, lines-finished, lines-stopped-first}
 use Rattle.tabled_size.specs.Sheet.{Sheet}
 use Rattle.tabled_size.specs.Totals.{filled_width}
 use Rattle.tabled_table.specs.declared.iter_table.layout.Layout.{Layout}
 use Rattle.tabled_table.specs.declared.iter_table.settings.StreamSettings.{StreamSettings}
-use Rattle.tabled_table.specs.Stream.Below.{StopsBelow}
-use Rattle.tabled_table.specs.Stream.Printed.{lines_above, lines_before}
-use Rattle.tabled_table.specs.Stream.Progress.{HasPut, HaltsWithin, IsInReach, IsLaidOut}
-use Rattle.tabled_table.specs.Stream.Row.{IsPut, IsStoppedIn, content_at, record_lines, rule_of}
-use Rattle.tabled_table.specs.Stream.Streamed.{IsCutRow, IsStreamed, column_count, content_width, stream_height}
-use Rattle.tabled_table.proofs.Stream.Below.{lines-below}
+use Rattle.tabled_table.specs.Stream.Printed.{StopsBelow, WritesBelow, lines_above, lines_before}
+use Rattle.tabled_table.specs.Stream.Progress.{HasPut, HaltsWithin, IsInReach, IsLaidOut, Halts, PutsNext}
+use Rattle.tabled_table.specs.Stream.Row.{IsPut, IsStoppedIn, content_at, record_lines, rule_of, Puts, PutsCut, layout_columns, layout_row}
+use Rattle.tabled_table.specs.Stream.Streamed.{IsCutRow, IsStreamed, column_count, content_width, stream_height, content_height}
 use Rattle.tabled_table.proofs.Stream.Parts.{flat_map-same, not-zero, part-laid}
-use Rattle.tabled_table.proofs.Stream.RowsPut.{each-pushed, pushed-at, pushed-before}
+use Rattle.tabled_line.proofs.Sending.{Appends-then, sends-along, stops-then}
+use Rattle.std.specs.Result.{IsErrAnd}
+use Rattle.std.proofs.lemmas.List.{get_or_append_left, get_or-append_right}
+use Rattle.tabled_config.specs.declared.borders.HorizontalLine.{HorizontalLine}
+use Rattle.tabled_line.specs.Row.{row_lines, rule_if}
+use Rattle.tabled_base.specs.declared.error.TableError.TheVariants.{Memory, Range}
+
+-- ---- texts that are sent below lines that are out
+
+-- nothing stands above
+pub stops-first : {a c : Sent} {e : TableError} {text : List ℕ} → Stops a e c text → StopsBelow [] a e c text
+stops-first q = record { stops = q; more = q.front; out = refl }
+
+-- what was sent stands above
+pub stops-below : {a b c : Sent} {e : TableError} {s t : List ℕ} (whole : List ℕ) → Sends a b s → Stops b e c t → whole ≡ s ++ t
+    → StopsBelow s a e c whole
+stops-below {a} {b} {c} {e} {s} {t} whole p q w =
+    let both = stops-then a b c e s t p q in
+    record {
+      stops =
+          record {
+            front = s ++ q.front;
+            rest = q.rest;
+            whole = append_assoc s q.front q.rest ∙ ap (λ u. s ++ u) q.whole ∙ sym w;
+            added = Appends-then a.bytes b.bytes c.bytes s q.front p.added q.added;
+            cause = both.cause;
+          };
+      more = q.front;
+      out = refl;
+    }
+
+-- lines that were sent stand above
+pub lines-below : {a b c : Sent} {p q : Bool} {e : TableError} {xs ys : List (List ℕ)} (whole : List (List ℕ)) → LineSends a p b q xs
+    → LineStops b q e c ys → whole ≡ xs ++ ys → StopsBelow (lines_after p xs) a e c (lines_after p whole)
+lines-below {p = p} {q = q} {xs = xs} {ys = ys} whole h k w =
+    stops-below (lines_after p whole) h.sends k.stops (ap (lines_after p) w ∙ lines_after-append p xs ys ∙ ap (λ r. lines_after p xs ++ lines_after r ys) (sym h.after))
+
+-- the texts of lines, as they are joined by line feeds
+pub joined-below : {a c : Sent} {e : TableError} (above lines : List (List ℕ)) → StopsBelow (lines_after false above) a e c (lines_after false lines)
+    → StopsBelow (join_with_byte 10 above) a e c (join_with_byte 10 lines)
+joined-below {a} {c} {e} above lines h =
+    let P : List ℕ → Type 0 = λ text. StopsBelow (lines_after false above) a e c text in
+    let Q : List ℕ → Type 0 = λ text. StopsBelow text a e c (join_with_byte 10 lines) in
+    subst Q (lines_after-joined above) (subst P (lines_after-joined lines) h)
+
+-- lines were sent, and printing others below them is the end
+pub ends-below : {R : Type 0} {a b : Sent} {q : Bool} {xs : List (List ℕ)} (c : Sent) (after : Bool) (ys whole : List (List ℕ)) (r : Result R TableError)
+    → LineSends a false b q xs → WritesLines b q r c after ys → whole ≡ xs ++ ys
+    → WritesBelow (join_with_byte 10 xs) a r c (join_with_byte 10 whole)
+ends-below {a = a} c after ys whole (Ok x) h k w =
+    let both = lines-further h k w in
+    sends-along a c _ _ both.sends (lines_after-joined whole)
+ends-below {xs = xs} c after ys whole (Err e) h k w = joined-below xs whole (lines-below whole h k w)
+
+-- ---- rows that are cut and printed
+
+pub pushed-at : {A : Type 0} (xs : List A) (y d : A) (n : ℕ) → length xs ≡ n → get_or (xs ++ y ∷ []) n d ≡ y
+pushed-at xs y d n e = get_or-append_right xs (y ∷ []) n n d e (omega arith) ∙ ap (λ k. get_or (y ∷ []) k d) (let z : n - n ≡ 0 = omega arith in z)
+
+pub pushed-before : {A : Type 0} (xs : List A) (y d : A) (n k : ℕ) → length xs ≡ n → k < n → get_or (xs ++ y ∷ []) k d ≡ get_or xs k d
+pushed-before xs y d n k e h = get_or_append_left xs (y ∷ []) d k (omega arith)
+
+-- what holds of each entry holds of each of one more
+pub each-pushed : {A : Type 0} (P : ℕ → A → Type 0) (xs : List A) (y d : A) (n : ℕ) → length xs ≡ n
+    → ((k : ℕ) → k < n → P k (get_or xs k d)) → P n y → (k : ℕ) → k < n + 1 → P k (get_or (xs ++ y ∷ []) k d)
+each-pushed P xs y d n e before here =
+    below_more (λ k. P k (get_or (xs ++ y ∷ []) k d)) n
+    (λ k h. subst (P k) (sym (pushed-before xs y d n k e h)) (before k h)) (subst (P n) (sym (pushed-at xs y d n e)) here)
+
+pub cut-stopped : {R : Type 0} (layout : Layout) (rule : Option HorizontalLine) (height : ℕ) (cut : List (List ℕ)) (old new : Sent)
+    (begun after : Bool) (r : Result R TableError) (e : TableError) → LineStops old begun e new (rule_if (layout_columns layout) rule)
+    → IsErrAnd r (λ d. d ≡ e) → PutsCut layout rule height cut old begun r new after
+cut-stopped layout rule height cut old new begun after (Ok x) e h i = absurd i
+cut-stopped layout rule height cut old new begun after (Err d) e h i =
+    inr (lines-stopped-first {T = Unit {0}} after (row_lines (layout_row layout height (lengthened layout.count cut))) _ (Err d) e h i refl)
+
+pub cut-finished : {R : Type 0} (layout : Layout) (rule : Option HorizontalLine) (height : ℕ) (cut : List (List ℕ)) (old mid new : Sent)
+    (begun between after : Bool) (r : Result R TableError) → LineSends old begun mid between (rule_if (layout_columns layout) rule)
+    → WritesLines mid between r new after (row_lines (layout_row layout height (lengthened layout.count cut)))
+    → PutsCut layout rule height cut old begun r new after
+cut-finished layout rule height cut old mid new begun between after (Ok x) h k = lines-finished {T = Unit {0}} new after _ _ (Ok tt) h k refl
+cut-finished layout rule height cut old mid new begun between after (Err d) h k = inr (lines-finished {T = Unit {0}} new after _ _ (Err d) h k refl)
+
+pub cut-put : {R : Type 0} (layout : Layout) (rule : Option HorizontalLine) (height : ℕ) (row cut : List (List ℕ)) (old new : Sent)
+    (begun after : Bool) (r : Result R TableError) → IsCutRow (content_at layout) layout.count row (lengthened layout.count cut)
+    → PutsCut layout rule height cut old begun r new after → Puts layout rule height row old begun r new after
+cut-put layout rule height row cut old new begun after (Ok x) c h = record { cells = _; cut = c; sends = h }
+cut-put layout rule height row cut old new begun after (Err d) c (inl m) = inl m
+cut-put layout rule height row cut old new begun after (Err d) c (inr h) = inr (record { cells = _; cut = c; stops = h })
+
+-- ---- a table that is printed, one row further
 
 -- the table with a row more
 pub extended : Sheet → List (List ℕ) → ℕ → Sheet
@@ -169,3 +259,60 @@ module _ {settings : StreamSettings} {config : CompactConfig} {ahead_rows : List
             ∙ lines-more row q.cells height p.laid p.in_reach.streamed more.streamed
             ∙ ap (λ b. lines_above p.sheet layout.count (length shown) ++ record_lines layout (rule_of layout b) height q.cells) (sym p.is_first)));
       }
+
+-- ---- the next row of a stream is printed, or refused
+
+abbrev pub padded : Layout → ℕ → ℕ
+padded layout lines = lines + (layout.style.padding.top.size + layout.style.padding.bottom.size)
+
+module _ {settings : StreamSettings} {config : CompactConfig} {ahead_rows shown : List (List (List ℕ))} {layout : Layout} {start old : Sent}
+    {first begun : Bool} where
+  -- the height of the next row
+  padded-is : (row : List (List ℕ)) (lines : ℕ) → HasPut settings config ahead_rows shown start layout first old begun
+      → lines ≡ content_height settings ahead_rows (length shown) row → padded layout lines ≡ stream_height settings config ahead_rows (length shown) row
+  padded-is row lines p h =
+      ap (λ s. lines + (s.padding.top.size + s.padding.bottom.size)) p.laid.style
+      ∙ ap (λ n. n + (config.padding.top.size + config.padding.bottom.size)) h
+
+  -- printing halts before the row
+  pub halts-before : (row : List (List ℕ)) (error : TableError) (new : Sent) → HasPut settings config ahead_rows shown start layout first old begun → new ≡ old
+      → ((error ≡ Range) × (2 ^ 64 ≤ stream_height settings config ahead_rows (length shown) row)) ⊎ (error ≡ Memory)
+      → Halts settings config ahead_rows (shown ++ row ∷ []) start layout.count error new
+  halts-before row error new p same cause =
+      let S : Sent → Type 0 = λ s. LineSends start false s begun (lines_above p.sheet layout.count (length shown)) in
+      record {
+        shown = shown;
+        rest = row ∷ [];
+        parts = refl;
+        halts =
+            inl (record {
+              sheet = p.sheet;
+              in_reach = p.in_reach;
+              begun = begun;
+              sends = subst S (sym same) p.sends;
+              taken = omega arith;
+              cause = ⊎_elim (λ h. inl h) (λ m. inr (m, omega arith)) cause;
+            });
+      }
+
+pub next-put : {R : Type 0} (r : Result R TableError) (layout : Layout) (first first' begun begun' : Bool) (old new : Sent) (height lines : ℕ)
+    (row : List (List ℕ))
+    → Puts layout (rule_of layout first) height row old begun r new begun' → OnOk r (first' ≡ false) → height ≡ padded layout lines → height < 2 ^ 64
+    → PutsNext lines row layout first old begun r first' new begun'
+next-put (Ok x) layout first first' begun begun' old new height lines row q f e b settings config ahead_rows shown start p h =
+    let P : Bool → Type 0 = λ v. HasPut settings config ahead_rows (shown ++ row ∷ []) start layout v new begun' in
+    subst P (sym f) (put-more p q (e ∙ padded-is row lines p h) b)
+next-put (Err d) layout first first' begun begun' old new height lines row (inl m) f e b settings config ahead_rows shown start p h =
+    halts-before row d new p m.1 (inr m.0)
+next-put (Err d) layout first first' begun begun' old new height lines row (inr q) f e b settings config ahead_rows shown start p h =
+    record {
+      shown = shown ++ row ∷ [];
+      rest = [];
+      parts = sym (append-nil (shown ++ row ∷ []));
+      halts = inr (refl, put-stopped p q (e ∙ padded-is row lines p h) b);
+    }
+
+pub next-refused : {R : Type 0} (r : Result R TableError) (e : TableError) (layout : Layout) (first begun : Bool) (old : Sent) (lines : ℕ) (row : List (List ℕ))
+    → IsErrAnd r (λ d. d ≡ e) → e ≡ Memory → PutsNext lines row layout first old begun r first old begun
+next-refused (Ok x) e layout first begun old lines row i m settings config ahead_rows shown start p h = absurd i
+next-refused (Err d) e layout first begun old lines row i m settings config ahead_rows shown start p h = halts-before row d old p refl (inr (i ∙ m))

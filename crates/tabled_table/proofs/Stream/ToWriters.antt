@@ -1,14 +1,19 @@
 -- Streams that are printed to a borrowed writer.
-use Rattle.std.proofs.Common.{◌≡◌, ℕ, Bool, List, Option, None, Result, Ok, Err, ◌∙◌, subst, inl, inr, ⊎_elim}
+use Rattle.std.proofs.Common.{◌≡◌, ℕ, Bool, List, Option, None, Result, Ok, Err, ◌∙◌, subst, inl, inr, ⊎_elim, map, refl}
 use Rattle.tabled_base.specs.declared.error.TableError.{TableError}
 use Rattle.tabled_base.specs.declared.error.TableError.TheVariants.{Memory, Range, Writer}
 use Rattle.tabled_config.specs.declared.compact.CompactConfig.{CompactConfig}
 use Rattle.tabled_line.specs.Sent.{Sent}
 use Rattle.tabled_line.specs.WriterSent.{named_sent}
 use Rattle.tabled_line.proofs.Writers.{LeavesSo, byte_of, writer-leaves, writer-sends}
-use Rattle.tabled_table.specs.Stream.Below.{StopsBelow}
+use Rattle.tabled_table.specs.Stream.Printed.{StopsBelow}
 use Rattle.tabled_table.specs.declared.iter_table.settings.StreamSettings.{StreamSettings}
 use Rattle.tabled_table.specs.Stream.Streams.{BuildsStream, PrintsStream, StopsAtEnd, StopsAtRow, StopsEarly, StopsInRows, StreamStops}
+use Rattle.tabled_table.specs.Stream.Streams.{ArePermitted, Came, Streams}
+use Rattle.std.specs.declared.option.Option.{Option}
+use Rattle.std.specs.Iterator.{Count}
+use Rattle.tabled_base.specs.RowsGiven.{RowsBegin, RowsEnd}
+use Rattle.tabled_records.specs.Reading.{MayGive, ReadsTo}
 
 not_range : (e : TableError) → e ≡ Range → e ≡ Writer → ⊥
 not_range e h k = cc
@@ -89,3 +94,37 @@ prints-written settings config comes na nb ca held cb cf was failed_at r unfaile
     let P : Option ℕ → Type 0 = λ o. PrintsStream settings config comes (named_sent na held o) r (named_sent nb cb failed_at) in
     let Q : Option (List ℕ) → Type 0 = λ h. PrintsStream settings config comes (named_sent na h None) r (named_sent nb cb failed_at) in
     written settings config comes na nb ca cb cf failed_at r k (subst Q same (subst P unfailed p))
+
+-- ---- what is read of a source, told of the iterator that it makes
+
+module _ {V S W T : Type 0} {rows_become : V → S → Type 0} {can_row : S → Type 0} {row_steps : S → Option W → S → Type 0} {rows_left : S → Count}
+    {cells_become : W → T → Type 0} {can_cell : T → Type 0} {cells_left : T → Count} where
+  pub may-give : {rows : V} {it : S} → RowsEnd rows_become can_row row_steps rows_left cells_become can_cell cells_left rows → rows_become rows it
+      → MayGive can_row row_steps rows_left cells_become can_cell cells_left it
+  may-give {rows} {it} h made = record { can = (h.all it made).0; ends = (h.all it made).1; each = h.each it made }
+
+module _ {V S W T A : Type 0} {rows_become : V → S → Type 0} {row_steps : S → Option W → S → Type 0} {cells_become : W → T → Type 0}
+    {cell_steps : T → Option A → T → Type 0} where
+  pub begins-of : {rows : V} {it to : S} {cells : List (List A)} {whole : Bool} → rows_become rows it
+      → ReadsTo row_steps cells_become cell_steps it cells whole to → RowsBegin rows_become row_steps cells_become cell_steps rows cells whole
+  begins-of {it = it} {to = to} made r = record {
+    lists = r.reads.lists;
+    iterator = it;
+    made = made;
+    reached = r.reached;
+    yielded = r.reads.yielded;
+    each = r.reads.each;
+    ended = λ e. (to, r.ended e);
+  }
+
+-- what is printed of a source, by the cells that are read of it first
+pub prints-stream : {T A : Type 0} {settings : StreamSettings} {config : CompactConfig} {begins : List (List A) → Bool → Type 0} {text : A → List ℕ}
+    {old new : Sent} {r : Result T TableError} (cells : List (List A)) (whole : Bool) → begins cells whole → ArePermitted settings (map (map text) cells)
+    → Streams settings config (map (map text) cells) whole old r new → PrintsStream settings config (Came begins text) old r new
+prints-stream {text = text} cells whole begun permitted streams = record {
+  rows = map (map text) cells;
+  whole = whole;
+  came = (cells, begun, refl);
+  permitted = permitted;
+  streams = streams;
+}

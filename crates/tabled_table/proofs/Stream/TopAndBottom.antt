@@ -17,14 +17,14 @@ use Rattle.tabled_size.specs.Sheet.{Sheet, is_empty}
 use Rattle.tabled_size.specs.Totals.{filled_width}
 use Rattle.tabled_table.specs.declared.iter_table.layout.Layout.{Layout}
 use Rattle.tabled_table.specs.declared.iter_table.settings.StreamSettings.{StreamSettings}
-use Rattle.tabled_table.specs.Stream.Below.{WritesBelow}
+use Rattle.tabled_table.specs.Stream.Printed.{WritesBelow}
 use Rattle.tabled_table.specs.Stream.Printed.{lines_above, text_above}
 use Rattle.tabled_table.specs.Stream.Progress.{EndsSheet, HaltsWithin, HasPut, IsInReach, IsLaidOut}
 use Rattle.tabled_table.specs.Stream.Streamed.{IsStreamed, stream_widths}
 use Rattle.tabled_table.specs.Stream.Streams.{stream_total}
 use Rattle.tabled_table.specs.Stream.Row.{layout_columns}
 use Rattle.tabled_config.specs.declared.frame.Frame.{Frame}
-use Rattle.tabled_table.proofs.Stream.Below.{ends-below, stops-first}
+use Rattle.tabled_table.proofs.Stream.Steps.{ends-below, stops-first}
 use Rattle.tabled_table.proofs.Stream.Parts.{columns-laid, not-zero, rule-below}
 
 -- the table of no rows

@@ -1,10 +1,12 @@
 -- The table of the first of some rows goes on to the table of all.
-use Rattle.std.proofs.Common.{◌≡◌, ℕ, ◌+◌, ◌-◌, ◌==◌, ◌<◌, ◌≤◌, ◌||◌, false, if◌then◌else◌, List, [], ◌∷◌, ◌++◌, length, map, replicate, Option, inl, inr, refl, sym, ◌∙◌, ap, subst, arith, get_or, append-nil, append_assoc, length-append}
+use Rattle.std.proofs.Common.{◌≡◌, ℕ, ◌+◌, ◌-◌, ◌==◌, ◌<◌, ◌≤◌, ◌||◌, false, if◌then◌else◌, List, [], ◌∷◌, ◌++◌, length, map, replicate}
+use Rattle.std.proofs.Common.{Option, inl, inr, refl, sym, ◌∙◌, ap, subst, arith, get_or, append-nil, append_assoc, length-append, zero}
+use Rattle.std.proofs.Common.{suc, true, take, chars, encode_utf8_all, All}
 use Rattle.std.specs.List.{flat_map, join_with_byte, range_with_len, slice_index}
-use Rattle.std.proofs.lemmas.Bool.{cases_lt}
-use Rattle.std.proofs.lemmas.List.{get_or_append_left, get_or-append_right}
+use Rattle.std.proofs.lemmas.Bool.{cases_lt, and_parts, cases_eq}
+use Rattle.std.proofs.lemmas.List.{get_or_append_left, get_or-append_right, get_or-take, length-take}
 use Rattle.std.proofs.lemmas.List.FromFn.{length-map-range_with_len}
-use Rattle.tabled_base.specs.Cells.{columns}
+use Rattle.tabled_base.specs.Cells.{columns, lengthened}
 use Rattle.tabled_config.specs.declared.borders.HorizontalLine.{HorizontalLine}
 use Rattle.tabled_config.specs.declared.compact.CompactConfig.{CompactConfig}
 use Rattle.tabled_config.specs.Settings.{frame, rule_at, style_at}
@@ -21,10 +23,86 @@ use Rattle.tabled_table.specs.declared.iter_table.settings.StreamSettings.{Strea
 use Rattle.tabled_table.specs.Stream.GoesOn.{GoesOn}
 use Rattle.tabled_table.specs.Stream.Printed.{lines_above}
 use Rattle.tabled_table.specs.Stream.Streamed.{IsCutRow, IsStreamed, column_count, content_width, stream_height}
-use Rattle.tabled_table.proofs.Stream.CutExists.{AreChosen, chosen, cut_row_exists}
 use Rattle.tabled_table.proofs.Stream.Parts.{flat_map-same, not-zero, rule-above}
 use Rattle.tabled_table.proofs.Stream.StreamedTexts.{streamed_columns}
 use Rattle.tabled_table.proofs.Stream.Widths.{listed}
+use Rattle.std.specs.Str.{IsUtf8}
+use Rattle.std.proofs.lemmas.Str.{chars-encodes, chars-nil}
+use lib.Utf8.{scalar, scalars}
+use Rattle.tabled_text.specs.Cut.{IsCut, IsParted}
+use Rattle.tabled_text.specs.Measure.{char_count}
+use Rattle.tabled_text.proofs.CutLemmas.{IsCut-filled, IsParted-end, IsParted-full, IsParted-wide, Walked, Walked-feed, Walked-push}
+use Rattle.tabled_text.proofs.CutLemmas.{Walked-start}
+
+-- ---- every text can be cut, and so can every row of texts
+
+-- the cut text, where its beginning is known
+filled : {n columns missing : ℕ} {text rest after : List ℕ} (w : Walked n text rest columns) → IsParted n (chars text) (chars w.front) missing after
+    → (answer : List ℕ) × IsCut n text answer
+filled {missing = missing} w p = (w.front ++ encode_utf8_all (replicate missing 0xFFFD), IsCut-filled w.utf8 p refl)
+
+-- a beginning was walked over, and some characters are left
+cut-from : (n columns : ℕ) (text cs : List ℕ) → scalars cs ≡ true → Walked n text (encode_utf8_all cs) columns → (answer : List ℕ) × IsCut n text answer
+cut-from n columns text [] s w = filled w (IsParted-end w.front w chars-nil refl)
+cut-from n columns text (c ∷ cs) s w =
+    let rest = encode_utf8_all (c ∷ cs) in
+    let after = encode_utf8_all cs in
+    let tail : scalars cs ≡ true = (and_parts (scalar c) (scalars cs) s).1 in
+    let utf8 : IsUtf8 rest = (c ∷ cs, (s, refl)) in
+    let first : chars rest ≡ c ∷ chars after = chars-encodes (c ∷ cs) s ∙ ap (λ l. c ∷ l) (sym (chars-encodes cs tail)) in
+    elim (cases_eq columns n) [
+      | inl full ↦ filled w (IsParted-full w.front w full refl)
+      | inr partly ↦ elim (cases_eq c 10) [
+        | inl feed ↦ cut-from n 0 text cs tail (Walked-feed after c w utf8 refl first partly feed)
+        | inr other ↦ elim (cases_lt n (columns + char_count c)) [
+          | inl wide ↦ filled w (IsParted-wide after c w.front first other wide partly w refl)
+          | inr room ↦ cut-from n (columns + char_count c) text cs tail (Walked-push after c w utf8 refl first partly other room)
+        ]
+      ]
+    ]
+
+-- every text can be cut
+pub cut_exists : (n : ℕ) (text : List ℕ) → IsUtf8 text → (answer : List ℕ) × IsCut n text answer
+cut_exists n text (cs, (s, e)) = cut-from n 0 text cs s (subst (λ rest. Walked n text rest 0) (sym e) (Walked-start n text))
+
+-- ---- lists
+
+-- for each entry of a list one was chosen
+pub record AreChosen {A B : Type 0} (P : ℕ → A → B → Type 0) (d : A) (e : B) (xs : List A) (ys : List B) : Type 0 where
+  pub as_many : length ys ≡ length xs
+  pub each : (k : ℕ) → k < length xs → P k (get_or xs k d) (get_or ys k e)
+
+chosen-first : {A B : Type 0} (P : ℕ → A → B → Type 0) (d : A) (e : B) (x : A) (xs : List A) (y : B) (ys : List B) → P 0 x y
+    → ((k : ℕ) → k < length xs → P (suc k) (get_or xs k d) (get_or ys k e)) → (k : ℕ) → k < length (x ∷ xs) → P k (get_or (x ∷ xs) k d) (get_or (y ∷ ys) k e)
+chosen-first P d e x xs y ys first others zero h = first
+chosen-first P d e x xs y ys first others (suc k) h = others k (omega arith)
+
+pub chosen : {A B : Type 0} (P : ℕ → A → B → Type 0) (d : A) (e : B) (xs : List A) → ((k : ℕ) → k < length xs → (y : B) × P k (get_or xs k d) y)
+    → (ys : List B) × AreChosen P d e xs ys
+chosen P d e [] f = ([], record { as_many = refl; each = λ k h. absurd (omega arith) })
+chosen P d e (x ∷ xs) f =
+    let first = f 0 (omega arith) in
+    let others = chosen (λ k. P (suc k)) d e xs (λ k h. f (suc k) (omega arith)) in
+    let many = others.1.as_many in
+    (first.0 ∷ others.0, record { as_many = omega arith; each = chosen-first P d e x xs first.0 others.0 first.1 others.1.each })
+
+-- every row of texts can be cut
+pub cut_row_exists : (content : ℕ → ℕ) (count : ℕ) (row : List (List ℕ)) → All IsUtf8 row → (cells : List (List ℕ)) × IsCutRow content count row cells
+cut_row_exists content count row u =
+    let P : ℕ → List ℕ → List ℕ → Type 0 = λ k text answer. IsCut (content k) text answer in
+    let long = length-take count row in
+    let c = chosen P [] [] (take count row) (λ k h. cut_exists (content k) (get_or (take count row) k []) (subst IsUtf8 (sym (get_or-take count row k [] (omega arith))) (u k [] (omega arith)))) in
+    let many = c.1.as_many in (
+      lengthened count c.0,
+      record {
+        cut = c.0;
+        as_many = omega arith;
+        each = λ k h. subst (λ text. P k text (get_or c.0 k [])) (get_or-take count row k [] (omega arith)) (c.1.each k (omega arith));
+        whole = refl;
+      },
+    )
+
+-- ---- the table of the first of some rows goes on to the table of all
 
 -- ---- lists
 

@@ -23,18 +23,10 @@ pub record AreMeasured (settings : StreamSettings) (cells : List (List (List ℕ
   pub no_width : settings.width ≡ None
   pub no_height : settings.height ≡ None
 
--- a stream of these rows is like a table: the rows are measured, as in `AreMeasured`, and each cell
--- is an exact line
+-- a stream of these rows is like a table: the rows are measured, and each cell is an exact line
 pub record IsLikeTable (settings : StreamSettings) (cells : List (List (List ℕ))) : Type 0 where
-  pub has_row : 0 < length cells
-  pub has_column : 0 < columns cells
-  pub rectangular : IsRectangular cells
+  pub measured : AreMeasured settings cells
   pub exact : All (All IsExactLine) cells
-  pub sniffed : length cells ≤ settings.sniff
-  pub no_columns : settings.columns ≡ None
-  pub no_rows : settings.rows ≡ None
-  pub no_width : settings.width ≡ None
-  pub no_height : settings.height ≡ None
 
 -- what a call that prints a source leaves: some rows were read first, as many as were needed; if
 -- their stream is like a table, they are all, and the text of the table with estimated sizes was

@@ -1,6 +1,6 @@
 -- How far a stream was printed.
-use Rattle.std.specs.Prelude.{◌≡◌, ◌≢◌, ℕ, ◌+◌, ◌-◌, ◌==◌, ◌^◌, ◌<◌, ◌≤◌, ◌⊎◌, Bool, true, false, List, [], ◌∷◌, ◌++◌, Option}
-use Rattle.std.specs.Prelude.{Some, None, Result, Ok, Err, MatchResult, length, slice_index, take, unwrap_or}
+use Rattle.std.specs.Prelude.{◌≡◌, ◌≢◌, ℕ, ◌+◌, ◌-◌, ◌==◌, ◌^◌, ◌<◌, ◌≤◌, ◌⊎◌, Bool, true, false, List, [], ◌∷◌, ◌++◌, Option, Some, None}
+use Rattle.std.specs.Prelude.{Result, Ok, Err, MatchResult, length, slice_index, take, unwrap_or}
 use Rattle.std.specs.Result.{IsErrAnd}
 use Rattle.tabled_base.specs.declared.error.TableError.{TableError}
 use Rattle.tabled_base.specs.declared.error.TableError.TheVariants.{Memory, Range}
@@ -14,11 +14,12 @@ use Rattle.tabled_line.specs.Sent.{Sent}
 use Rattle.tabled_size.specs.Sheet.{Sheet}
 use Rattle.tabled_table.specs.declared.iter_table.layout.Layout.{Layout}
 use Rattle.tabled_table.specs.declared.iter_table.settings.StreamSettings.{StreamSettings}
-use Rattle.tabled_table.specs.Stream.Below.{StopsBelow, WritesBelow}
-use Rattle.tabled_table.specs.Stream.Printed.{lines_above, lines_before, text_above}
+use Rattle.tabled_table.specs.Stream.Printed.{StopsBelow, WritesBelow, lines_above, lines_before, text_above}
 use Rattle.tabled_table.specs.Stream.Row.{compact_style, content_at}
 use Rattle.tabled_table.specs.Stream.Streamed.{IsStreamed, ahead, column_count, content_height, content_width, sniffed}
 use Rattle.tabled_table.specs.Stream.Streams.{IsTooHighFirst, Streams, stream_total}
+use Rattle.std.specs.declared.option.Option.{Option}
+use Rattle.tabled_records.specs.Reading.{ReadsTo}
 
 -- a layout for these settings and the rows that were read ahead
 pub record IsLaidOut (settings : StreamSettings) (config : CompactConfig) (ahead_rows : List (List (List ℕ))) (layout : Layout) : Type 0 where
@@ -84,14 +85,6 @@ PutsNext lines row layout first old begun result first' new begun' =
     (settings : StreamSettings) (config : CompactConfig) (ahead_rows shown : List (List (List ℕ))) (start : Sent)
     → HasPut settings config ahead_rows shown start layout first old begun → lines ≡ content_height settings ahead_rows (length shown) row
     → PutsRows settings config ahead_rows (shown ++ row ∷ []) start layout result first' new begun'
-
--- what writing the top margin leaves
-abbrev pub PutsTop : {R : Type 0} → Layout → ℕ → Sent → Result R TableError → Bool → Sent → Bool → Type 0
-PutsTop layout total old result first new begun =
-    (settings : StreamSettings) (config : CompactConfig) (ahead_rows : List (List (List ℕ)))
-    → IsLaidOut settings config ahead_rows layout → total ≡ stream_total settings config ahead_rows
-    → MatchResult result (λ _. HasPut settings config ahead_rows [] old layout first new begun)
-    (λ error. HaltsWithin settings config ahead_rows [] old layout.count error new)
 
 -- what writing the first rows leaves, of which `many` were read ahead
 abbrev pub PutsFirst : {R : Type 0} → StreamSettings → ℕ → List (List (List ℕ)) → Layout → Bool → Sent → Bool → Result R TableError
@@ -178,3 +171,12 @@ StreamsLaidOut settings layout total rows more whole old result new =
     (config : CompactConfig) → IsLaidOut settings config (sniffed settings rows) layout
     → total ≡ stream_total settings config (sniffed settings rows)
     → Streams settings config (rows ++ more) whole old result new
+
+-- ---- rows that are read after others
+
+-- further rows are read: if reading `kept` ended at `between`, then reading `kept` and `more` ends
+-- at `to`
+abbrev pub ReadsOn : {S W T A : Type 0} (row_steps : S → Option W → S → Type 0) (cells_become : W → T → Type 0)
+    (cell_steps : T → Option A → T → Type 0) (kept : List (List A)) (all : Bool) (between : S) (more : List (List A)) (whole : Bool) (to : S) → Type 0
+ReadsOn {S} row_steps cells_become cell_steps kept all between more whole to =
+    (from : S) → ReadsTo row_steps cells_become cell_steps from kept all between → ReadsTo row_steps cells_become cell_steps from (kept ++ more) whole to

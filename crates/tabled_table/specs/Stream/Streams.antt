@@ -10,7 +10,7 @@ use Rattle.tabled_line.specs.Sent.{Sent, Sends}
 use Rattle.tabled_line.specs.WriterSent.{known_since, writer_after, writer_before}
 use Rattle.tabled_grid.specs.Picture.{table_text}
 use Rattle.tabled_table.specs.declared.iter_table.settings.StreamSettings.{StreamSettings}
-use Rattle.tabled_table.specs.Stream.Below.{StopsBelow}
+use Rattle.tabled_table.specs.Stream.Printed.{StopsBelow}
 use Rattle.tabled_table.specs.Stream.Printed.{text_above, text_before}
 use Rattle.tabled_table.specs.Stream.Streamed.{IsStreamed, ahead, column_count, limited, sniffed, stream_height, stream_widths}
 

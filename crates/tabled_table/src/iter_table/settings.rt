@@ -1,6 +1,6 @@
 //! The settings of a stream: how many rows are read and shown, and the sizes that are set.
-ghost use Rattle.std.specs.Prelude.{◌≡◌, ◌≢◌, ◌<◌, ◌≤◌, ◌⊎◌, MatchOption, Some};
-ghost use Rattle.std.specs.Prelude.{false, min, true, unwrap_or};
+ghost use Rattle.std.specs.Prelude.{◌≡◌, ◌≢◌, ◌<◌, ◌≤◌, ◌⊎◌, MatchOption, Some, false, min, true};
+ghost use Rattle.std.specs.Prelude.{unwrap_or};
 ghost use Rattle.tabled_table.specs.Stream.Streamed.{ahead};
 ghost use Rattle.tabled_table.specs.Stream.Progress.{left_of};
 
@@ -39,16 +39,6 @@ pub(crate) fn is_none_left(left: Option<usize>) -> bool
     matches!(left, Some(0))
 }
 
-/// Whether a row may be shown if none is read ahead: there is a column, and rows may be printed.
-fn shows_unread(settings: &StreamSettings) -> bool
-    ensures shown { result ≡ true
-        → (0 < unwrap_or settings.now.columns 0) × (settings.now.rows ≢ Some 0) }
-    ensures none { result ≡ false
-        → (unwrap_or settings.now.columns 0 ≡ 0) ⊎ (settings.now.rows ≡ Some 0) }
-{
-    settings.columns.unwrap_or(0) > 0 && !is_none_left(settings.rows)
-}
-
 /// Returns how many rows are read before the first byte: those that are read ahead, or else the
 /// first if it may be shown.
 pub(crate) fn first_rows(settings: &StreamSettings) -> usize
@@ -60,7 +50,7 @@ pub(crate) fn first_rows(settings: &StreamSettings) -> usize
         → (unwrap_or settings.now.columns 0 ≡ 0) ⊎ (settings.now.rows ≡ Some 0) }
 {
     let ahead = ahead(settings);
-    if ahead == 0 && shows_unread(settings) {
+    if ahead == 0 && settings.columns.unwrap_or(0) > 0 && !is_none_left(settings.rows) {
         1
     } else {
         ahead

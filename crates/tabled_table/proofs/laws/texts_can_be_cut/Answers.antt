@@ -1,4 +1,4 @@
-use Rattle.tabled_table.proofs.Stream.CutExists.{cut_exists, cut_row_exists}
+use Rattle.tabled_table.proofs.Stream.WholeTexts.{cut_exists, cut_row_exists}
 use Rattle.tabled_table.proofs.laws.texts_can_be_cut.Goals as goal
 
 pub returns : goal.returns

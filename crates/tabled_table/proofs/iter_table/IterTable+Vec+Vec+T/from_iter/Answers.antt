@@ -1,4 +1,4 @@
-use Rattle.tabled_table.proofs.Stream.Sources.{may-give}
+use Rattle.tabled_table.proofs.Stream.ToWriters.{may-give}
 use Rattle.tabled_table.proofs.iter_table.IterTable+Vec+Vec+T.from_iter.Goals as goal
 
 pub collect_rows-requires : goal.collect_rows-requires

@@ -1,5 +1,5 @@
 use Rattle.tabled_table.proofs.Stream.SameSheet.{like_printed}
-use Rattle.tabled_table.proofs.Stream.Sources.{begins-of, may-give, prints-stream}
+use Rattle.tabled_table.proofs.Stream.ToWriters.{begins-of, may-give, prints-stream}
 use Rattle.tabled_table.proofs.iter_table.IterTable.fmt.Goals as goal
 
 pub print_stream-requires : goal.print_stream-requires

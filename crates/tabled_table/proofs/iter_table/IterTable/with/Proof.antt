@@ -1,26 +1,25 @@
 -- `with` by hand: the table is lent again to `apply`, comes back as that left it, and is handed on or given up.
-use Rattle.tabled_table.proofs.Walks.{[], !, a_type, accepted, addr, after, agg, alloc_all, and_then, apart, apply∗, Args, at_ret}
-use Rattle.tabled_table.proofs.Walks.{await, bounded, by_done, calls_at, cause, cause_made, comes_back, dcons, Dict, dnil, done}
-use Rattle.tabled_table.proofs.Walks.{Done, emp, ends_at, enter, env, Err, err_of, exec, fact, fact_i, fdead, first, fjoin, fld}
-use Rattle.tabled_table.proofs.Walks.{flft, Fn, framed, free_all, fsplit, fsplit3, ftrue, full_share, get, get_in, get_tag}
-use Rattle.tabled_table.proofs.Walks.{Goes-dropped, Goes-spent_ref, has_ty, heard, id⊢, IfErr, in_variant, inl, inr, inst_fn}
-use Rattle.tabled_table.proofs.Walks.{IsCause, join, keep, lands_as, lasts, later, layout, left, lends_again, LentAgain, lft_end}
-use Rattle.tabled_table.proofs.Walks.{lft_new, List, lit, lit<, live, Logic, look_at, meet_⊑_left, meet_⊑_right, move, mut_ref_to}
-use Rattle.tabled_table.proofs.Walks.{mut_vals, MutBor, MutRef, named, no, no_more, nothing, of_list, of_opd, Ok, ok_of, OnOk, owns}
-use Rattle.tabled_table.proofs.Walks.{param, param_laws, pass_all, pick, plain, prop, proved_at, qed, Range, RattleType, raw, refl}
-use Rattle.tabled_table.proofs.Walks.{refused, regoal, Rests, rests_at_err, rests_at_ok, Result, returns, rewrite, right, sets}
-use Rattle.tabled_table.proofs.Walks.{sets_last, single, some, split, spot_of, SProp, stay_dropped, Stays, stop, subst, suffices}
-use Rattle.tabled_table.proofs.Walks.{switches, sym, T, TableError, tables, TE, through, told_err, told_ok, triple_of, Typed}
-use Rattle.tabled_table.proofs.Walks.{types_at, unit, Ura, use0, use1, use2, use3, Val, vptr, vrt, walk_of, wand, whole, WpFn, WT}
-use Rattle.tabled_table.proofs.Walks.{‵, ℕ, ⊤, ◌$◌, ◌++◌, ◌∵◌, ◌∷◌, ◌≡◌, ◌⊑◌, ◌⊛◌}
-use Rattle.std.specs.contracts.result.Result as result
+use Rattle.tabled_table.proofs.Walks.{[], !, a_type, accepted, addr, after, agg, alloc_all, and_then, apart, apply∗, Args, at_ret, await}
+use Rattle.tabled_table.proofs.Walks.{bounded, by_done, calls_at, cause, cause_made, comes_back, dcons, Dict, dnil, done, Done, emp}
+use Rattle.tabled_table.proofs.Walks.{ends_at, enter, env, Err, err_of, exec, fact, fact_i, fdead, first, fjoin, fld, flft, Fn, framed}
+use Rattle.tabled_table.proofs.Walks.{free_all, fsplit, fsplit3, ftrue, full_share, get, get_in, get_tag, Goes-dropped, Goes-spent_ref}
+use Rattle.tabled_table.proofs.Walks.{has_ty, heard, id⊢, IfErr, in_variant, inl, inr, inst_fn, IsCause, join, keep, lands_as, lasts, later}
+use Rattle.tabled_table.proofs.Walks.{layout, left, lends_again, LentAgain, lft_end, lft_new, List, lit, lit<, live, Logic, look_at}
+use Rattle.tabled_table.proofs.Walks.{meet_⊑_left, meet_⊑_right, move, mut_ref_to, mut_vals, MutBor, MutRef, named, no, no_more, nothing}
+use Rattle.tabled_table.proofs.Walks.{of_list, of_opd, Ok, ok_of, OnOk, owns, param, param_laws, pass_all, pick, plain, prop, proved_at}
+use Rattle.tabled_table.proofs.Walks.{qed, Range, RattleType, raw, refl, refused, regoal, Rests, rests_at_err, rests_at_ok, Result, returns}
+use Rattle.tabled_table.proofs.Walks.{rewrite, right, sets, sets_last, single, some, split, spot_of, SProp, stay_dropped, Stays, stop}
+use Rattle.tabled_table.proofs.Walks.{subst, suffices, switches, sym, T, TableError, tables, TE, through, told_err, told_ok, triple_of}
+use Rattle.tabled_table.proofs.Walks.{Typed, types_at, unit, Ura, use0, use1, use2, use3, Val, vptr, vrt, walk_of, wand, whole, WpFn, WT, ‵}
+use Rattle.tabled_table.proofs.Walks.{ℕ, ⊤, ◌$◌, ◌++◌, ◌∵◌, ◌∷◌, ◌≡◌, ◌⊑◌, ◌⊛◌}
 use Rattle.tabled_table.specs.Stream.Applied.{IsApplied, WasOutOfRange}
 use Rattle.tabled_table.specs.contracts.iter_table.IterTable.{the_row}
-use Rattle.tabled_table.specs.contracts.iter_table.IterTable.with as f
 use Rattle.tabled_table.proofs.iter_table.IterTable.with.Statement.{statement}
+use Rattle.tabled_table.proofs.iter_table.IterTable.apply.Met.{met}
+use Rattle.std.specs.contracts.result.Result as result
+use Rattle.tabled_table.specs.contracts.iter_table.IterTable.with as f
 use Rattle.tabled_table.proofs.iter_table.IterTable.with.Code as code
 use Rattle.tabled_table.specs.contracts.iter_table.IterTable.apply as g
-use Rattle.tabled_table.proofs.iter_table.IterTable.apply.Met.{met}
 
 abbrev given_args : RattleType → RattleType → Dict → Args
 given_args I O d = bounded (a_type ∷ a_type ∷ []) (I, (O, tt)) (dcons d dnil)

@@ -1,27 +1,25 @@
 -- `modify` by hand: the table is lent again to `apply_own`, comes back as that left it, and is handed on or given up.
-use Rattle.tabled_table.proofs.Walks.{[], !, a_type, accepted, addr, after, agg, alloc_all, and_then, apart, Args, at_ret, await}
-use Rattle.tabled_table.proofs.Walks.{bounded, by_done, calls_at, cause, cause_made, columns, comes_back, dcons, Dict, dnil, done}
-use Rattle.tabled_table.proofs.Walks.{Done, emp, ends_at, enter, env, Err, err_of, exec, fact, fact_i, first, fjoin, fld, flft, Fn}
-use Rattle.tabled_table.proofs.Walks.{framed, free_all, fsplit, fsplit3, ftrue, full_share, get, get_in, get_tag, Goes-dropped}
-use Rattle.tabled_table.proofs.Walks.{Goes-spent_ref, has_ty, heard, id⊢, IfErr, in_variant, inl, inr, inst_fn, IsCause, join, keep}
-use Rattle.tabled_table.proofs.Walks.{lands_as, lasts, later, layout, lends_again, length, LentAgain, lft_end, lft_new, List, lit}
-use Rattle.tabled_table.proofs.Walks.{lit<, live, Logic, look_at, move, mut_ref_to, mut_vals, MutBor, MutRef, named, no, no_more}
-use Rattle.tabled_table.proofs.Walks.{nothing, of_list, of_opd, Ok, ok_of, OnOk, owns, param, param_laws, pass_all, pick, plain}
-use Rattle.tabled_table.proofs.Walks.{prop, proved_at, qed, RattleType, raw, refl, refused, regoal, Rests, rests_at_err}
-use Rattle.tabled_table.proofs.Walks.{rests_at_ok, Result, returns, rewrite, sets, sets_last, single, some, split, spot_of, SProp}
-use Rattle.tabled_table.proofs.Walks.{stay_dropped, Stays, stop, subst, suffices, switches, sym, T, TableError, tables, TE, through}
-use Rattle.tabled_table.proofs.Walks.{told_err, told_ok, triple_of, Typed, types_at, unit, Ura, use0, use1, use2, use3, Val, vptr}
-use Rattle.tabled_table.proofs.Walks.{vrt, walk_of, whole, WpFn, WT, ‵, ℕ, ⊤, ◌$◌, ◌++◌, ◌∵◌, ◌∷◌, ◌≡◌, ◌⊑◌, ◌⊛◌}
-use Rattle.std.specs.contracts.result.Result as result
-use Rattle.tabled_table.specs.Applied.{IsModified}
-use Rattle.tabled_table.specs.Stopped.{IsModifyingRefused}
+use Rattle.tabled_table.proofs.Walks.{[], !, a_type, accepted, addr, after, agg, alloc_all, and_then, apart, Args, at_ret, await, bounded}
+use Rattle.tabled_table.proofs.Walks.{by_done, calls_at, cause, cause_made, columns, comes_back, dcons, Dict, dnil, done, Done, emp}
+use Rattle.tabled_table.proofs.Walks.{ends_at, enter, env, Err, err_of, exec, fact, fact_i, first, fjoin, fld, flft, Fn, framed, free_all}
+use Rattle.tabled_table.proofs.Walks.{fsplit, fsplit3, ftrue, full_share, get, get_in, get_tag, Goes-dropped, Goes-spent_ref, has_ty, heard}
+use Rattle.tabled_table.proofs.Walks.{id⊢, IfErr, in_variant, inl, inr, inst_fn, IsCause, join, keep, lands_as, lasts, later, layout}
+use Rattle.tabled_table.proofs.Walks.{lends_again, length, LentAgain, lft_end, lft_new, List, lit, lit<, live, Logic, look_at, move}
+use Rattle.tabled_table.proofs.Walks.{mut_ref_to, mut_vals, MutBor, MutRef, named, no, no_more, nothing, of_list, of_opd, Ok, ok_of, OnOk}
+use Rattle.tabled_table.proofs.Walks.{owns, param, param_laws, pass_all, pick, plain, prop, proved_at, qed, RattleType, raw, refl, refused}
+use Rattle.tabled_table.proofs.Walks.{regoal, Rests, rests_at_err, rests_at_ok, Result, returns, rewrite, sets, sets_last, single, some}
+use Rattle.tabled_table.proofs.Walks.{split, spot_of, SProp, stay_dropped, Stays, stop, subst, suffices, switches, sym, T, TableError}
+use Rattle.tabled_table.proofs.Walks.{tables, TE, through, told_err, told_ok, triple_of, Typed, types_at, unit, Ura, use0, use1, use2, use3}
+use Rattle.tabled_table.proofs.Walks.{Val, vptr, vrt, walk_of, whole, WpFn, WT, ‵, ℕ, ⊤, ◌$◌, ◌++◌, ◌∵◌, ◌∷◌, ◌≡◌, ◌⊑◌, ◌⊛◌}
+use Rattle.tabled_table.specs.Applied.{IsModified, IsModifyingRefused}
 use Rattle.tabled_table.specs.TableSheet.{cells_of}
 use Rattle.tabled_table.specs.contracts.table.Table.{the_row as R}
-use Rattle.tabled_table.specs.contracts.table.Table.modify as f
 use Rattle.tabled_table.proofs.table.Table.modify.Statement.{statement}
+use Rattle.tabled_table.proofs.table.Table.apply_own.Met.{met}
+use Rattle.std.specs.contracts.result.Result as result
+use Rattle.tabled_table.specs.contracts.table.Table.modify as f
 use Rattle.tabled_table.proofs.table.Table.modify.Code as code
 use Rattle.tabled_table.specs.contracts.table.Table.apply_own as g
-use Rattle.tabled_table.proofs.table.Table.apply_own.Met.{met}
 
 abbrev given_args : RattleType → RattleType → Dict → Dict → Dict → Dict → Args
 given_args A O d₁ d₂ d₃ d₄ = bounded (a_type ∷ a_type ∷ []) (A, (O, tt)) (dcons d₁ (dcons d₂ (dcons d₃ (dcons d₄ dnil))))

@@ -1,7 +1,7 @@
 use Rattle.std.proofs.Common.{◌∙◌, ◌||◌, ap, is_some, nat_lt, sym}
 use Rattle.tabled_grid.proofs.Printing.{prints_nothing}
 use Rattle.tabled_table.specs.PrintedWith.{shown, shown_config}
-use Rattle.tabled_table.proofs.ShownTables.{prints_changed, prints_unchanged, refused_missing}
+use Rattle.tabled_table.proofs.Shown.{prints_changed, prints_unchanged, refused_missing}
 use Rattle.tabled_table.proofs.table.Table.print_with.Goals as goal
 
 pub returns-then-is_empty-clause-printed : goal.returns-then-is_empty-clause-printed

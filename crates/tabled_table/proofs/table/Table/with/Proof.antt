@@ -1,25 +1,24 @@
 -- `with` by hand: the table is lent again to `apply`, comes back as that left it, and is handed on or given up.
-use Rattle.tabled_table.proofs.Walks.{[], !, a_type, accepted, addr, after, agg, alloc_all, and_then, apart, Args, at_ret, await}
-use Rattle.tabled_table.proofs.Walks.{bounded, by_done, calls_at, cause, cause_made, comes_back, dcons, Dict, dnil, done, Done, emp}
-use Rattle.tabled_table.proofs.Walks.{ends_at, enter, env, Err, err_of, exec, fact, fact_i, first, fjoin, fld, flft, Fn, framed}
-use Rattle.tabled_table.proofs.Walks.{free_all, fsplit, fsplit3, ftrue, full_share, get, get_in, get_tag, Goes-dropped}
-use Rattle.tabled_table.proofs.Walks.{Goes-spent_ref, has_ty, heard, id⊢, IfErr, in_variant, inl, inr, inst_fn, IsCause, join, keep}
-use Rattle.tabled_table.proofs.Walks.{lands_as, lasts, later, layout, lends_again, LentAgain, lft_end, lft_new, List, lit, lit<}
-use Rattle.tabled_table.proofs.Walks.{live, Logic, look_at, move, mut_ref_to, mut_vals, MutBor, MutRef, named, no, no_more, nothing}
-use Rattle.tabled_table.proofs.Walks.{of_list, of_opd, Ok, ok_of, OnOk, owns, param, param_laws, pass_all, pick, plain, prop}
-use Rattle.tabled_table.proofs.Walks.{proved_at, qed, Range, RattleType, raw, refl, refused, regoal, Rests, rests_at_err}
-use Rattle.tabled_table.proofs.Walks.{rests_at_ok, Result, returns, rewrite, sets, sets_last, single, some, split, spot_of, SProp}
-use Rattle.tabled_table.proofs.Walks.{stay_dropped, Stays, stop, subst, suffices, switches, sym, T, TableError, tables, TE, through}
-use Rattle.tabled_table.proofs.Walks.{told_err, told_ok, triple_of, Typed, types_at, unit, Ura, use0, use1, use2, use3, Val, vptr}
-use Rattle.tabled_table.proofs.Walks.{vrt, walk_of, whole, WpFn, WT, ‵, ℕ, ⊤, ◌$◌, ◌++◌, ◌∵◌, ◌∷◌, ◌≡◌, ◌⊑◌, ◌⊛◌}
-use Rattle.std.specs.contracts.result.Result as result
+use Rattle.tabled_table.proofs.Walks.{[], !, a_type, accepted, addr, after, agg, alloc_all, and_then, apart, Args, at_ret, await, bounded}
+use Rattle.tabled_table.proofs.Walks.{by_done, calls_at, cause, cause_made, comes_back, dcons, Dict, dnil, done, Done, emp, ends_at, enter}
+use Rattle.tabled_table.proofs.Walks.{env, Err, err_of, exec, fact, fact_i, first, fjoin, fld, flft, Fn, framed, free_all, fsplit, fsplit3}
+use Rattle.tabled_table.proofs.Walks.{ftrue, full_share, get, get_in, get_tag, Goes-dropped, Goes-spent_ref, has_ty, heard, id⊢, IfErr}
+use Rattle.tabled_table.proofs.Walks.{in_variant, inl, inr, inst_fn, IsCause, join, keep, lands_as, lasts, later, layout, lends_again}
+use Rattle.tabled_table.proofs.Walks.{LentAgain, lft_end, lft_new, List, lit, lit<, live, Logic, look_at, move, mut_ref_to, mut_vals}
+use Rattle.tabled_table.proofs.Walks.{MutBor, MutRef, named, no, no_more, nothing, of_list, of_opd, Ok, ok_of, OnOk, owns, param}
+use Rattle.tabled_table.proofs.Walks.{param_laws, pass_all, pick, plain, prop, proved_at, qed, Range, RattleType, raw, refl, refused}
+use Rattle.tabled_table.proofs.Walks.{regoal, Rests, rests_at_err, rests_at_ok, Result, returns, rewrite, sets, sets_last, single, some}
+use Rattle.tabled_table.proofs.Walks.{split, spot_of, SProp, stay_dropped, Stays, stop, subst, suffices, switches, sym, T, TableError}
+use Rattle.tabled_table.proofs.Walks.{tables, TE, through, told_err, told_ok, triple_of, Typed, types_at, unit, Ura, use0, use1, use2, use3}
+use Rattle.tabled_table.proofs.Walks.{Val, vptr, vrt, walk_of, whole, WpFn, WT, ‵, ℕ, ⊤, ◌$◌, ◌++◌, ◌∵◌, ◌∷◌, ◌≡◌, ◌⊑◌, ◌⊛◌}
 use Rattle.tabled_table.specs.Applied.{IsApplied, IsRefusedBy}
 use Rattle.tabled_table.specs.contracts.table.Table.{the_row as R}
-use Rattle.tabled_table.specs.contracts.table.Table.with as f
 use Rattle.tabled_table.proofs.table.Table.with.Statement.{statement}
+use Rattle.tabled_table.proofs.table.Table.apply.Met.{met}
+use Rattle.std.specs.contracts.result.Result as result
+use Rattle.tabled_table.specs.contracts.table.Table.with as f
 use Rattle.tabled_table.proofs.table.Table.with.Code as code
 use Rattle.tabled_table.specs.contracts.table.Table.apply as g
-use Rattle.tabled_table.proofs.table.Table.apply.Met.{met}
 
 abbrev given_args : RattleType → Dict → Args
 given_args O d = bounded (a_type ∷ []) (O, tt) (dcons d dnil)

@@ -1,0 +1,16 @@
+use Rattle.std.proofs.Common.{◌≡◌, ℕ, List, [], length, take}
+use Rattle.tabled_base.specs.Cells.{texts_of}
+use Rattle.tabled_config.specs.declared.compact.CompactConfig.{CompactConfig}
+use Rattle.tabled_line.specs.Sent.{Sent}
+use Rattle.tabled_table.specs.Stream.Progress.{HasPut}
+use Rattle.tabled_table.proofs.iter_table.next_rows.Stream.write_first_rows.Given as goal
+
+abbrev pub invariant-rows : goal.invariant-rows
+invariant-rows g l = record {
+  same : l.self.lines.columns ≡ l.initial.self.lines.columns;
+  puts : (config : CompactConfig) (ahead_rows : List (List (List ℕ))) (start : Sent) → length ahead_rows ≡ l.ahead
+      → HasPut l.initial.self.lines.columns.settings.now config ahead_rows [] start l.initial.self.lines.columns.layout.now l.initial.self.first
+      (g.S.TextSink.sent l.initial.sink) l.initial.self.lines.begun
+      → HasPut l.initial.self.lines.columns.settings.now config ahead_rows (take l.index (texts_of g.C.CellText.text l.rows)) start l.initial.self.lines.columns.layout.now
+      l.self.first (g.S.TextSink.sent l.sink) l.self.lines.begun;
+}

@@ -1,0 +1,75 @@
+use Rattle.std.proofs.Common.{◌≡◌, ◌+◌, ◌++◌, ◌∷◌, [], length, map, refl, sym, ap, ◌∙◌, arith, length-append}
+use Rattle.std.proofs.lemmas.List.{map-append}
+use Rattle.tabled_records.proofs.RowsRead.{reads-both, reads-none}
+use Rattle.tabled_table.proofs.Stream.Going.{err-as, left-first, left-next, more-halts, more-next, more-none, more-refused, permitted-next}
+use Rattle.tabled_table.proofs.iter_table.next_rows.Stream.write_next_rows.Goals as goal
+
+pub rows-init : goal.rows-init
+rows-init g c =
+    let stream = c.args.self.now in
+    record {
+      more = [];
+      reads = reads-none c.args.rows.now;
+      may = c.requires;
+      left = left-first c.args.limit;
+      same = refl;
+      puts = more-none stream.lines.columns.layout.now c.args.lines stream.first stream.lines.begun (g.S.TextSink.sent c.args.sink.now);
+    }
+
+pub rows-preserved : goal.rows-preserved
+rows-preserved g c =
+    let i = c.rows.invariant in
+    let ok = rw c.in-Some.is at c.in_ok-cells.ensures.ok in
+    let goes = rw c.in-Some.is at c.in_ok-cells.ensures.goes in
+    let cells = c.in-Some.cells in
+    let row = map g.C.CellText.text c.as_slice.result.now in
+    let layout = c.args.self.now.lines.columns.layout.now in
+    let longer : length (i.more ++ cells.items ∷ []) ≡ length i.more + 1 = omega (arith, length-append i.more (cells.items ∷ [])) in
+    let texts : map (map g.C.CellText.text) (i.more ++ cells.items ∷ []) ≡ map (map g.C.CellText.text) i.more ++ row ∷ [] =
+    map-append (map g.C.CellText.text) i.more (cells.items ∷ [])
+    ∙ ap (λ r. map (map g.C.CellText.text) i.more ++ map g.C.CellText.text r ∷ []) (sym c.as_slice.ensures.value) in
+    record {
+      more = i.more ++ cells.items ∷ [];
+      reads = reads-both i.reads ok;
+      may = goes.0;
+      left = left-next c.args.limit c.rows.left c.fewer-left.result (length i.more) (length (i.more ++ cells.items ∷ [])) i.left
+          (c.is_none_left.ensures.going c.if-is_none_left.false) c.fewer-left.ensures longer;
+      same = c.in_ok-write_next_record-in-Some.ensures.same ∙ i.same;
+      puts = rw texts (more-next row c.write_next_record.new.self.first c.write_next_record.new.self.lines.begun (g.S.TextSink.sent c.write_next_record.new.sink) i.puts
+          (rw i.same at c.in_ok-write_next_record-in-Some.ensures.printed));
+    }
+
+pub returns-in_err-cells-clause-err : goal.returns-in_err-cells-clause-err
+returns-in_err-cells-clause-err g c =
+    let i = c.rows.invariant in
+    let e = c.in_err-cells.field-0.0 in
+    let walked = c.in_err-cells.ensures.err in
+    let row = map g.C.CellText.text walked.0 in
+    let longer : length (i.more ++ walked.0 ∷ []) ≡ length i.more + 1 = omega (arith, length-append i.more (walked.0 ∷ [])) in
+    let texts : map (map g.C.CellText.text) (i.more ++ walked.0 ∷ []) ≡ map (map g.C.CellText.text) i.more ++ row ∷ [] =
+    map-append (map g.C.CellText.text) i.more (walked.0 ∷ []) in
+    err-as c.from_residual.result e _ c.from_residual.ensures.1 (
+      i.more ++ walked.0 ∷ [],
+      rw longer (permitted-next c.args.limit c.rows.left (length i.more) i.left (c.is_none_left.ensures.going c.if-is_none_left.false)),
+      reads-both i.reads walked.1,
+      rw texts (more-refused row e i.puts c.in_err-cells.ensures.only),
+    )
+
+pub returns-in_err-write_next_record-in-Some-clause-err : goal.returns-in_err-write_next_record-in-Some-clause-err
+returns-in_err-write_next_record-in-Some-clause-err g c =
+    let i = c.rows.invariant in
+    let ok = rw c.in-Some.is at c.in_ok-cells.ensures.ok in
+    let cells = c.in-Some.cells in
+    let e = c.in_err-write_next_record-in-Some.field-0.0 in
+    let row = map g.C.CellText.text c.as_slice.result.now in
+    let longer : length (i.more ++ cells.items ∷ []) ≡ length i.more + 1 = omega (arith, length-append i.more (cells.items ∷ [])) in
+    let texts : map (map g.C.CellText.text) (i.more ++ cells.items ∷ []) ≡ map (map g.C.CellText.text) i.more ++ row ∷ [] =
+    map-append (map g.C.CellText.text) i.more (cells.items ∷ [])
+    ∙ ap (λ r. map (map g.C.CellText.text) i.more ++ map g.C.CellText.text r ∷ []) (sym c.as_slice.ensures.value) in
+    err-as c.from_residual-in_err-write_next_record-in-Some.result e _ c.from_residual-in_err-write_next_record-in-Some.ensures.1 (
+      i.more ++ cells.items ∷ [],
+      rw longer (permitted-next c.args.limit c.rows.left (length i.more) i.left (c.is_none_left.ensures.going c.if-is_none_left.false)),
+      reads-both i.reads ok,
+      rw texts (more-halts row c.write_next_record.new.self.first c.write_next_record.new.self.lines.begun (g.S.TextSink.sent c.write_next_record.new.sink) e i.puts
+          (rw i.same at c.in_err-write_next_record-in-Some.ensures.printed)),
+    )

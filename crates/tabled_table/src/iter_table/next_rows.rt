@@ -1,0 +1,280 @@
+//! Writes the lines of a stream: the rows that were read first, and each next row as it is read.
+ghost use Rattle.std.specs.Prelude.{◌≡◌, ◌<◌, ◌^◌, Bool, IfErr, IfOk, List, OnOk, false, length};
+ghost use Rattle.std.specs.Prelude.{map, true, unwrap_or};
+ghost use Rattle.std.proofs.Props.{props};
+ghost use Rattle.tabled_base.specs.Cells.{texts_of};
+ghost use Rattle.tabled_line.specs.LineCache.{IsCacheOf};
+ghost use Rattle.tabled_records.specs.Reading.{MayGive, Reads, ReadsTo};
+ghost use Rattle.tabled_table.specs.Stream.Progress.{AreFirst, AreFurther, FinishesBehind};
+ghost use Rattle.tabled_table.specs.Stream.Progress.{HaltsMore, HasPutMore, IsLimited, IsPermitted};
+ghost use Rattle.tabled_table.specs.Stream.Progress.{PutsBottom, PutsFirst, PutsNext};
+ghost use Rattle.tabled_table.specs.Stream.Progress.{StreamsLaidOut, left_of, ReadsOn};
+ghost use Rattle.tabled_table.specs.Stream.Row.{PutsCut, layout_columns, rule_of};
+ghost use Rattle.tabled_table.specs.Stream.Streamed.{limited};
+
+use crate::iter_table::row::{CutRow, StreamColumns, cut_cells};
+use crate::iter_table::settings::{ahead, fewer, is_none_left, up_to};
+use crate::iter_table::sniff::content_height;
+use std::alloc::Global;
+use std::borrow::CowStr;
+use tabled_base::{CellText, TableError, Text};
+use tabled_line::{Cursor, FEW_CURSORS, LinePrinter, TextSink};
+use tabled_records::reading::{Taken, next_cells};
+
+/// A stream while it is printed.
+#[derive(Drop)]
+pub(crate) struct Stream<'a> {
+    alloc: Global,
+    // The columns come with the settings and the total width.
+    lines: LinePrinter<StreamColumns<'a>>,
+    // Whether no row was printed so far.
+    first: bool,
+    ghost kept: { IsCacheOf (layout_columns lines.columns.layout.now) lines.kept } by { Prim.hlevel props },
+}
+
+impl<'a> Stream<'a> {
+    /// Returns a stream of which no line is printed yet.
+    pub fn new(alloc: Global, columns: StreamColumns<'a>) -> Stream<'a>
+        ensures columns { result.lines.columns ≡ columns.entry }
+        ensures begun { result.lines.begun ≡ false }
+        ensures first { result.first ≡ true }
+    {
+        Stream {
+            alloc,
+            lines: LinePrinter::new(columns, Some(alloc)),
+            first: true,
+        }
+    }
+
+    /// Writes a row of cut cells below its horizontal line. The cursors are those of its first
+    /// columns.
+    fn write_cut_row<'c, S: TextSink>(
+        &mut self,
+        sink: &mut S,
+        height: usize,
+        cells: &'c [Text<CowStr<'c>>],
+        cursors: &mut [Cursor<'c>],
+    ) -> Result<(), TableError>
+    where
+        'a: 'c,
+        ensures printed { PutsCut self.old.lines.columns.layout.now
+            (rule_of self.old.lines.columns.layout.now self.old.first) height cells.now
+            (S.sent sink.old) self.old.lines.begun result
+            (S.sent sink.new) self.new.lines.begun }
+        ensures same { self.new.lines.columns ≡ self.old.lines.columns }
+        ensures first { OnOk result (self.new.first ≡ false) }
+    {
+        let layout = self.lines.columns.layout;
+        let row = CutRow {
+            layout,
+            cells,
+            height,
+        };
+        self.lines.write_rule(sink, layout.rule(self.first))?;
+        self.first = false;
+        self.lines.write_row(sink, &row, cursors)
+    }
+
+    /// Writes a row of cut cells as `write_cut_row` does, with a cursor for each cell. Only a row
+    /// of several lines needs them. More than `FEW_CURSORS` are allocated, which may fail with
+    /// `Memory` before the first byte.
+    fn write_cut_cells<'c, S: TextSink>(
+        &mut self,
+        sink: &mut S,
+        height: usize,
+        cells: &'c [Text<CowStr<'c>>],
+    ) -> Result<(), TableError>
+    where
+        'a: 'c,
+        ensures printed { PutsCut self.old.lines.columns.layout.now
+            (rule_of self.old.lines.columns.layout.now self.old.first) height cells.now
+            (S.sent sink.old) self.old.lines.begun result
+            (S.sent sink.new) self.new.lines.begun }
+        ensures same { self.new.lines.columns ≡ self.old.lines.columns }
+        ensures first { OnOk result (self.new.first ≡ false) }
+    {
+        if height <= 1 {
+            return self.write_cut_row(sink, height, cells, &mut []);
+        }
+        if cells.len() <= FEW_CURSORS {
+            return self.write_cut_row(sink, height, cells, &mut [Cursor::nowhere(); FEW_CURSORS]);
+        }
+        let mut cursors = vec![in self.alloc; Cursor::nowhere(); cells.len()]?;
+        self.write_cut_row(sink, height, cells, &mut cursors)
+    }
+
+    /// Cuts the next row to its columns, and writes it with `lines` lines for text, below its
+    /// horizontal line. Before its first byte it fails with `Range` if its height exceeds
+    /// `usize::MAX`, and with `Memory`.
+    fn write_next_record<C: CellText, S: TextSink>(
+        &mut self,
+        sink: &mut S,
+        lines: usize,
+        cells: &[C],
+    ) -> Result<(), TableError>
+        ensures printed { PutsNext lines (map C.text cells.now) self.old.lines.columns.layout.now
+            self.old.first (S.sent sink.old) self.old.lines.begun result
+            self.new.first (S.sent sink.new) self.new.lines.begun }
+        ensures same { self.new.lines.columns ≡ self.old.lines.columns }
+    {
+        let layout = self.lines.columns.layout;
+        let Some(height) = layout.padded_height(lines) else {
+            return Err(TableError::Range);
+        };
+        let cut = cut_cells(self.alloc, layout, cells)?;
+        self.write_cut_cells(sink, height, cut.as_slice())
+    }
+
+    /// Writes the horizontal line below the last row, and the bottom margin.
+    fn write_bottom<S: TextSink>(&mut self, sink: &mut S) -> Result<(), TableError>
+        ensures printed { PutsBottom self.old.lines.columns.layout.now self.old.lines.columns.total
+            self.old.first (S.sent sink.old) self.old.lines.begun result (S.sent sink.new) }
+        ensures same { self.new.lines.columns ≡ self.old.lines.columns }
+    {
+        let layout = self.lines.columns.layout;
+        let total = self.lines.columns.total;
+        self.lines.write_rule(sink, layout.bottom)?;
+        self.lines
+            .write_margin(sink, layout.frame.margin.bottom, total)
+    }
+
+    /// Writes the first rows, of which the first `ahead` were read ahead.
+    fn write_first_rows<C: CellText, S: TextSink>(
+        &mut self,
+        sink: &mut S,
+        ahead: usize,
+        rows: &[Vec<C>],
+    ) -> Result<(), TableError>
+        ensures printed { PutsFirst self.old.lines.columns.settings.now ahead
+            (texts_of C.text rows.now) self.old.lines.columns.layout.now
+            self.old.first (S.sent sink.old) self.old.lines.begun result
+            self.new.first (S.sent sink.new) self.new.lines.begun }
+        ensures same { self.new.lines.columns ≡ self.old.lines.columns }
+    {
+        let settings = self.lines.columns.settings;
+        'rows: for index in 0..rows.len() {
+            let cells = rows[index].as_slice();
+            let count = self.lines.columns.layout.count;
+            let lines = content_height(settings, count, index < ahead, cells);
+            self.write_next_record(sink, lines, cells)?;
+        }
+        Ok(())
+    }
+
+    /// Reads and writes the next rows, at most `limit`. Each is read once the lines above it are
+    /// written. Returns whether the source has no more rows.
+    fn write_next_rows<
+        I: Iterator<Item = W>,
+        W: IntoIterator<Item = C>,
+        C: CellText + Drop,
+        S: TextSink,
+    >(
+        &mut self,
+        sink: &mut S,
+        rows: &mut I,
+        limit: Option<usize>,
+        lines: usize,
+    ) -> Result<bool, TableError>
+        requires { MayGive I.can_next I.next_gives I.remaining
+            W.into_iter_gives W.IntoIter.can_next W.IntoIter.remaining rows.old }
+        ensures ok { IfOk result (λ whole. (more : List (List C))
+            × IsLimited limit (length more) whole
+            × ReadsTo I.next_gives W.into_iter_gives W.IntoIter.next_gives rows.old more whole
+            rows.new
+            × HasPutMore lines (map (map C.text) more) self.old.lines.columns.layout.now
+            self.old.first (S.sent sink.old) self.old.lines.begun
+            self.new.first (S.sent sink.new) self.new.lines.begun) }
+        ensures err { IfErr result (λ e. (more : List (List C)) × IsPermitted limit (length more)
+            × Reads I.next_gives W.into_iter_gives W.IntoIter.next_gives rows.old more rows.new
+            × HaltsMore lines (map (map C.text) more) self.old.lines.columns.layout.now
+            self.old.first (S.sent sink.old) self.old.lines.begun
+            e (S.sent sink.new)) }
+        ensures same { self.new.lines.columns ≡ self.old.lines.columns }
+    {
+        let mut left = limit;
+        'rows: loop {
+            if is_none_left(left) {
+                return Ok(false);
+            }
+            match next_cells(self.alloc, rows)? {
+                Some(cells) => self.write_next_record(sink, lines, cells.as_slice())?,
+                None => return Ok(true),
+            }
+            left = fewer(left, 1);
+        }
+    }
+
+    /// Writes what follows the rows that were read first: the next rows, unless there are none, and
+    /// what is below the last row.
+    fn write_after_first<
+        I: Iterator<Item = W>,
+        W: IntoIterator<Item = C>,
+        C: CellText + Drop,
+        S: TextSink,
+    >(&mut self, sink: &mut S, rows: &mut I, taken: &Taken<C>) -> Result<(), TableError>
+        requires { taken.now.whole ≡ false
+            → MayGive I.can_next I.next_gives I.remaining
+            W.into_iter_gives W.IntoIter.can_next W.IntoIter.remaining rows.old }
+        ensures { (more : List (List C)) × (whole : Bool)
+            × AreFurther self.old.lines.columns.settings.now.rows (length taken.now.rows.items)
+            taken.now.whole (length more) whole
+            × ReadsOn I.next_gives W.into_iter_gives W.IntoIter.next_gives
+            (map (λ row. row.items) taken.now.rows.items) taken.now.whole rows.old more whole
+            rows.new
+            × FinishesBehind
+            (left_of self.old.lines.columns.settings.now.rows (length taken.now.rows.items))
+            (unwrap_or self.old.lines.columns.settings.now.height 1)
+            self.old.lines.columns.total whole (map (map C.text) more)
+            self.old.lines.columns.layout.now self.old.first (S.sent sink.old)
+            self.old.lines.begun result (S.sent sink.new) }
+    {
+        let settings = self.lines.columns.settings;
+        let left = fewer(settings.rows, taken.rows.len());
+        if taken.whole || is_none_left(left) {
+            return self.write_bottom(sink);
+        }
+        let lines = settings.height.unwrap_or(1);
+        self.write_next_rows(sink, rows, left, lines)?;
+        self.write_bottom(sink)
+    }
+
+    /// Writes the entire table: of the rows that were read first those that are shown, and what
+    /// follows them.
+    pub fn write_all<
+        I: Iterator<Item = W>,
+        W: IntoIterator<Item = C>,
+        C: CellText + Drop,
+        S: TextSink,
+    >(&mut self, sink: &mut S, rows: &mut I, taken: &Taken<C>) -> Result<(), TableError>
+        requires begun { self.old.lines.begun ≡ false }
+        requires first { self.old.first ≡ true }
+        requires some { 0 < self.old.lines.columns.layout.now.count }
+        requires open { taken.now.whole ≡ false
+            → MayGive I.can_next I.next_gives I.remaining
+            W.into_iter_gives W.IntoIter.can_next W.IntoIter.remaining rows.old }
+        requires filled { 0 < length (limited self.old.lines.columns.settings.now.rows
+            (texts_of C.text taken.now.rows.items)) }
+        requires in_range { self.old.lines.columns.total < 2 ^ 64 }
+        requires kept { AreFirst self.old.lines.columns.settings.now
+            (texts_of C.text taken.now.rows.items) taken.now.whole }
+        ensures { (more : List (List C)) × (whole : Bool)
+            × AreFurther self.old.lines.columns.settings.now.rows (length taken.now.rows.items)
+            taken.now.whole (length more) whole
+            × ReadsOn I.next_gives W.into_iter_gives W.IntoIter.next_gives
+            (map (λ row. row.items) taken.now.rows.items) taken.now.whole rows.old more whole
+            rows.new
+            × StreamsLaidOut self.old.lines.columns.settings.now self.old.lines.columns.layout.now
+            self.old.lines.columns.total (texts_of C.text taken.now.rows.items)
+            (map (map C.text) more) whole (S.sent sink.old) result (S.sent sink.new) }
+    {
+        let settings = self.lines.columns.settings;
+        let kept = taken.rows.as_slice();
+        let ahead = ahead(settings).min(kept.len());
+        let shown = &kept[..up_to(settings.rows, kept.len())];
+        let margin = self.lines.columns.layout.frame.margin;
+        let total = self.lines.columns.total;
+        self.lines.write_margin(sink, margin.top, total)?;
+        self.write_first_rows(sink, ahead, shown)?;
+        self.write_after_first(sink, rows, taken)
+    }
+}
