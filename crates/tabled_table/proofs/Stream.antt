@@ -4,11 +4,9 @@ pub mod Finished
 pub mod FirstRows
 pub mod Going
 pub mod Measures
-pub mod Parts
 pub mod SameSheet
 pub mod Steps
 pub mod StreamedTexts
 pub mod ToWriters
-pub mod TopAndBottom
 pub mod WholeTexts
 pub mod Widths

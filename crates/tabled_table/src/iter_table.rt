@@ -135,10 +135,7 @@ impl<I> IterTable<I> {
             → WasOutOfRange (O.out_of_range option) self.old) }
     {
         let mut sizes = ZeroDimension::new();
-        match option.change(&mut self.records, &mut self.config, &mut sizes) {
-            Ok(()) => Ok(()),
-            Err(error) => Err(error),
-        }
+        option.change(&mut self.records, &mut self.config, &mut sizes)
     }
 
     /// Applies an option to the source and the configuration, and returns the table; the numbers of

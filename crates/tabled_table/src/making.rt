@@ -43,8 +43,7 @@ impl Table {
             I.Item.shows (λ rows. IsNew (I.Item.names ∷ rows) table)) }
         ensures only { IfErr result (λ e. e ≡ Memory) }
     {
-        let records = named_records(alloc, iter, rows.saturating_add(1))?;
-        Ok(Table::of_records(records))
+        Ok(Table::of_records(named_records(alloc, iter, rows.saturating_add(1))?))
     }
 
     /// Returns a table with a row for each value and no header. Fails only if an allocation fails
@@ -58,8 +57,7 @@ impl Table {
             I.Item.shows (λ rows. IsNew rows table)) }
         ensures only { IfErr result (λ e. e ≡ Memory) }
     {
-        let records = value_records(alloc, iter)?;
-        Ok(Table::of_records(records))
+        Ok(Table::of_records(value_records(alloc, iter)?))
     }
 
     /// Returns a table with no header, and a row of name and text for each field of each value.
@@ -73,8 +71,7 @@ impl Table {
             I.Item.shows (λ rows. IsNew (flat_map (pairs I.Item.names) rows) table)) }
         ensures only { IfErr result (λ e. e ≡ Memory) }
     {
-        let records = field_records(alloc, iter)?;
-        Ok(Table::of_records(records))
+        Ok(Table::of_records(field_records(alloc, iter)?))
     }
 
     /// Returns a builder with a row of the fields' names, and then a row for each value. Fails only
@@ -88,8 +85,7 @@ impl Table {
             I.Item.shows (λ rows. builder ≡ I.Item.names ∷ rows)) }
         ensures only { IfErr result (λ e. e ≡ Memory) }
     {
-        let records = named_records(alloc, iter, 1)?;
-        Ok(Builder::from(records))
+        Ok(Builder::from(named_records(alloc, iter, 1)?))
     }
 
     /// Returns a table of the rows of a source. Short rows are filled with empty cells. Fails only
@@ -102,7 +98,6 @@ impl Table {
             × IsNew (lengthened_rows (map (map I.Cell.text) cells)) table) }
         ensures only { IfErr result (λ e. e ≡ Memory) }
     {
-        let builder = Builder::from_iter(alloc, rows)?;
-        Ok(Table::from(builder))
+        Ok(Table::from(Builder::from_iter(alloc, rows)?))
     }
 }

@@ -26,7 +26,6 @@ use tabled_config::{AlignmentHorizontal, Indent, Sides, SpannedConfig};
 use tabled_grid::{TextSink, print_standing};
 use tabled_size::is_empty;
 
-/// Returns how many of the missing columns are added on the left.
 fn left_part(align: Option<AlignmentHorizontal>, missing: usize) -> usize
     ensures { result ≡ left_part align missing }
 {

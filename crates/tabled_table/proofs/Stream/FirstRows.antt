@@ -10,7 +10,7 @@ use Rattle.tabled_table.specs.Stream.Progress.{AreFirst, AreFurther, IsPermitted
 use Rattle.tabled_table.specs.Stream.Streamed.{ahead, column_count, limited, sniffed, IsCutRow, IsStreamed, content_width, stream_height}
 use Rattle.tabled_table.specs.Stream.Streamed.{stream_widths}
 use Rattle.tabled_table.specs.Stream.Streams.{ArePermitted, AreSniffed, shown_rows, AreEnough, IsFilled, StreamSends, reaches}
-use Rattle.tabled_table.proofs.Stream.Parts.{not-zero}
+use Rattle.tabled_table.proofs.Stream.Measures.{not-zero}
 use Rattle.std.specs.List.{join_with_byte, range_with_len}
 use Rattle.std.proofs.lemmas.List.FromFn.{get_or-map-range_with_len, length-map-range_with_len}
 use Rattle.tabled_config.specs.declared.compact.CompactConfig.{CompactConfig}

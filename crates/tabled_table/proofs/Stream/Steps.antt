@@ -22,7 +22,7 @@ use Rattle.tabled_table.specs.Stream.Printed.{StopsBelow, WritesBelow, lines_abo
 use Rattle.tabled_table.specs.Stream.Progress.{HasPut, HaltsWithin, IsInReach, IsLaidOut, Halts, PutsNext}
 use Rattle.tabled_table.specs.Stream.Row.{IsPut, IsStoppedIn, content_at, record_lines, rule_of, Puts, PutsCut, layout_columns, layout_row}
 use Rattle.tabled_table.specs.Stream.Streamed.{IsCutRow, IsStreamed, column_count, content_width, stream_height, content_height}
-use Rattle.tabled_table.proofs.Stream.Parts.{flat_map-same, not-zero, part-laid}
+use Rattle.tabled_table.proofs.Stream.Measures.{flat_map-same, not-zero, part-laid}
 use Rattle.tabled_line.proofs.Sending.{Appends-then, sends-along, stops-then}
 use Rattle.std.specs.Result.{IsErrAnd}
 use Rattle.std.proofs.lemmas.List.{get_or_append_left, get_or-append_right}

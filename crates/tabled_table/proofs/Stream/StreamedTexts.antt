@@ -20,7 +20,7 @@ use Rattle.tabled_size.specs.Sheet.{Sheet}
 use Rattle.tabled_size.specs.TextCells.{AreTexts}
 use Rattle.tabled_table.specs.declared.iter_table.settings.StreamSettings.{StreamSettings}
 use Rattle.tabled_table.specs.Stream.Streamed.{IsCutRow, IsStreamed, column_count, content_width, stream_width}
-use Rattle.tabled_table.proofs.Stream.Parts.{length-cut}
+use Rattle.tabled_table.proofs.Stream.Measures.{length-cut}
 use Rattle.tabled_table.proofs.Stream.Widths.{listed}
 
 none-there : (n k : ℕ) → get_or {A = List ℕ} (replicate n []) k [] ≡ []

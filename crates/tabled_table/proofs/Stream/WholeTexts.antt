@@ -23,7 +23,7 @@ use Rattle.tabled_table.specs.declared.iter_table.settings.StreamSettings.{Strea
 use Rattle.tabled_table.specs.Stream.GoesOn.{GoesOn}
 use Rattle.tabled_table.specs.Stream.Printed.{lines_above}
 use Rattle.tabled_table.specs.Stream.Streamed.{IsCutRow, IsStreamed, column_count, content_width, stream_height}
-use Rattle.tabled_table.proofs.Stream.Parts.{flat_map-same, not-zero, rule-above}
+use Rattle.tabled_table.proofs.Stream.Measures.{flat_map-same, not-zero, rule-above}
 use Rattle.tabled_table.proofs.Stream.StreamedTexts.{streamed_columns}
 use Rattle.tabled_table.proofs.Stream.Widths.{listed}
 use Rattle.std.specs.Str.{IsUtf8}

@@ -38,8 +38,6 @@ impl<'a> Printer<'a> {
         }
     }
 
-    /// Returns the content widths of the first columns, and that of each further column. Fails only
-    /// if an allocation fails (`Memory`).
     fn contents<C: CellText>(
         &self,
         rows: &[Vec<C>],

@@ -37,7 +37,6 @@ pub(crate) struct Layout {
     ghost uniform_is: { IfSome uniform (IsUniform style) } by { Prim.hlevel props },
 }
 
-/// 1 for a line that is there, else 0.
 fn one_if(there: bool) -> usize
     ensures { result ≡ one_if there }
 {
@@ -61,7 +60,6 @@ impl Layout {
     ghost use Rattle.tabled_table.specs.Stream.Row.{TakesNoMore, content_at, layout_total};
     ghost use Rattle.tabled_table.specs.Stream.Row.{width_at};
 
-    /// Returns the content width of a column.
     pub fn content_width(&self, column: usize) -> usize
         ensures { result ≡ content_at self.now column }
     {
@@ -85,7 +83,6 @@ impl Layout {
             || self.frame.inner.there
     }
 
-    /// Returns the horizontal line above the first or a further row.
     pub fn rule(&self, first: bool) -> Option<HorizontalLine>
         ensures { result ≡ (if first then self.now.top else self.now.inner) }
     {

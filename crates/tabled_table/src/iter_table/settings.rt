@@ -57,7 +57,6 @@ pub(crate) fn first_rows(settings: &StreamSettings) -> usize
     }
 }
 
-/// Returns how many of `count` rows are shown.
 pub(crate) fn up_to(limit: Option<usize>, count: usize) -> usize
     ensures { MatchOption limit (result ≡ count) (λ n. result ≡ min n count) }
 {

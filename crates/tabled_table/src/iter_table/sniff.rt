@@ -11,7 +11,6 @@ use crate::iter_table::settings::StreamSettings;
 use std::alloc::Global;
 use tabled_base::{CellText, TableError};
 
-/// Returns the number of cells in the longest row.
 pub(crate) fn longest_row<C: CellText>(rows: &[Vec<C>]) -> usize
     ensures { result ≡ longest (texts_of C.text rows.now) }
 {
@@ -60,7 +59,6 @@ fn widen<C: CellText>(
     Ok(())
 }
 
-/// Returns the columns of the widest cell in each column.
 pub(crate) fn widest_cells<C: CellText>(
     alloc: Global,
     rows: &[Vec<C>],

@@ -5,10 +5,9 @@ use Rattle.tabled_base.specs.declared.error.TableError.{TableError}
 use Rattle.tabled_table.specs.Stream.Progress.{left_of}
 use Rattle.tabled_table.specs.Stream.Streamed.{limited, sniffed}
 use Rattle.tabled_table.proofs.Stream.Going.{halts-top, none-further, reads-no-more}
-use Rattle.tabled_table.proofs.Stream.Finished.{put-finished, put-halted}
+use Rattle.tabled_table.proofs.Stream.Finished.{put-finished, put-halted, top-put}
 use Rattle.tabled_table.proofs.Stream.FirstRows.{sniffed-shown}
 use Rattle.tabled_table.proofs.Stream.Measures.{shown-texts, sniffed-long, texts-long}
-use Rattle.tabled_table.proofs.Stream.TopAndBottom.{top-put}
 use Rattle.tabled_table.proofs.iter_table.next_rows.Stream.write_all.Goals as goal
 
 pub returns-in_err-write_margin : goal.returns-in_err-write_margin
