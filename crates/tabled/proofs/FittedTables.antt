@@ -28,8 +28,7 @@ use Rattle.tabled_size.specs.declared.complete_dimension.CompleteDimension.{Comp
 use Rattle.tabled_size.proofs.Totalling.{heights_length, widths_length}
 use Rattle.tabled_text.specs.Measure.{text_columns}
 use Rattle.tabled_text.proofs.StayLemmas.{StaysWithin-none, text_columns-stays}
-use Rattle.tabled.specs.OrderLaws.{Shrinks-takes}
-use Rattle.tabled.specs.Orders.{IsShrunk, Shrinks}
+use Rattle.tabled.specs.Orders.{Shrinks-takes, IsShrunk, Shrinks}
 use Rattle.tabled.specs.Planned.{Cells, FitsInto, IsNarrowedTo, OrderShrinks, IsPlannedOf}
 use Rattle.tabled.specs.declared.order_priority.OrderPriority.{OrderPriority}
 use Rattle.tabled_base.specs.declared.position.Entity.TheVariants.{Row}
@@ -45,7 +44,7 @@ use Rattle.tabled.specs.declared.plan.Plan.{Plan}
 use Rattle.tabled.specs.declared.plan.Plan.TheVariants.{Wrapped, Shortened}
 use Rattle.tabled.specs.Headline.{HasFewestBreaks, HasLeastGreatestWidth, HasLongestBeginnings, HasWantedTotal, IsAsBuffered, IsLeastBy}
 use Rattle.tabled.specs.Rendered.{IsMade}
-use Rattle.tabled.proofs.PlannedTables.{fitted_empty, fitted_holds, fitted_lines, fitted_sized, no_text_plain, whole_wider}
+use Rattle.tabled.proofs.RenderedTables.{fitted_empty, fitted_holds, fitted_lines, fitted_sized, no_text_plain, whole_wider}
 
 pub takes_all : (s : OrderPriority) → TakesFrom Shrinks s
 takes_all s last old mins new by h = Shrinks-takes s last old mins new by h

@@ -2,10 +2,7 @@ pub mod FittedTables
 pub mod LowTables
 pub mod Noting
 pub mod Outputs
-pub mod PlannedTables
 pub mod Reading
 pub mod RenderedTables
 pub mod BytesSince
-pub mod Spelling
 pub mod StreamedTables
-pub mod TextTables

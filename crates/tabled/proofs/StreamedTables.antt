@@ -50,7 +50,7 @@ use Rattle.tabled.specs.Headline.{IsBestPlanned}
 use Rattle.tabled.specs.Planned.{Cells, IsPlanned}
 use Rattle.tabled.specs.Rendered.{BreaksOff, Halts, IsRendered, PassesRange}
 use Rattle.tabled.proofs.LowTables.{low_total}
-use Rattle.tabled.proofs.PlannedTables.{changed_columns}
+use Rattle.tabled.proofs.RenderedTables.{changed_columns}
 
 -- ---- the settings of a new stream are those of a new table
 
@@ -176,17 +176,7 @@ module _ (cells : Cells) (full : is_empty cells ≡ false) (rectangular : IsRect
         }
 
     like : All (All IsExactLine) cells → IsLikeTable (all_ahead cells) cells
-    like exact = record {
-      has_row = (full_rows cells full).0;
-      has_column = (full_rows cells full).1;
-      rectangular = rectangular;
-      exact = exact;
-      sniffed = omega arith;
-      no_columns = refl;
-      no_rows = refl;
-      no_width = refl;
-      no_height = refl;
-    }
+    like exact = record { measured = measured; exact = exact }
 
     streamed_best : (t : Sheet) → IsStreamed (all_ahead cells) c cells cells t → IsBestPlanned Streamed cells t
     streamed_best t s =

@@ -1,5 +1,5 @@
 -- Which arguments of the program make which plan. An argument is the list of its bytes.
-use Rattle.std.specs.Prelude.{◌≡◌, ◌≢◌, ◌<◌, ◌^◌, ◌↔◌, ◌⊎◌, ℕ, List, [], ◌∷◌, ◌++◌, IsTrue, codes}
+use Rattle.std.specs.Prelude.{◌≡◌, ◌≢◌, ◌<◌, ◌^◌, ◌↔◌, ◌⊎◌, ℕ, List, [], ◌∷◌, ◌++◌, IsTrue, codes, Contains, Some, true}
 use Rattle.std.specs.List.{All, AllPairs, Contains}
 use Rattle.std.specs.Char.{IsAsciiDigit}
 use Rattle.std.specs.Str.Parse.{digits_value}
@@ -9,6 +9,7 @@ use Rattle.tabled.specs.declared.plan.Plan.{Plan}
 use Rattle.tabled.specs.declared.plan.Plan.TheVariants.{Buffered, Streamed, Wrapped, Shortened}
 use Rattle.tabled.specs.declared.arguments.Argument.{Argument}
 use Rattle.tabled.specs.declared.arguments.Argument.TheVariants.{Wrap, Cut, Priority, Words, Stream}
+use Rattle.tabled.specs.declared.arguments.Arguments.{Arguments}
 
 -- the word is one or more decimal digits, and their number is below 2^64
 pub record IsNumber (word : List ℕ) (number : ℕ) : Type 0 where
@@ -94,3 +95,33 @@ pub record SpellsPlan (words : List (List ℕ)) (plan : Plan) : Type 0 where
   pub once : IsOnce settings
   pub together : GoTogether (Contains settings)
   pub made : Makes (Contains settings) plan
+
+-- ---- the settings that are read so far
+
+-- the setting is stored
+abbrev pub Notes : Arguments → Argument → Type 0
+Notes noted (Wrap target) = noted.wrap ≡ Some target
+Notes noted (Cut target) = noted.cut ≡ Some target
+Notes noted (Priority order) = noted.order ≡ Some order
+Notes noted Words = noted.words ≡ true
+Notes noted Stream = noted.stream ≡ true
+
+-- a setting of this name is stored
+abbrev pub NotesName : Arguments → Argument → Type 0
+NotesName noted setting = (other : Argument) × Notes noted other × (name_of other ≡ name_of setting)
+
+-- a setting of a new name is added
+pub record Adds (old : Arguments) (setting : Argument) (new : Arguments) : Type 0 where
+  pub fresh : ¬ NotesName old setting
+  pub noted : (other : Argument) → Notes new other ↔ (Notes old other ⊎ (other ≡ setting))
+
+-- exactly these settings are stored
+abbrev pub NotesAll : Arguments → List Argument → Type 0
+NotesAll noted settings = (setting : Argument) → Notes noted setting ↔ Contains settings setting
+
+-- the settings of the arguments, each given once, are stored
+pub record NotesWords (words : List (List ℕ)) (noted : Arguments) : Type 0 where
+  pub settings : List Argument
+  pub spelled : Spells words settings
+  pub once : IsOnce settings
+  pub noted_all : NotesAll noted settings

@@ -1,8 +1,6 @@
 pub mod BlockSent
 pub mod Faults
 pub mod Headline
-pub mod Noted
-pub mod OrderLaws
 pub mod Orders
 pub mod Output
 pub mod Planned

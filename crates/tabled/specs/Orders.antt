@@ -5,6 +5,12 @@ use Rattle.tabled_priority.specs.Shrunk.{IsMaxShrunk, IsMinShrunk, IsRoundShrunk
 use Rattle.tabled.specs.declared.order_priority.OrderPriority.{OrderPriority}
 use Rattle.tabled.specs.declared.plan.Order.{Order}
 use Rattle.tabled.specs.declared.plan.Order.TheVariants.{Round, Least, Greatest, Leftmost, Rightmost}
+use Rattle.std.proofs.Common.{◌∙◌, ◌+◌, None, Some, refl, subst, sym}
+use Rattle.tabled_priority.specs.Permitted.{IsTakenFrom, lowered}
+use Rattle.tabled_priority.specs.Laws.Permitted.{taken-none, taken-nothing}
+use Rattle.tabled_priority.specs.Laws.Round.{IsRoundShrunk-done, IsRoundShrunk-none, IsRoundShrunk-step}
+use Rattle.tabled_priority.specs.Laws.Shrunk.{IsMaxShrunk-step, IsMaxShrunk-still, IsMinShrunk-step}
+use Rattle.tabled_priority.specs.Laws.Shrunk.{IsMinShrunk-still, IsSideShrunk-step, IsSideShrunk-still}
 
 -- the index that a priority names, and the stored index after that, which only `Round` reads
 abbrev pub IsNamed : Order → ℕ → List ℕ → List ℕ → Option ℕ → ℕ → Type 0
@@ -28,3 +34,52 @@ Names s values mins answer t = IsNamed s.order s.round.kept values mins answer t
 
 abbrev pub Shrinks : OrderPriority → List ℕ → List ℕ → ℕ → List ℕ → OrderPriority → Type 0
 Shrinks s old mins by new t = IsShrunk s.order s.round.kept old mins by new t.round.kept × (t.order ≡ s.order)
+
+-- ---- laws of `OrderPriority`, from those of the five priorities
+
+none : (o : Order) (kept : ℕ) (xs mins : List ℕ) → IsShrunk o kept xs mins 0 xs kept
+none Round kept xs mins = IsRoundShrunk-none kept xs mins
+none Least kept xs mins = IsMinShrunk-still true xs mins 0 (taken-nothing xs mins)
+none Greatest kept xs mins = IsMaxShrunk-still true xs mins 0 (taken-nothing xs mins)
+none Leftmost kept xs mins = IsSideShrunk-still false xs mins 0 (taken-nothing xs mins)
+none Rightmost kept xs mins = IsSideShrunk-still true xs mins 0 (taken-nothing xs mins)
+
+pub Shrinks-none : (s : OrderPriority) (xs mins : List ℕ) → Shrinks s xs mins 0 xs s
+Shrinks-none s xs mins = (none s.order s.round.kept xs mins, refl)
+
+done : (o : Order) (kept kept' : ℕ) (xs mins : List ℕ) (by : ℕ) → IsNamed o kept xs mins None kept' → IsShrunk o kept xs mins by xs kept'
+done Round kept kept' xs mins by h = subst (λ k. IsRoundShrunk kept xs mins by xs k) (sym h.1) (IsRoundShrunk-done kept xs mins by h.0)
+done Least kept kept' xs mins by h = IsMinShrunk-still true xs mins by (taken-none xs mins by h)
+done Greatest kept kept' xs mins by h = IsMaxShrunk-still true xs mins by (taken-none xs mins by h)
+done Leftmost kept kept' xs mins by h = IsSideShrunk-still false xs mins by (taken-none xs mins by h)
+done Rightmost kept kept' xs mins by h = IsSideShrunk-still true xs mins by (taken-none xs mins by h)
+
+pub Shrinks-done : (s t : OrderPriority) (xs mins : List ℕ) (by : ℕ) → Names s xs mins None t → Shrinks s xs mins by xs t
+Shrinks-done s t xs mins by h = (done s.order s.round.kept t.round.kept xs mins by h.0, h.1)
+
+step : (o : Order) (kept next last : ℕ) (xs mins new : List ℕ) (by i : ℕ) → IsNamed o kept xs mins (Some i) next → IsShrunk o next (lowered xs i) mins by new last
+    → IsShrunk o kept xs mins (by + 1) new last
+step Round kept next last xs mins new by i h rest =
+    IsRoundShrunk-step kept xs mins i by new last h.0 (subst (λ k. IsRoundShrunk k (lowered xs i) mins by new last) h.1 rest)
+step Least kept next last xs mins new by i h rest = IsMinShrunk-step true xs mins i by new h rest
+step Greatest kept next last xs mins new by i h rest = IsMaxShrunk-step true xs mins i by new h rest
+step Leftmost kept next last xs mins new by i h rest = IsSideShrunk-step false xs mins i by new h rest
+step Rightmost kept next last xs mins new by i h rest = IsSideShrunk-step true xs mins i by new h rest
+
+pub Shrinks-step : (s t u : OrderPriority) (xs mins new : List ℕ) (by i : ℕ) → Names s xs mins (Some i) t → Shrinks t (lowered xs i) mins by new u
+    → Shrinks s xs mins (by + 1) new u
+Shrinks-step s t u xs mins new by i h rest = (
+  step s.order s.round.kept t.round.kept u.round.kept xs mins new by i h.0
+      (subst (λ o. IsShrunk o t.round.kept (lowered xs i) mins by new u.round.kept) h.1 rest.0),
+  rest.1 ∙ h.1,
+)
+
+takes : (o : Order) (kept last : ℕ) (old mins new : List ℕ) (by : ℕ) → IsShrunk o kept old mins by new last → IsTakenFrom old mins by new
+takes Round kept last old mins new by h = h.takes
+takes Least kept last old mins new by h = h.takes
+takes Greatest kept last old mins new by h = h.takes
+takes Leftmost kept last old mins new by h = h.takes
+takes Rightmost kept last old mins new by h = h.takes
+
+pub Shrinks-takes : (s t : OrderPriority) (old mins new : List ℕ) (by : ℕ) → Shrinks s old mins by new t → IsTakenFrom old mins by new
+Shrinks-takes s t old mins new by h = takes s.order s.round.kept t.round.kept old mins new by h.0

@@ -4,9 +4,9 @@ ghost use Rattle.std.specs.Prelude.{Some, string_bytes};
 ghost use Rattle.tabled.specs.declared.plan.Plan.{Plan};
 ghost use Rattle.tabled.specs.declared.plan.Order.{Order};
 ghost use Rattle.tabled.specs.declared.arguments.Argument.{Argument};
-ghost use Rattle.tabled.specs.Noted.{Adds, Notes, NotesName, NotesWords};
-ghost use Rattle.tabled.specs.Arguments.{Begins, GoTogether, HasValues, IsNumber, IsOnce, Makes};
-ghost use Rattle.tabled.specs.Arguments.{Spells, SpellsPlan, name_of, order_word};
+ghost use Rattle.tabled.specs.Arguments.{Adds, Notes, NotesName, NotesWords, Begins, GoTogether};
+ghost use Rattle.tabled.specs.Arguments.{HasValues, IsNumber, IsOnce, Makes, Spells, SpellsPlan};
+ghost use Rattle.tabled.specs.Arguments.{name_of, order_word};
 
 use crate::plan::{Order, Plan};
 

@@ -20,7 +20,6 @@ pub(crate) struct BlockBuffer {
 impl BlockBuffer {
     ghost use Rattle.tabled.specs.BlockSent.{waiting};
 
-    /// Allocates an empty buffer.
     pub fn new(alloc: Global) -> Result<BlockBuffer, AllocError>
         ensures { IfOk result (λ held. waiting held ≡ []) }
     {
@@ -54,7 +53,6 @@ impl BlockBuffer {
         self.taken += count;
     }
 
-    /// Empties the buffer.
     pub fn clear(&mut self)
         ensures waiting { waiting self.new ≡ [] }
         ensures used { self.new.used ≡ 0 }

@@ -21,7 +21,6 @@ pub(crate) struct BlockSink<'a, W> {
 }
 
 impl<'a, W: Write> BlockSink<'a, W> {
-    /// Makes a sink from a writer and a buffer.
     pub fn new(writer: &'a mut W, held: &'a mut BlockBuffer) -> BlockSink<'a, W>
         ensures same_reference { result.writer.ghost_name ≡ writer.entry.ghost_name }
         ensures writer { result.writer.now ≡ writer.old }
@@ -34,7 +33,6 @@ impl<'a, W: Write> BlockSink<'a, W> {
         }
     }
 
-    /// Counts a failure, and returns its error.
     fn fail(&mut self) -> TableError
         ensures error { result ≡ Writer }
         ensures sent { (block_sent (block W.contents self.new)).bytes
@@ -46,7 +44,6 @@ impl<'a, W: Write> BlockSink<'a, W> {
         TableError::Writer
     }
 
-    /// Writes all buffered bytes.
     fn flush_block(&mut self) -> Result<(), TableError>
         ensures written { Writes (block_sent (block W.contents self.old)) result
             (block_sent (block W.contents self.new)) [] }

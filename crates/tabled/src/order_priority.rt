@@ -1,6 +1,6 @@
 //! A priority that is chosen at run time.
 ghost use Rattle.std.specs.Prelude.{◌≡◌};
-ghost use Rattle.tabled.specs.OrderLaws.{Shrinks-done, Shrinks-none, Shrinks-step, Shrinks-takes};
+ghost use Rattle.tabled.specs.Orders.{Shrinks-done, Shrinks-none, Shrinks-step, Shrinks-takes};
 ghost use Rattle.tabled.specs.Orders.{Names, Shrinks};
 
 use crate::plan::Order;

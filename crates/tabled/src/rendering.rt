@@ -104,7 +104,6 @@ fn print_streamed<T: CellText, S: TextSink>(
     whole.fmt(alloc, sink)
 }
 
-/// Prints the table of some records under a plan. Each cell is a single line.
 fn print_records<R: PeekableRecords, S: TextSink>(
     alloc: Global,
     rows: &R,

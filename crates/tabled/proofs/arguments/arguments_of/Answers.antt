@@ -1,6 +1,5 @@
 use Rattle.std.proofs.Common.{string_bytes, sym, ◌∙◌}
-use Rattle.tabled.proofs.Noting.{reads_all, reads_more, reads_no_more, reads_twice}
-use Rattle.tabled.proofs.Spelling.{map_nothing, map_something}
+use Rattle.tabled.proofs.Noting.{reads_all, reads_more, reads_no_more, reads_twice, map_nothing, map_something}
 use Rattle.tabled.proofs.arguments.arguments_of.Goals as goal
 
 pub returns-in_err-setting : goal.returns-in_err-setting

@@ -1,12 +1,11 @@
-use Rattle.std.proofs.Common.{ℕ, List, Result, Ok, Err, refl, subst}
+use Rattle.std.proofs.Common.{Result, Ok, Err, refl}
 use Rattle.tabled_base.specs.declared.error.TableError.{TableError}
 use Rattle.tabled_grid.specs.Picture.{table_text}
 use Rattle.tabled_line.proofs.Sending.{finished, sends-along}
 use Rattle.tabled.specs.BlockSent.{block, sent_since}
 use Rattle.tabled.specs.Output.{PutsOutput, with_feed}
 use Rattle.tabled.proofs.BytesSince.{puts_writes}
-use Rattle.tabled.proofs.Outputs.{either_output, output_of, output_refused, since_put}
-use Rattle.tabled.proofs.TextTables.{feed_none, feed_some}
+use Rattle.tabled.proofs.Outputs.{either_output, output_of, output_refused, since_put, feed_none, feed_some}
 use Rattle.tabled.proofs.program.print_blocked.Goals as goal
 
 pub returns-in-Err : goal.returns-in-Err
@@ -18,8 +17,7 @@ returns-in-Err g c =
     let r : Result (Unit {0}) TableError = Err c.in-Err.error in
     let h : PutsOutput c.args.plan c.as_str-text.result.now (sent_since name held a).bytes r (sent_since name held b).bytes =
     output_refused (Unit {0}) c.args.plan c.as_str-text.result.now (sent_since name held a) (sent_since name held b) c.in-Err.error r refl c.in-Err.ensures.rendered in
-    let P : List ℕ → Type 0 = λ u. PutsOutput c.args.plan u (sent_since name held a).bytes r (sent_since name held b).bytes in
-    let p = since_put c.args.plan _ name held a b r c.requires.name c.requires.held (subst P c.as_str-text.ensures.value h) in
+    let p = since_put c.args.plan _ _ c.as_str-text.ensures.value name held a b r c.requires.name c.requires.held h in
     record { put = p.0; advanced = p.1 }
 
 pub returns-then-is_empty : goal.returns-then-is_empty
@@ -37,8 +35,7 @@ returns-then-is_empty g c =
       is_output = output_of c.args.plan text _ _ s;
       puts = (sends-along _ _ _ _ s.sends (feed_none c.args.plan text s.table c.if-is_empty.ensures s.is_planned)).added;
     } in
-    let P : List ℕ → Type 0 = λ u. PutsOutput c.args.plan u (sent_since name held a).bytes r (sent_since name held b).bytes in
-    let p = since_put c.args.plan _ name held a b r c.requires.name c.requires.held (subst P c.as_str-text.ensures.value h) in
+    let p = since_put c.args.plan _ _ c.as_str-text.ensures.value name held a b r c.requires.name c.requires.held h in
     record { put = p.0; advanced = p.1 }
 
 pub returns : goal.returns
@@ -57,6 +54,5 @@ returns g c =
       puts = puts_writes _ _ r _
           (finished _ _ _ _ s.sends c.write_text-result.ensures.written (feed_some c.args.plan text s.table c.if-is_empty.ensures s.is_planned));
     } in
-    let P : List ℕ → Type 0 = λ u. PutsOutput c.args.plan u (sent_since name held a).bytes r (sent_since name held b).bytes in
-    let p = since_put c.args.plan _ name held a b r c.requires.name c.requires.held (subst P c.as_str-text.ensures.value h) in
+    let p = since_put c.args.plan _ _ c.as_str-text.ensures.value name held a b r c.requires.name c.requires.held h in
     record { put = p.0; advanced = p.1 }

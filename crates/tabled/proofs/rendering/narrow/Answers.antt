@@ -17,8 +17,7 @@ use Rattle.tabled.specs.Planned.{measured}
 use Rattle.tabled.specs.Rendered.{IsMade}
 use Rattle.tabled.specs.Orders.{Shrinks}
 use Rattle.tabled.proofs.FittedTables.{passes, truncated, wrapped}
-use Rattle.tabled.proofs.PlannedTables.{buffered_made}
-use Rattle.tabled.proofs.RenderedTables.{range_only}
+use Rattle.tabled.proofs.RenderedTables.{buffered_made, range_only}
 use Rattle.tabled.proofs.rendering.narrow.Goals as goal
 
 pub returns-in_err-change-in-Wrapped-clause-range : goal.returns-in_err-change-in-Wrapped-clause-range

@@ -10,7 +10,7 @@ use Rattle.tabled.specs.declared.plan.Plan.{Plan}
 use Rattle.tabled.specs.declared.plan.Plan.TheVariants.{Buffered}
 use Rattle.tabled.specs.Planned.{Cells, measured}
 use Rattle.tabled.specs.Rendered.{IsMade, IsRenderedOf}
-use Rattle.tabled.proofs.PlannedTables.{buffered_made, prints_made}
+use Rattle.tabled.proofs.RenderedTables.{buffered_made, prints_made}
 use Rattle.tabled.proofs.rendering.print_measured.Goals as goal
 
 pub returns-in-Buffered : goal.returns-in-Buffered

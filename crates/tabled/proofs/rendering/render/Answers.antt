@@ -7,7 +7,7 @@ use Rattle.tabled_text.specs.Measure.{lines_of}
 use Rattle.tabled.specs.Planned.{Cells}
 use Rattle.tabled.specs.Rendered.{IsRendered}
 use Rattle.tabled.proofs.RenderedTables.{only_rendered, rendered_empty}
-use Rattle.tabled.proofs.TextTables.{one_line_each, text_empty, text_filled, text_rectangular, texts_of_text}
+use Rattle.tabled.proofs.Outputs.{one_line_each, text_empty, text_filled, text_rectangular, texts_of_text}
 use Rattle.tabled.proofs.rendering.render.Goals as goal
 
 pub returns-then-is_empty-clause-rendered : goal.returns-then-is_empty-clause-rendered

@@ -6,7 +6,7 @@ use Rattle.tabled_size.specs.TextCells.{AreTexts}
 use Rattle.tabled_table.specs.NewConfig.{new_config}
 use Rattle.tabled.specs.Planned.{measured}
 use Rattle.tabled.proofs.RenderedTables.{empty_rendered}
-use Rattle.tabled.proofs.TextTables.{text_empty, text_rectangular, texts_of_text}
+use Rattle.tabled.proofs.Outputs.{text_empty, text_rectangular, texts_of_text}
 use Rattle.tabled.proofs.rendering.render_styled.Goals as goal
 
 pub returns-then-is_empty-clause-rendered : goal.returns-then-is_empty-clause-rendered
