@@ -1,5 +1,5 @@
 -- The sizes that stand: those that a dimension stores, and estimates where it stores none.
-use Rattle.std.proofs.Common.{◌≡◌, ℕ, ◌<◌, ◌≤◌, ◌^◌, ◌⊎◌, ◌&&◌, inl, inr, ⊎_elim, List, length, Option, Some, None, Result, Ok, Err, IfErr, OnOk, Bool, is_some, true, false, refl, sym, ap, subst, ◌∙◌, arith}
+use Rattle.std.proofs.Common.{◌≡◌, ℕ, ◌<◌, ◌≤◌, ◌^◌, ◌⊎◌, ◌&&◌, inl, inr, ⊎_elim, List, length, Option, Some, None, Result, Ok, Err, IfErr, OnOk, MatchResult, Bool, is_some, true, false, refl, sym, ap, subst, ◌∙◌, arith}
 use Rattle.std.specs.Result.{IsErrAnd}
 use Rattle.tabled_base.specs.Cells.{columns}
 use Rattle.tabled_base.specs.declared.error.TableError.{TableError}
@@ -12,7 +12,7 @@ use Rattle.tabled_size.specs.Reached.{reached}
 use Rattle.tabled_size.specs.Sheet.{Sheet, estimated, is_empty}
 use Rattle.tabled_size.specs.Entries.{stored_at}
 use Rattle.tabled_size.specs.Effective.{effective, effective_sizes}
-use Rattle.tabled_size.specs.Stored.{heights_of, widths_of}
+use Rattle.tabled_size.specs.Stored.{heights_of, is_stored, widths_of}
 use Rattle.tabled_size.specs.Totals.{filled_height, filled_width}
 use Rattle.tabled_size.proofs.Passing.{too_high_passes, too_wide_passes}
 use Rattle.tabled_size.proofs.Reaching.{reached_filled, reached_effective}
@@ -39,6 +39,48 @@ and_left false b h = h
 and_right : (a b : Bool) → (a && b) ≡ true → b ≡ true
 and_right true b h = h
 and_right false b h = let no : false ≡ true = h in cc
+
+-- what a check of stored sizes says of the effective ones
+module _ (o : Option (List ℕ)) (list estimates : List ℕ) (count n : ℕ) (e : n ≡ count) (s : o ≡ Some list) where
+  pub sizes_checked : n ≤ length (reached (stored_at o) n) → count ≤ length (effective_sizes o estimates count)
+  sizes_checked h =
+      subst (λ xs. count ≤ length xs) (reached_stands o list estimates count n s e)
+      (subst (λ k. k ≤ length (reached (stored_at o) n)) e h)
+
+  pub sizes_short : length (reached (stored_at o) n) < n → length (effective_sizes o estimates count) < count
+  sizes_short h =
+      subst (λ xs. length xs < count) (reached_stands o list estimates count n s e)
+      (subst (λ k. length (reached (stored_at o) n) < k) e h)
+
+pub sizes_estimated : (o : Option (List ℕ)) (estimates : List ℕ) (count : ℕ) → length estimates ≡ count → o ≡ None
+    → count ≤ length (effective_sizes o estimates count)
+sizes_estimated o estimates count e s = subst (λ p. count ≤ length (effective_sizes p estimates count)) (sym s) (omega arith)
+
+-- what a check of stored sizes returns
+pub short_refused : {T : Type 0} (r : Result T TableError) (t : Sheet) (e : TableError) → IsErrAnd r (λ d. d ≡ e)
+    → (e ≡ ShortWidths) × (length t.widths < columns t.cells) → MatchResult r (λ _. IsSized t × Holds t) (IsRefused t)
+short_refused (Ok x) t e i h = absurd i
+short_refused (Err d) t e i h = subst (IsRefused t) (sym (i ∙ h.0)) h.1
+
+pub high_refused : {T : Type 0} (r : Result T TableError) (t : Sheet) (P Q : Type 0) → (P → IsSized t) → Holds t
+    → (Q → (columns t.cells ≤ length t.widths) × (length t.heights < length t.cells)) → OnOk r P → IfErr r (λ d. (d ≡ ShortHeights) × Q)
+    → MatchResult r (λ _. IsSized t × Holds t) (IsRefused t)
+high_refused (Ok x) t P Q f held g p h = (f p, held)
+high_refused (Err d) t P Q f held g p h = subst (IsRefused t) (sym h.0) (g h.1)
+
+pub narrow_refused : {T : Type 0} (r : Result T TableError) (t : Sheet) → IsSized t → OnOk r (Holds t) → IfErr r (IsNarrow t)
+    → MatchResult r (λ _. IsSized t × Holds t) (IsRefused t)
+narrow_refused (Ok x) t s p h = (s, p)
+narrow_refused (Err (Narrow row column)) t s p h = (s, h)
+narrow_refused (Err Memory) t s p h = absurd h
+narrow_refused (Err ShortWidths) t s p h = absurd h
+narrow_refused (Err ShortHeights) t s p h = absurd h
+narrow_refused (Err Range) t s p h = absurd h
+narrow_refused (Err Writer) t s p h = absurd h
+
+pub none-from : {A : Type 0} (o : Option A) → is_some o ≡ false → o ≡ None
+none-from None e = refl
+none-from (Some x) e = absurd (cc)
 
 module _ (cells : List (List (List ℕ))) (config : SpannedConfig) where
   same_sizes : (widths widths2 heights heights2 : List ℕ) → widths ≡ widths2 → heights ≡ heights2 → sized_by cells config widths heights ≡ sized_by cells config widths2 heights2
@@ -78,38 +120,21 @@ module _ (cells : List (List (List ℕ))) (config : SpannedConfig) where
       (ap (λ o. effective_sizes o (estimated_widths cells config) (columns cells)) w)
       (ap (λ o. effective_sizes o (estimated_heights cells config) (length cells)) h)
 
-  -- what a test of stored sizes says of those that stand
-  pub widths_checked : {T : Type 0} (r : Result T TableError) (sizes : CompleteDimension) (list : List ℕ) (n : ℕ) → n ≡ columns cells → widths_of sizes ≡ Some list → OnOk r (n ≤ length (reached (stored_at (widths_of sizes)) n)) → OnOk r (columns cells ≤ length (effective cells config sizes).widths)
-  widths_checked r sizes list n e s h =
-      let f = reached_stands (widths_of sizes) list (estimated_widths cells config) (columns cells) n s e in
-      subst (λ xs. OnOk r (columns cells ≤ length xs)) f (subst (λ k. OnOk r (k ≤ length (reached (stored_at (widths_of sizes)) n))) e h)
+  -- there are enough effective sizes where one list is stored and long enough
+  pub sized_widths : (sizes : CompleteDimension) (list : List ℕ) (n : ℕ) → n ≡ columns cells → widths_of sizes ≡ Some list → is_stored sizes ≡ false
+      → n ≤ length (reached (stored_at (widths_of sizes)) n) → IsSized (effective cells config sizes)
+  sized_widths sizes list n e some one h = record {
+    columns = sizes_checked (widths_of sizes) list (estimated_widths cells config) (columns cells) n e some h;
+    rows = sizes_estimated (heights_of sizes) (estimated_heights cells config) (length cells) (heights_length cells config)
+        (none-from (heights_of sizes) (subst (λ o. (is_some o && is_some (heights_of sizes)) ≡ false) some one));
+  }
 
-  pub widths_short : {T : Type 0} (r : Result T TableError) (sizes : CompleteDimension) (list : List ℕ) (n : ℕ) → n ≡ columns cells → widths_of sizes ≡ Some list → IfErr r (λ d. (d ≡ ShortWidths) × (length (reached (stored_at (widths_of sizes)) n) < n)) → IfErr r (λ d. (d ≡ ShortWidths) × (length (effective cells config sizes).widths < columns cells))
-  widths_short r sizes list n e s h =
-      let f = reached_stands (widths_of sizes) list (estimated_widths cells config) (columns cells) n s e in
-      subst (λ xs. IfErr r (λ d. (d ≡ ShortWidths) × (length xs < columns cells))) f
-      (subst (λ k. IfErr r (λ d. (d ≡ ShortWidths) × (length (reached (stored_at (widths_of sizes)) n) < k))) e h)
-
-  pub widths_estimated : (sizes : CompleteDimension) → widths_of sizes ≡ None → columns cells ≤ length (effective cells config sizes).widths
-  widths_estimated sizes s =
-      subst (λ o. columns cells ≤ length (effective_sizes o (estimated_widths cells config) (columns cells))) (sym s)
-      (omega (arith, widths_length cells config))
-
-  pub heights_checked : {T : Type 0} (r : Result T TableError) (sizes : CompleteDimension) (list : List ℕ) (n : ℕ) → n ≡ length cells → heights_of sizes ≡ Some list → OnOk r (n ≤ length (reached (stored_at (heights_of sizes)) n)) → OnOk r (length cells ≤ length (effective cells config sizes).heights)
-  heights_checked r sizes list n e s h =
-      let f = reached_stands (heights_of sizes) list (estimated_heights cells config) (length cells) n s e in
-      subst (λ xs. OnOk r (length cells ≤ length xs)) f (subst (λ k. OnOk r (k ≤ length (reached (stored_at (heights_of sizes)) n))) e h)
-
-  pub heights_short : {T : Type 0} (r : Result T TableError) (sizes : CompleteDimension) (list : List ℕ) (n : ℕ) → n ≡ length cells → heights_of sizes ≡ Some list → IfErr r (λ d. (d ≡ ShortHeights) × (length (reached (stored_at (heights_of sizes)) n) < n)) → IfErr r (λ d. (d ≡ ShortHeights) × (length (effective cells config sizes).heights < length cells))
-  heights_short r sizes list n e s h =
-      let f = reached_stands (heights_of sizes) list (estimated_heights cells config) (length cells) n s e in
-      subst (λ xs. IfErr r (λ d. (d ≡ ShortHeights) × (length xs < length cells))) f
-      (subst (λ k. IfErr r (λ d. (d ≡ ShortHeights) × (length (reached (stored_at (heights_of sizes)) n) < k))) e h)
-
-  pub heights_estimated : (sizes : CompleteDimension) → heights_of sizes ≡ None → length cells ≤ length (effective cells config sizes).heights
-  heights_estimated sizes s =
-      subst (λ o. length cells ≤ length (effective_sizes o (estimated_heights cells config) (length cells))) (sym s)
-      (omega (arith, heights_length cells config))
+  pub sized_heights : (sizes : CompleteDimension) (list : List ℕ) (n : ℕ) → n ≡ length cells → widths_of sizes ≡ None → heights_of sizes ≡ Some list
+      → n ≤ length (reached (stored_at (heights_of sizes)) n) → IsSized (effective cells config sizes)
+  sized_heights sizes list n e none some h = record {
+    columns = sizes_estimated (widths_of sizes) (estimated_widths cells config) (columns cells) (widths_length cells config) none;
+    rows = sizes_checked (heights_of sizes) list (estimated_heights cells config) (length cells) n e some h;
+  }
 
   -- the heights don't tell whether cells are held
   narrow_heights : (widths heights heights2 : List ℕ) (e : TableError) → IsNarrow (sized_by cells config widths heights) e → IsNarrow (sized_by cells config widths heights2) e

@@ -1,18 +1,20 @@
 -- The columns and the lines of a whole picture.
-use Rattle.std.proofs.Common.{◌≡◌, ℕ, zero, suc, ◌+◌, ◌<◌, ◌≤◌, Bool, true, false, cond, List, [], ◌∷◌, ◌++◌, Option, Some, None, length, map, replicate, is_some, refl, sym, ◌∙◌, ap, subst, arith, length-append}
+use Rattle.std.proofs.Common.{◌≡◌, ℕ, zero, suc, ◌+◌, ◌<◌, ◌≤◌, Bool, true, false, cond, List, [], ◌++◌, Option, Some, None, length, map, replicate, is_some, refl, ◌∙◌, ap, arith, length-append}
 use Rattle.std.specs.List.{flat_map, range_with_len, slice_index}
 use Rattle.std.proofs.lemmas.List.{length-replicate}
+use Rattle.std.proofs.lemmas.List.Elements.{All-append, All-cons, All-nil, All-push, All-replicate, All-same}
 use Rattle.std.proofs.lemmas.List.FromFn.{length-map-range_with_len}
-use Rattle.tabled_text.specs.Plain.{IsAdditiveLine}
+use Rattle.tabled_text.specs.Measure.{line_columns}
+use Rattle.tabled_text.specs.Plain.{IsAdditiveColumn}
 use Rattle.tabled_base.specs.Cells.{IsRectangular, columns}
 use Rattle.tabled_config.specs.declared.borders.HorizontalLine.{HorizontalLine}
-use Rattle.tabled_config.specs.Settings.{rule_at}
+use Rattle.tabled_config.specs.Settings.{frame, rule_at}
 use Rattle.tabled_size.specs.Sheet.{Sheet, is_empty}
 use Rattle.tabled_priority.specs.Sums.{sum_below, one_if}
 use Rattle.tabled_size.specs.Totals.{filled_width, filled_height, total_width, total_height, rules_at, part_height}
 use Rattle.tabled_line.specs.Fill.{fill}
 use Rattle.tabled_size.specs.Holds.{Holds}
-use Rattle.tabled_line.specs.Row.{row_line, row_lines, rule_if}
+use Rattle.tabled_line.specs.Row.{row_line, row_lines, rule_if, rule_line}
 use Rattle.tabled_grid.specs.Picture.{columns_of, filled_picture, picture, row_of, row_part, rule}
 use Rattle.tabled_size.specs.PlainCells.{AreAdditive}
 use Rattle.tabled_line.specs.Plain.{EachLineTakes}
@@ -21,77 +23,82 @@ use Rattle.tabled_line.proofs.Each.{each-more, map-more}
 use Rattle.tabled_line.proofs.Plains.{plain-fill}
 use Rattle.tabled_grid.proofs.Measuring.{IsPlainSheet, plain-row_line, plain-rule_line}
 
--- each line is plain and takes n columns
-abbrev EachPlain : ℕ → List (List ℕ) → Type 0
-EachPlain n [] = Unit {0}
-EachPlain n (l ∷ ls) = IsAdditiveLine l n × EachPlain n ls
+abbrev Takes : ℕ → List ℕ → Type 0
+Takes n line = line_columns line ≡ n
 
-each-append : (n : ℕ) (xs ys : List (List ℕ)) → EachPlain n xs → EachPlain n ys → EachPlain n (xs ++ ys)
-each-append n [] ys p q = q
-each-append n (x ∷ xs) ys p q = (p.0, each-append n xs ys p.1 q)
+abbrev full_width : Sheet → ℕ
+full_width t = filled_width t.config (columns t.cells) t.widths
 
-each-copies : (n k : ℕ) (l : List ℕ) → IsAdditiveLine l n → EachPlain n (replicate k l)
-each-copies n zero l h = tt
-each-copies n (suc k) l h = (h, each-copies n k l h)
+-- the lines of rows, the horizontal lines and those of margins take the table's columns
+pub record EachTakes (t : Sheet) : Type 0 where
+  pub row : (row index : ℕ) → row < length t.cells → index < slice_index t.heights row → Takes (full_width t) (row_line (row_of t row) index)
+  pub rule : (i : ℕ) (line : HorizontalLine) → i ≤ length t.cells → rule_at t.config (length t.cells) i ≡ Some line
+      → Takes (full_width t) (rule_line (columns_of t) line)
+  pub margin_top : IsAdditiveColumn (frame t.config).margin.top.fill
+  pub margin_bottom : IsAdditiveColumn (frame t.config).margin.bottom.fill
 
-each-mapped : (n : ℕ) (f : ℕ → List ℕ) (k : ℕ) → ((i : ℕ) → i < k → IsAdditiveLine (f i) n) → EachPlain n (map f (range_with_len 0 k))
-each-mapped n f zero h = tt
+each-mapped : (n : ℕ) (f : ℕ → List ℕ) (k : ℕ) → ((i : ℕ) → i < k → Takes n (f i)) → EachLineTakes n (map f (range_with_len 0 k))
+each-mapped n f zero h = All-nil (Takes n)
 each-mapped n f (suc k) h =
-    let P : List (List ℕ) → Type 0 = EachPlain n in
-    let e : k + 1 ≡ suc k = omega arith in
-    subst P (sym (map-more f k) ∙ ap (λ m. map f (range_with_len 0 m)) e)
-    (each-append n (map f (range_with_len 0 k)) (f k ∷ []) (each-mapped n f k (λ i l. h i (omega arith))) (h k (omega arith), tt))
+    let e : suc k ≡ k + 1 = omega arith in
+    All-same (Takes n) _ _ (ap (λ m. map f (range_with_len 0 m)) e ∙ map-more f k)
+    (All-push (Takes n) (map f (range_with_len 0 k)) (f k) (each-mapped n f k (λ i l. h i (omega arith))) (h k (omega arith)))
 
-each-flat : (n : ℕ) (f : ℕ → List (List ℕ)) (k : ℕ) → ((i : ℕ) → i < k → EachPlain n (f i)) → EachPlain n (flat_map f (range_with_len 0 k))
-each-flat n f zero h = tt
+each-flat : (n : ℕ) (f : ℕ → List (List ℕ)) (k : ℕ) → ((i : ℕ) → i < k → EachLineTakes n (f i)) → EachLineTakes n (flat_map f (range_with_len 0 k))
+each-flat n f zero h = All-nil (Takes n)
 each-flat n f (suc k) h =
-    let P : List (List ℕ) → Type 0 = EachPlain n in
-    let e : k + 1 ≡ suc k = omega arith in
-    subst P (sym (each-more f k) ∙ ap (λ m. flat_map f (range_with_len 0 m)) e)
-    (each-append n (flat_map f (range_with_len 0 k)) (f k) (each-flat n f k (λ i l. h i (omega arith))) (h k (omega arith)))
+    let e : suc k ≡ k + 1 = omega arith in
+    All-same (Takes n) _ _ (ap (λ m. flat_map f (range_with_len 0 m)) e ∙ each-more f k)
+    (All-append (Takes n) (flat_map f (range_with_len 0 k)) (f k) (each-flat n f k (λ i l. h i (omega arith))) (h k (omega arith)))
 
-each-takes : (n : ℕ) (ls : List (List ℕ)) → EachPlain n ls → EachLineTakes n ls
-each-takes n [] h k d l = absurd (omega arith)
-each-takes n (x ∷ xs) h zero d l = h.0.columns
-each-takes n (x ∷ xs) h (suc k) d l = each-takes n xs h.1 k d (omega arith)
+each-fill : (n k c : ℕ) → IsAdditiveColumn c → EachLineTakes n (replicate k (fill c n))
+each-fill n k c h = All-replicate (Takes n) k (fill c n) (plain-fill c n h).columns
 
-each-rule_if : (t : Sheet) (o : Option HorizontalLine) (i : ℕ) → IsPlainSheet t → i ≤ length t.cells → rule_at t.config (length t.cells) i ≡ o → EachPlain (filled_width t.config (columns t.cells) t.widths) (rule_if (columns_of t) o)
-each-rule_if t None i p b e = tt
-each-rule_if t (Some l) i p b e = (plain-rule_line t l p (p.config.rules i b l e), tt)
+each-rule_if : (t : Sheet) (o : Option HorizontalLine) (i : ℕ) → EachTakes t → i ≤ length t.cells → rule_at t.config (length t.cells) i ≡ o
+    → EachLineTakes (full_width t) (rule_if (columns_of t) o)
+each-rule_if t None i p b e = All-nil (Takes (full_width t))
+each-rule_if t (Some l) i p b e = All-cons (Takes (full_width t)) _ [] (p.rule i l b e) (All-nil (Takes (full_width t)))
 
-each-rule : (t : Sheet) (i : ℕ) → IsPlainSheet t → i ≤ length t.cells → EachPlain (filled_width t.config (columns t.cells) t.widths) (rule t i)
+each-rule : (t : Sheet) (i : ℕ) → EachTakes t → i ≤ length t.cells → EachLineTakes (full_width t) (rule t i)
 unfolding rule
 each-rule t i p b = each-rule_if t (rule_at t.config (length t.cells) i) i p b refl
 
-each-row : (t : Sheet) (row : ℕ) → IsPlainSheet t → row < length t.cells → EachPlain (filled_width t.config (columns t.cells) t.widths) (row_part t row)
+each-row : (t : Sheet) (row : ℕ) → EachTakes t → row < length t.cells → EachLineTakes (full_width t) (row_part t row)
 unfolding row_part row_lines
 each-row t row p l =
-    let n = filled_width t.config (columns t.cells) t.widths in
-    each-append n (rule t row) (map (row_line (row_of t row)) (range_with_len 0 (slice_index t.heights row))) (each-rule t row p (omega arith))
-    (each-mapped n (row_line (row_of t row)) (slice_index t.heights row) (λ i m. plain-row_line t row i p l m))
+    All-append (Takes (full_width t)) (rule t row) _ (each-rule t row p (omega arith))
+    (each-mapped (full_width t) (row_line (row_of t row)) (slice_index t.heights row) (λ i m. p.row row i l m))
 
-each-filled : (t : Sheet) → IsPlainSheet t → EachPlain (filled_width t.config (columns t.cells) t.widths) (filled_picture t (filled_width t.config (columns t.cells) t.widths))
+each-filled : (t : Sheet) → EachTakes t → EachLineTakes (full_width t) (filled_picture t (full_width t))
 unfolding filled_picture
 each-filled t p =
-    let n = filled_width t.config (columns t.cells) t.widths in
-    let top = t.config.margin.top in
-    let bottom = t.config.margin.bottom in
+    let n = full_width t in
+    let margin = (frame t.config).margin in
     let rows = length t.cells in
-    each-append n (replicate top.size (fill top.fill n)) _ (each-copies n top.size (fill top.fill n) (plain-fill top.fill n p.config.frame.margin_top))
-    (each-append n (flat_map (row_part t) (range_with_len 0 rows)) _ (each-flat n (row_part t) rows (λ i l. each-row t i p l))
-    (each-append n (rule t rows) _ (each-rule t rows p (omega arith)) (each-copies n bottom.size (fill bottom.fill n) (plain-fill bottom.fill n p.config.frame.margin_bottom))))
+    All-append (Takes n) (replicate margin.top.size (fill margin.top.fill n)) _ (each-fill n margin.top.size margin.top.fill p.margin_top)
+    (All-append (Takes n) (flat_map (row_part t) (range_with_len 0 rows)) _ (each-flat n (row_part t) rows (λ i l. each-row t i p l))
+    (All-append (Takes n) (rule t rows) _ (each-rule t rows p (omega arith)) (each-fill n margin.bottom.size margin.bottom.fill p.margin_bottom)))
 
 either-takes : (b : Bool) (n : ℕ) (ls : List (List ℕ)) → EachLineTakes n ls → EachLineTakes (cond b 0 n) (cond b [] ls)
-either-takes true n ls h k d l = absurd (omega arith)
-either-takes false n ls h k d l = h k d l
+either-takes true n ls h = All-nil (Takes 0)
+either-takes false n ls h = h
+
+-- then so do all lines of the picture
+pub picture_takes : (t : Sheet) → EachTakes t → EachLineTakes (total_width t) (picture t)
+unfolding picture
+picture_takes t p = either-takes (is_empty t.cells) (full_width t) (filled_picture t (full_width t)) (each-filled t p)
 
 -- each line of the picture of a plain table that holds its cells takes the table's columns
-pub picture_columns : (t : Sheet) → IsPlainConfig t.config (length t.cells) (columns t.cells) → AreAdditive t.cells → IsRectangular t.cells → Holds t → EachLineTakes (total_width t) (picture t)
-unfolding picture
+pub picture_columns : (t : Sheet) → IsPlainConfig t.config (length t.cells) (columns t.cells) → AreAdditive t.cells → IsRectangular t.cells → Holds t
+    → EachLineTakes (total_width t) (picture t)
 picture_columns t config texts rectangular holds =
-    let n = filled_width t.config (columns t.cells) t.widths in
     let p : IsPlainSheet t = record { config = config; texts = texts; rectangular = rectangular; holds = holds } in
-    either-takes (is_empty t.cells) n (filled_picture t n) (each-takes n (filled_picture t n) (each-filled t p))
+    picture_takes t (record {
+      row = λ row i l m. (plain-row_line t row i p l m).columns;
+      rule = λ i line b e. (plain-rule_line t line p (config.rules i b line e)).columns;
+      margin_top = config.frame.margin_top;
+      margin_bottom = config.frame.margin_bottom;
+    })
 
 -- ---- how many lines
 

@@ -8,6 +8,10 @@ use Rattle.tabled_size.specs.Estimates.{needed_width}
 use Rattle.tabled_size.specs.Holds.{IsHeld}
 use Rattle.tabled_size.specs.Sheet.{Sheet}
 
+-- all cells of a row fit their columns
+abbrev pub IsHeldIn : Sheet → ℕ → Type 0
+IsHeldIn t row = (c : ℕ) → c < columns t.cells → IsHeld t row c
+
 -- the first cell of a row that doesn't fit its column
 pub record IsNarrowIn (t : Sheet) (row column : ℕ) : Type 0 where
   pub column_in : column < columns t.cells

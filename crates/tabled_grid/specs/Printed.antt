@@ -28,6 +28,12 @@ IsRefused t (Narrow row column) = IsSized t × IsFirstNarrow t row column
 IsRefused t Range = IsSized t × Holds t × IsOutOfRange t
 IsRefused t _ = ⊥
 
+-- a table with a row and a column, whose sizes hold its cells
+pub record IsChecked (t : Sheet) : Type 0 where
+  pub filled : is_empty t.cells ≡ false
+  pub sized : IsSized t
+  pub holds : Holds t
+
 -- the table can be printed
 pub record IsPrintable (t : Sheet) : Type 0 where
   pub sized : IsSized t

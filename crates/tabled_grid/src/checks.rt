@@ -1,15 +1,14 @@
 //! Checks whether the sizes of a table are complete and hold its cells, in the order of the errors.
-ghost use Rattle.std.specs.Prelude.{◌≡◌, ◌↔◌, ℕ, ◌<◌, ◌≤◌, ◌^◌, IsTrue, length, IfNone, IfOk, IfErr, IfSome, OnOk};
+ghost use Rattle.std.specs.Prelude.{◌≡◌, ◌↔◌, ◌<◌, ◌≤◌, IsTrue, false, length, IfOk, IfErr, MatchOption, MatchResult, OnOk};
 ghost use Rattle.std.specs.List.{slice_index};
 ghost use Rattle.tabled_base.specs.Cells.{columns};
-ghost use Rattle.tabled_base.specs.declared.error.TableError.TheVariants.{ShortHeights, ShortWidths};
 ghost use Rattle.tabled_config.specs.Settings.{style_at};
 ghost use Rattle.tabled_line.specs.Placements.{ArePlacements, IsPlaceable, placement_of};
-ghost use Rattle.tabled_size.specs.Reached.{reached};
 ghost use Rattle.tabled_size.specs.Effective.{effective};
+ghost use Rattle.tabled_size.specs.Stored.{is_stored};
 ghost use Rattle.tabled_size.specs.Totals.{filled_width};
 ghost use Rattle.tabled_size.specs.Holds.{Holds, IsHeld, IsSized};
-ghost use Rattle.tabled_grid.specs.Narrow.{IsNarrow, IsNarrowIn};
+ghost use Rattle.tabled_grid.specs.Narrow.{IsHeldIn, IsNarrow, IsNarrowIn};
 ghost use Rattle.tabled_grid.specs.Picture.{columns_of};
 ghost use Rattle.tabled_grid.specs.Printed.{IsInRange, IsRefused};
 
@@ -40,7 +39,6 @@ fn is_held<R: PeekableRecords, D: Dimension>(
         && used <= width - padding.left.size - padding.right.size
 }
 
-/// Whether a text fits the content width of its placement.
 fn fits_placement<R: PeekableRecords, D: Dimension>(
     grid: &Grid<'_, R, D>,
     row: usize,
@@ -49,8 +47,10 @@ fn fits_placement<R: PeekableRecords, D: Dimension>(
 ) -> bool
     requires row_in { row < length grid.now.cells }
     requires column_in { column < columns grid.now.cells }
-    requires placement { placement ≡ placement_of (style_at grid.now.config row column) (slice_index grid.now.widths column) }
-    requires placeable { IsPlaceable (style_at grid.now.config row column) (slice_index grid.now.widths column) }
+    requires placement { placement ≡ placement_of (style_at grid.now.config row column)
+        (slice_index grid.now.widths column) }
+    requires placeable { IsPlaceable (style_at grid.now.config row column)
+        (slice_index grid.now.widths column) }
     ensures { IsTrue result ↔ IsHeld grid.now row column }
 {
     grid.records.get_width(Position { row, column }) <= placement.content_width
@@ -64,10 +64,9 @@ fn narrow_by_placements<R: PeekableRecords, D: Dimension>(
 ) -> Option<usize>
     requires sized { columns grid.now.cells ≤ length grid.now.widths }
     requires row_in { row < length grid.now.cells }
-    requires placements { ArePlacements (style_at grid.now.config row) (columns_of grid.now) placements.now }
-    ensures none { IfNone result ((c : ℕ) → c < columns grid.now.cells
-        → IsHeld grid.now row c) }
-    ensures some { IfSome result (IsNarrowIn grid.now row) }
+    requires placements { ArePlacements (style_at grid.now.config row) (columns_of grid.now)
+        placements.now }
+    ensures { MatchOption result (IsHeldIn grid.now row) (IsNarrowIn grid.now row) }
 {
     'columns: for column in 0..placements.len() {
         if !fits_placement(grid, row, column, placements[column].placement) {
@@ -84,9 +83,7 @@ fn narrow_by_lookup<R: PeekableRecords, D: Dimension>(
 ) -> Option<usize>
     requires sized { columns grid.now.cells ≤ length grid.now.widths }
     requires row_in { row < length grid.now.cells }
-    ensures none { IfNone result ((c : ℕ) → c < columns grid.now.cells
-        → IsHeld grid.now row c) }
-    ensures some { IfSome result (IsNarrowIn grid.now row) }
+    ensures { MatchOption result (IsHeldIn grid.now row) (IsNarrowIn grid.now row) }
 {
     let paddings = grid.config.paddings_in(row);
     'columns: for column in 0..grid.count_columns() {
@@ -97,13 +94,10 @@ fn narrow_by_lookup<R: PeekableRecords, D: Dimension>(
     None
 }
 
-/// Returns the first column of a row that is too narrow for its cell.
 fn narrow_in<R: PeekableRecords, D: Dimension>(grid: &Grid<'_, R, D>, row: usize) -> Option<usize>
     requires sized { columns grid.now.cells ≤ length grid.now.widths }
     requires row_in { row < length grid.now.cells }
-    ensures none { IfNone result ((c : ℕ) → c < columns grid.now.cells
-        → IsHeld grid.now row c) }
-    ensures some { IfSome result (IsNarrowIn grid.now row) }
+    ensures { MatchOption result (IsHeldIn grid.now row) (IsNarrowIn grid.now row) }
 {
     match grid.placements(row) {
         Some(placements) => narrow_by_placements(grid, row, placements),
@@ -159,74 +153,26 @@ pub(crate) fn check_totals<R: PeekableRecords, D: Dimension>(
     Ok(width)
 }
 
-/// Checks that there are enough widths, if they are stored. `ShortWidths`: there are too few.
-fn check_stored_widths<R: PeekableRecords>(
-    records: &R,
-    config: &SpannedConfig,
-    stored: &CompleteDimension,
-) -> Result<(), TableError>
-    ensures ok { OnOk result (columns (R.cells records.now)
-        ≤ length (effective (R.cells records.now) config.now stored.now).widths) }
-    ensures err { IfErr result (λ e. (e ≡ ShortWidths)
-        × (length (effective (R.cells records.now) config.now stored.now).widths
-        < columns (R.cells records.now))) }
-{
-    let _config = config;
-    match stored.get_widths() {
-        Some(_) => check_widths(stored, records.count_columns()),
-        None => Ok(()),
-    }
-}
-
-/// Checks that there are enough heights, if they are stored. `ShortHeights`: there are too few.
-fn check_stored_heights<R: PeekableRecords>(
-    records: &R,
-    config: &SpannedConfig,
-    stored: &CompleteDimension,
-) -> Result<(), TableError>
-    ensures ok { OnOk result (length (R.cells records.now)
-        ≤ length (effective (R.cells records.now) config.now stored.now).heights) }
-    ensures err { IfErr result (λ e. (e ≡ ShortHeights)
-        × (length (effective (R.cells records.now) config.now stored.now).heights
-        < length (R.cells records.now))) }
-{
-    let _config = config;
-    match stored.get_heights() {
-        Some(_) => check_heights(stored, records.count_rows()),
-        None => Ok(()),
-    }
-}
-
-/// Checks that the widths hold all cells, if they are stored; estimated widths always do. `Narrow`:
-/// the first cell that doesn't fit.
-fn check_stored_cells<R: PeekableRecords>(
-    records: &R,
-    config: &SpannedConfig,
-    stored: &CompleteDimension,
-) -> Result<(), TableError>
-    requires { columns (R.cells records.now)
-        ≤ length (effective (R.cells records.now) config.now stored.now).widths }
-    ensures ok { OnOk result (Holds (effective (R.cells records.now) config.now stored.now)) }
-    ensures err { IfErr result (IsNarrow (effective (R.cells records.now) config.now stored.now)) }
-{
-    match stored.get_widths() {
-        Some(_) => check_narrow(&Grid::new(records, config, stored, None)),
-        None => Ok(()),
-    }
-}
-
-/// Checks the stored sizes, before others are estimated. `ShortWidths`, `ShortHeights`: a stored
-/// list is too short. `Narrow`: the first cell that doesn't fit a stored width.
+/// Checks the widths or heights that are stored, before the others are estimated. Estimates are
+/// complete and hold all cells. `ShortWidths`, `ShortHeights`: the stored list is too short.
+/// `Narrow`: the first cell that doesn't fit a stored width.
 pub(crate) fn check_stored<R: PeekableRecords>(
     records: &R,
     config: &SpannedConfig,
     stored: &CompleteDimension,
 ) -> Result<(), TableError>
-    ensures sized { OnOk result (IsSized (effective (R.cells records.now) config.now stored.now)) }
-    ensures holds { OnOk result (Holds (effective (R.cells records.now) config.now stored.now)) }
-    ensures err { IfErr result (IsRefused (effective (R.cells records.now) config.now stored.now)) }
+    requires { is_stored stored.now ≡ false }
+    ensures { let t = effective (R.cells records.now) config.now stored.now in
+        MatchResult result (λ _. IsSized t × Holds t) (IsRefused t) }
 {
-    check_stored_widths(records, config, stored)?;
-    check_stored_heights(records, config, stored)?;
-    check_stored_cells(records, config, stored)
+    match stored.get_widths() {
+        Some(_) => {
+            check_widths(stored, records.count_columns())?;
+            check_narrow(&Grid::new(records, config, stored, None))
+        }
+        None => match stored.get_heights() {
+            Some(_) => check_heights(stored, records.count_rows()),
+            None => Ok(()),
+        },
+    }
 }

@@ -1,17 +1,18 @@
 //! The placements of all columns in rows of one line, computed once for rows with the same
 //! settings.
 ghost use Rattle.std.specs.Prelude.{◌≡◌, ◌≤◌, IfSome, length, true};
-ghost use Rattle.std.specs.List.{slice_index};
 ghost use Rattle.tabled_config.specs.Settings.{style_at};
-ghost use Rattle.tabled_grid.specs.ColumnStyles.{placements_of, columns_in};
+ghost use Rattle.tabled_grid.specs.ColumnStyles.{columns_by, placements_of};
 ghost use Rattle.tabled_line.specs.Placements.{ArePlacements};
 ghost use Rattle.tabled_size.specs.Reached.{reached};
 
-use crate::inline_placements::{FEW_COLUMNS, InlinePlacements};
 use std::alloc::Global;
 use tabled_config::{AlignmentHorizontal, SpannedConfig};
 use tabled_line::{CellPlacement, Placement, bar_length, next_offset};
 use tabled_size::{Dimension, check_widths};
+
+/// The greatest number of columns whose placements are in an array.
+const FEW_COLUMNS: usize = 128;
 
 /// A placeholder that arrays are filled with.
 const NO_PLACEMENT: CellPlacement = CellPlacement {
@@ -31,9 +32,10 @@ fn list_placements<D: Dimension>(
     dimension: &D,
     row: usize,
 ) -> bool
-    requires { length placements.old ≤ length (reached (D.width_at dimension.now) (length placements.old)) }
+    requires { length placements.old
+        ≤ length (reached (D.width_at dimension.now) (length placements.old)) }
     ensures { result ≡ true → ArePlacements (style_at config.now row)
-        (columns_in config.now (slice_index (reached (D.width_at dimension.now) (length placements.old))) (length placements.old)) placements.new }
+        (columns_by config.now (D.width_at dimension.now) (length placements.old)) placements.new }
 {
     let bar = bar_length(config.frame().inner);
     let mut place = 0;
@@ -54,36 +56,15 @@ fn list_placements<D: Dimension>(
     true
 }
 
-/// The placements of all columns: inline if there are few, otherwise allocated.
+/// The placements of all columns.
 #[derive(Drop)]
 pub(crate) enum ColumnPlacements {
-    Few(InlinePlacements),
+    /// Those of the first columns in an array, and the number of columns.
+    Few([CellPlacement; FEW_COLUMNS], usize),
     Each(Vec<CellPlacement>),
 }
 
 impl ColumnPlacements {
-    /// Returns the placements of a row with few columns.
-    fn few<D: Dimension>(
-        config: &SpannedConfig,
-        dimension: &D,
-        row: usize,
-        columns: usize,
-    ) -> Option<ColumnPlacements>
-        requires few { columns ≤ FEW_COLUMNS }
-        requires there { columns ≤ length (reached (D.width_at dimension.now) columns) }
-        ensures { IfSome result (λ kept.
-            ArePlacements (style_at config.now row) (columns_in config.now (slice_index (reached (D.width_at dimension.now) columns)) columns) (placements_of kept)) }
-    {
-        let mut placements = [NO_PLACEMENT; FEW_COLUMNS];
-        if !list_placements(&mut placements[..columns], config, dimension, row) {
-            return None;
-        }
-        Some(ColumnPlacements::Few(InlinePlacements {
-            placements,
-            count: columns,
-        }))
-    }
-
     /// Returns the placements of a row of `columns` cells, for rows of one line. `None` if a width
     /// is missing, a text has no placement, an offset overflows, or there are more than
     /// `FEW_COLUMNS` columns and memory for them can't be allocated.
@@ -94,31 +75,32 @@ impl ColumnPlacements {
         row: usize,
         columns: usize,
     ) -> Option<ColumnPlacements>
-        ensures { IfSome result (λ kept.
-            ArePlacements (style_at config.now row) (columns_in config.now (slice_index (reached (D.width_at dimension.now) columns)) columns) (placements_of kept)) }
+        ensures { IfSome result (λ kept. ArePlacements (style_at config.now row)
+            (columns_by config.now (D.width_at dimension.now) columns) (placements_of kept)) }
     {
         if check_widths(dimension, columns).is_err() {
             return None;
         }
         if columns <= FEW_COLUMNS {
-            return ColumnPlacements::few(config, dimension, row, columns);
+            let mut placements = [NO_PLACEMENT; FEW_COLUMNS];
+            if !list_placements(&mut placements[..columns], config, dimension, row) {
+                return None;
+            }
+            return Some(ColumnPlacements::Few(placements, columns));
         }
-        let alloc = memory?;
-        let Ok(mut placements) = vec![in alloc; NO_PLACEMENT; columns] else {
-            return None;
-        };
+        let mut placements = vec![in memory?; NO_PLACEMENT; columns].ok()?;
         if !list_placements(&mut placements, config, dimension, row) {
             return None;
         }
         Some(ColumnPlacements::Each(placements))
     }
 
-    /// Returns the placements, from left to right.
+    #[tactic(auto, using(std::proofs::lemmas::List::take_all))]
     pub fn listed(&self) -> &[CellPlacement]
         ensures { result.now ≡ placements_of self.now }
     {
         match self {
-            ColumnPlacements::Few(few) => few.listed(),
+            ColumnPlacements::Few(few, count) => few.get(..*count).unwrap_or(few),
             ColumnPlacements::Each(placements) => placements.as_slice(),
         }
     }

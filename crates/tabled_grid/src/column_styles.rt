@@ -1,8 +1,8 @@
 //! The styles of all columns, looked up once for rows with the same settings.
-ghost use Rattle.std.specs.Prelude.{◌≡◌, ℕ, IfSome, map, true};
-ghost use Rattle.std.specs.List.{range_with_len, slice_index};
+ghost use Rattle.std.specs.Prelude.{◌≡◌, ℕ, IfSome, true};
+ghost use Rattle.std.specs.List.{slice_index};
 ghost use Rattle.tabled_config.specs.Settings.{style_at};
-ghost use Rattle.tabled_grid.specs.ColumnStyles.{AreStyles, columns_in};
+ghost use Rattle.tabled_grid.specs.ColumnStyles.{AreStyles, columns_in, styles_of};
 ghost use Rattle.tabled_line.specs.Placements.{ArePlacements};
 ghost use Rattle.tabled_size.specs.Reached.{reached};
 
@@ -25,7 +25,7 @@ fn styles_in(
     row: usize,
     columns: usize,
 ) -> Option<Vec<CellStyle>>
-    ensures { IfSome result (λ styles. styles.items ≡ map (style_at config.now row) (range_with_len 0 columns)) }
+    ensures { IfSome result (λ styles. styles.items ≡ styles_of config.now row columns) }
 {
     let mut styles = Vec::with_capacity(memory?, columns).ok()?;
     'columns: for column in 0..columns {
@@ -57,7 +57,8 @@ impl ColumnStyles {
         rows: usize,
         columns: usize,
     ) -> Option<ColumnStyles>
-        ensures { IfSome result (AreStyles config.now (slice_index (reached (D.width_at dimension.now) columns)) columns) }
+        ensures { IfSome result (AreStyles config.now
+            (slice_index (reached (D.width_at dimension.now) columns)) columns) }
     {
         if rows < FEWEST_ROWS || columns > MOST_COLUMNS {
             return None;
@@ -70,11 +71,11 @@ impl ColumnStyles {
         })
     }
 
-    /// Whether a row is known to have the same settings as the cached one.
     #[inline(always)]
     fn is_set_in(&self, config: &SpannedConfig, row: usize) -> bool
-        ensures { (width : ℕ → ℕ) (columns : ℕ) → AreStyles config.now width columns self.now → result ≡ true
-            → (column : ℕ) → style_at config.now row column ≡ style_at config.now self.now.row column }
+        ensures { (width : ℕ → ℕ) (columns : ℕ) → AreStyles config.now width columns self.now
+            → result ≡ true → (column : ℕ)
+            → style_at config.now row column ≡ style_at config.now self.now.row column }
     {
         self.everywhere || config.are_alike(row, self.row)
     }
@@ -83,7 +84,7 @@ impl ColumnStyles {
     /// same settings.
     pub fn in_row(&self, config: &SpannedConfig, row: usize) -> Option<&[CellStyle]>
         ensures { (width : ℕ → ℕ) (columns : ℕ) → AreStyles config.now width columns self.now
-            → IfSome result (λ styles. styles.now ≡ map (style_at config.now row) (range_with_len 0 columns)) }
+            → IfSome result (λ styles. styles.now ≡ styles_of config.now row columns) }
     {
         match &self.styles {
             Some(styles) if self.is_set_in(config, row) => Some(styles.as_slice()),
@@ -95,7 +96,8 @@ impl ColumnStyles {
     /// the same settings.
     pub fn placements_in_row(&self, config: &SpannedConfig, row: usize) -> Option<&[CellPlacement]>
         ensures { (width : ℕ → ℕ) (columns : ℕ) → AreStyles config.now width columns self.now
-            → IfSome result (λ placements. ArePlacements (style_at config.now row) (columns_in config.now width columns) placements.now) }
+            → IfSome result (λ placements. ArePlacements (style_at config.now row)
+            (columns_in config.now width columns) placements.now) }
     {
         match &self.placements {
             Some(placements) if self.is_set_in(config, row) => Some(placements.listed()),

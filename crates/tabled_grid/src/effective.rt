@@ -1,11 +1,10 @@
 //! Prints records with their effective sizes: the stored ones, or else estimates.
-ghost use Rattle.std.specs.Prelude.{◌≡◌, ◌⊎◌, IfErr, false, not, true};
+ghost use Rattle.std.specs.Prelude.{◌≡◌, ◌⊎◌, IfErr, not, true};
 ghost use Rattle.tabled_base.specs.declared.error.TableError.TheVariants.{Memory, Range, Writer};
-ghost use Rattle.tabled_size.specs.Sheet.{estimated, is_empty};
+ghost use Rattle.tabled_size.specs.Sheet.{estimated};
 ghost use Rattle.tabled_size.specs.Effective.{effective};
 ghost use Rattle.tabled_size.specs.Stored.{is_stored};
-ghost use Rattle.tabled_size.specs.Holds.{Holds, IsSized};
-ghost use Rattle.tabled_grid.specs.Printed.{Prints};
+ghost use Rattle.tabled_grid.specs.Printed.{IsChecked, Prints};
 ghost use Rattle.tabled_line.specs.Sent.{Sent};
 
 use crate::checks::check_stored;
@@ -33,7 +32,8 @@ pub fn print_standing<R: PeekableRecords, S: TextSink>(
     config: &SpannedConfig,
     stored: &CompleteDimension,
 ) -> Result<(), TableError>
-    ensures { Prints (not (is_stored stored.now)) (effective (R.cells records.now) config.now stored.now)
+    ensures { Prints (not (is_stored stored.now))
+        (effective (R.cells records.now) config.now stored.now)
         (S.sent sink.old) result (S.sent sink.new) }
 {
     if is_empty(records) {
@@ -54,9 +54,7 @@ fn print_in_memory<'a, R: PeekableRecords, D: Dimension, S: TextSink>(
     sink: &mut S,
     grid: &'a Grid<'a, R, D>,
 ) -> Result<(), TableError>
-    requires filled { is_empty grid.now.cells ≡ false }
-    requires sized { IsSized grid.now }
-    requires holds { Holds grid.now }
+    requires { IsChecked grid.now }
     ensures { Prints true grid.now (S.sent sink.old) result (S.sent sink.new) }
 {
     if grid.count_columns() <= MANY_CURSORS {
@@ -66,16 +64,13 @@ fn print_in_memory<'a, R: PeekableRecords, D: Dimension, S: TextSink>(
     print_with_cursors(sink, grid, &mut cursors)
 }
 
-/// Prints a table with a row and a column. Missing sizes are estimated.
 fn print_filled_in<R: PeekableRecords, S: TextSink>(
     sink: &mut S,
     records: &R,
     config: &SpannedConfig,
     mut sizes: CompleteDimension,
 ) -> Result<(), TableError>
-    requires filled { is_empty (R.cells records.now) ≡ false }
-    requires sized { IsSized (effective (R.cells records.now) config.now sizes) }
-    requires holds { Holds (effective (R.cells records.now) config.now sizes) }
+    requires { IsChecked (effective (R.cells records.now) config.now sizes) }
     ensures { Prints true (effective (R.cells records.now) config.now sizes)
         (S.sent sink.old) result (S.sent sink.new) }
 {

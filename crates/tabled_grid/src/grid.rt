@@ -24,9 +24,7 @@ use tabled_size::Dimension;
 /// `Sheet`.
 #[derive(Drop)]
 pub(crate) struct Grid<'a, R: PeekableRecords, D: Dimension> {
-    /// The cells.
     pub records: &'a R,
-    /// The borders, margins and styles.
     pub config: &'a SpannedConfig,
     /// The width of each column and the height of each row, padding included.
     pub dimension: &'a D,
@@ -45,19 +43,22 @@ pub(crate) struct Grid<'a, R: PeekableRecords, D: Dimension> {
 impl<'a, R: PeekableRecords, D: Dimension> Model for Grid<'a, R, D> {
     ghost Value = { Sheet };
 
-    ghost view = { λ g. sheet_by (R.cells g.records.now) g.config.now (D.width_at g.dimension.now) (D.height_at g.dimension.now) };
+    ghost view = { λ g. sheet_by (R.cells g.records.now) g.config.now (D.width_at g.dimension.now)
+        (D.height_at g.dimension.now) };
 
     ghost invariant = { λ g. (g.around ≡ frame g.config.now)
         × (g.separator.bar ≡ (frame g.config.now).inner)
-        × IfSome g.uniform (λ uniform. (row column : ℕ) → IsUniform (style_at g.config.now row column) uniform)
-        × IfSome g.by_column (AreStyles g.config.now (slice_index (reached (D.width_at g.dimension.now) (columns (R.cells g.records.now))))
-        (columns (R.cells g.records.now)))
+        × IfSome g.uniform (λ uniform. (row column : ℕ)
+        → IsUniform (style_at g.config.now row column) uniform)
+        × IfSome g.by_column (let count = columns (R.cells g.records.now) in
+        AreStyles g.config.now (slice_index (reached (D.width_at g.dimension.now) count)) count)
         × (g.between ≡ if_any (inner_line g.config.now.borders)) };
 }
 
 /// Returns the placement that all texts share, if nothing was set for a part of the table.
 fn uniform_of_table(config: &SpannedConfig) -> Option<UniformPlacement>
-    ensures { IfSome result (λ uniform. (row column : ℕ) → IsUniform (style_at config.now row column) uniform) }
+    ensures { IfSome result (λ uniform. (row column : ℕ)
+        → IsUniform (style_at config.now row column) uniform) }
 {
     let style = config.shared_style()?;
     UniformPlacement::new(&style)
@@ -71,7 +72,8 @@ impl<'a, R: PeekableRecords, D: Dimension> Grid<'a, R, D> {
         dimension: &'a D,
         memory: Option<Global>,
     ) -> Grid<'a, R, D>
-        ensures { result ≡ sheet_by (R.cells records.now) config.now (D.width_at dimension.now) (D.height_at dimension.now) }
+        ensures { result ≡ sheet_by (R.cells records.now) config.now (D.width_at dimension.now)
+            (D.height_at dimension.now) }
     {
         let around = config.frame();
         let between = config.borders.line_at(2, 1);
@@ -95,7 +97,6 @@ impl<'a, R: PeekableRecords, D: Dimension> Grid<'a, R, D> {
         }
     }
 
-    /// Returns the vertical lines and the margin.
     pub fn frame(&self) -> &Frame
         ensures { result.now ≡ frame self.now.config }
     {
@@ -107,7 +108,8 @@ impl<'a, R: PeekableRecords, D: Dimension> Grid<'a, R, D> {
     /// cells.
     #[inline(always)]
     pub fn uniform(&self, row: usize) -> Option<UniformPlacement>
-        ensures { IfSome result (λ uniform. (column : ℕ) → IsUniform (style_at self.now.config row column) uniform) }
+        ensures { IfSome result (λ uniform. (column : ℕ)
+            → IsUniform (style_at self.now.config row column) uniform) }
     {
         if let Some(uniform) = self.uniform {
             return Some(uniform);
@@ -116,7 +118,6 @@ impl<'a, R: PeekableRecords, D: Dimension> Grid<'a, R, D> {
         UniformPlacement::of(padding, horizontal)
     }
 
-    /// Returns the styles of a row's cells.
     pub fn styles(&self, row: usize) -> RowStyles<'_>
         ensures { (column : ℕ) → column < columns self.now.cells
             → style_in result column ≡ style_at self.now.config row column }
@@ -131,19 +132,18 @@ impl<'a, R: PeekableRecords, D: Dimension> Grid<'a, R, D> {
 
     /// Returns the placement and offset of each cell of a row of one line, if they are cached.
     pub fn placements(&self, row: usize) -> Option<&[CellPlacement]>
-        ensures { IfSome result (λ placements. ArePlacements (style_at self.now.config row) (columns_of self.now) placements.now) }
+        ensures { IfSome result (λ placements. ArePlacements (style_at self.now.config row)
+            (columns_of self.now) placements.now) }
     {
         self.by_column.as_ref()?.placements_in_row(self.config, row)
     }
 
-    /// Returns the number of rows.
     pub fn count_rows(&self) -> usize
         ensures { result ≡ length self.now.cells }
     {
         self.records.count_rows()
     }
 
-    /// Returns the number of columns.
     pub fn count_columns(&self) -> usize
         ensures { result ≡ columns self.now.cells }
     {
@@ -158,7 +158,6 @@ impl<'a, R: PeekableRecords, D: Dimension> Grid<'a, R, D> {
         self.config.rule_at(self.records.count_rows(), index)
     }
 
-    /// Returns the horizontal line above a row or below the last one, if there is one.
     #[inline(always)]
     #[tactic(auto, unfolding(tabled_config::specs::Settings::rule_at))]
     pub fn rule_at(&self, index: usize) -> Option<HorizontalLine>
@@ -173,7 +172,6 @@ impl<'a, R: PeekableRecords, D: Dimension> Grid<'a, R, D> {
         }
     }
 
-    /// Returns the width of a column, which must be there.
     pub fn width(&self, column: usize) -> usize
         requires { column < length self.now.widths }
         ensures { result ≡ slice_index self.now.widths column }

@@ -9,28 +9,24 @@
 //! - `effective.rt`: prints records with stored sizes or estimates.
 //! - `picture.rt`: writes all lines of a table.
 //! - `parts.rt`: the columns and rows of a grid, as `tabled_line` reads them.
-//! - `column_styles.rt`, `column_placements.rt`, `inline_placements.rt`: what is looked up once for
-//!   rows with the same settings.
-//! - `plain.rt`, `apart.rt`: whether the settings make all lines equally wide, for plain cells and
-//!   for any cells.
+//! - `column_styles.rt`, `column_placements.rt`: what is looked up once for rows with the same
+//!   settings.
+//! - `plain.rt`: whether the settings make all lines equally wide, for plain cells or for any cells.
 //! - `laws.rt`: facts about pictures.
 #![tactic(auto)]
 
-mod apart;
 mod checks;
 mod column_placements;
 mod column_styles;
 mod effective;
 mod grid;
-mod inline_placements;
 pub mod laws;
 mod parts;
 mod picture;
 mod plain;
 mod print;
 
-pub use apart::is_apart_config;
 pub use effective::{print_estimated, print_standing};
-pub use plain::{is_plain_config, is_plain_records};
+pub use plain::{is_apart_config, is_plain_config, is_plain_records};
 pub use print::print_grid;
 pub use tabled_line::{IoSink, TextSink};

@@ -22,7 +22,6 @@ struct Picture<'a, R: PeekableRecords, D: Dimension> {
 }
 
 impl<'a, R: PeekableRecords, D: Dimension> Picture<'a, R, D> {
-    /// Writes the horizontal line at an index, if there is one.
     #[inline(always)]
     #[tactic(auto, unfolding(crate::specs::Picture::rule))]
     fn write_rule<S: TextSink>(&mut self, sink: &mut S, index: usize) -> Result<(), TableError>
@@ -34,7 +33,6 @@ impl<'a, R: PeekableRecords, D: Dimension> Picture<'a, R, D> {
         self.lines.write_rule(sink, rule)
     }
 
-    /// Writes all rows, each after the horizontal line above it.
     fn write_rows<S: TextSink>(
         &mut self,
         sink: &mut S,

@@ -1,17 +1,18 @@
-//! Whether the settings of a table are additive and its cells plain, so that all lines are equally
-//! wide.
+//! Whether the settings of a table make all lines equally wide, for plain cells or for any cells.
 ghost use Rattle.std.specs.Prelude.{◌≡◌, ◌↔◌, ◌<◌, ◌≤◌, ℕ, IsTrue, Some, [], length, slice_index_or};
 ghost use Rattle.std.specs.List.{All};
-ghost use Rattle.tabled_text.specs.Plain.{IsPlain};
-ghost use Rattle.tabled_config.specs.Settings.{rule_at, style_at};
+ghost use Rattle.tabled_text.specs.Plain.{IsAdditiveColumn, IsPlain};
+ghost use Rattle.tabled_config.specs.Settings.{frame, rule_at, style_at};
 ghost use Rattle.tabled_config.specs.declared.borders.HorizontalLine.{HorizontalLine};
 ghost use Rattle.tabled_size.specs.PlainCells.{ArePlain};
+ghost use Rattle.tabled_line.specs.Apart.{AreApartCells, ArePaddedLeft, HasGaps, HasSteadyBars, IsApartFrame, IsApartStyle};
 ghost use Rattle.tabled_line.specs.Plain.{IsPlainFrame, IsPlainRule, IsPlainStyle};
+ghost use Rattle.tabled_grid.specs.ApartSheet.{IsApartConfig};
 ghost use Rattle.tabled_grid.specs.PlainSheet.{IsPlainConfig};
 
 use tabled_base::{PeekableRecords, Position};
-use tabled_config::{CellStyle, Frame, HorizontalLine, SpannedConfig};
-use tabled_text::{is_additive_column, is_plain};
+use tabled_config::{Frame, HorizontalLine, SpannedConfig};
+use tabled_text::{is_additive_column, is_plain, is_separator_column};
 
 fn is_plain_rule(line: HorizontalLine) -> bool
     ensures { IsTrue result ↔ IsPlainRule line }
@@ -22,28 +23,16 @@ fn is_plain_rule(line: HorizontalLine) -> bool
         && is_additive_column(line.right.unwrap_or(' '))
 }
 
-fn is_plain_style(style: CellStyle) -> bool
-    ensures { IsTrue result ↔ IsPlainStyle style }
-{
-    is_additive_column(style.padding.left.fill)
-        && is_additive_column(style.padding.right.fill)
-        && is_additive_column(style.padding.top.fill)
-        && is_additive_column(style.padding.bottom.fill)
-}
-
-/// Whether the horizontal line at an index is additive, if there is one.
 fn is_plain_rule_at(config: &SpannedConfig, rows: usize, index: usize) -> bool
     ensures { IsTrue result ↔ ((line : HorizontalLine) → rule_at config.now rows index ≡ Some line
         → IsPlainRule line) }
 {
-    match config.rule_at(rows, index) {
-        Some(line) => is_plain_rule(line),
-        None => true,
-    }
+    config
+        .rule_at(rows, index)
+        .is_none_or(|line| is_plain_rule(line))
 }
 
-/// Whether all horizontal lines are additive.
-pub(crate) fn are_plain_rules(config: &SpannedConfig, rows: usize) -> bool
+fn are_plain_rules(config: &SpannedConfig, rows: usize) -> bool
     ensures { IsTrue result ↔ ((i : ℕ) → i ≤ rows → (line : HorizontalLine)
         → rule_at config.now rows i ≡ Some line → IsPlainRule line) }
 {
@@ -55,17 +44,21 @@ pub(crate) fn are_plain_rules(config: &SpannedConfig, rows: usize) -> bool
     is_plain_rule_at(config, rows, rows)
 }
 
-/// Whether the padding of each cell of a row is additive.
+fn is_plain_style_at(config: &SpannedConfig, row: usize, column: usize) -> bool
+    ensures { IsTrue result ↔ IsPlainStyle (style_at config.now row column) }
+{
+    let padding = config.style_at(row, column).padding;
+    is_additive_column(padding.left.fill)
+        && is_additive_column(padding.right.fill)
+        && is_additive_column(padding.top.fill)
+        && is_additive_column(padding.bottom.fill)
+}
+
 fn are_plain_styles_in(config: &SpannedConfig, row: usize, columns: usize) -> bool
     ensures { IsTrue result ↔ ((column : ℕ) → column < columns
         → IsPlainStyle (style_at config.now row column)) }
 {
-    'columns: for column in 0..columns {
-        if !is_plain_style(config.style_at(row, column)) {
-            return false;
-        }
-    }
-    true
+    (0..columns).all(|column| is_plain_style_at(config, row, column))
 }
 
 fn are_plain_styles(config: &SpannedConfig, rows: usize, columns: usize) -> bool
@@ -80,7 +73,6 @@ fn are_plain_styles(config: &SpannedConfig, rows: usize, columns: usize) -> bool
     true
 }
 
-/// Whether vertical lines and margins are additive.
 fn is_plain_frame(frame: Frame) -> bool
     ensures { IsTrue result ↔ IsPlainFrame frame }
 {
@@ -93,16 +85,6 @@ fn is_plain_frame(frame: Frame) -> bool
         && is_additive_column(frame.margin.bottom.fill)
 }
 
-/// Whether all horizontal lines and paddings are additive.
-fn are_plain_places(config: &SpannedConfig, rows: usize, columns: usize) -> bool
-    ensures { IsTrue result ↔ (((i : ℕ) → i ≤ rows → (line : HorizontalLine)
-        → rule_at config.now rows i ≡ Some line → IsPlainRule line)
-        × ((row column : ℕ) → row < rows → column < columns
-        → IsPlainStyle (style_at config.now row column))) }
-{
-    are_plain_rules(config, rows) && are_plain_styles(config, rows, columns)
-}
-
 /// Whether the borders, fills and margins of a table with `rows` and `columns` are additive
 /// characters of one column: plain ones or separators.
 ///
@@ -111,10 +93,11 @@ fn are_plain_places(config: &SpannedConfig, rows: usize, columns: usize) -> bool
 pub fn is_plain_config(config: &SpannedConfig, rows: usize, columns: usize) -> bool
     ensures { IsTrue result ↔ IsPlainConfig config.now rows columns }
 {
-    is_plain_frame(config.frame()) && are_plain_places(config, rows, columns)
+    is_plain_frame(config.frame())
+        && are_plain_rules(config, rows)
+        && are_plain_styles(config, rows, columns)
 }
 
-/// Whether the cells of a row are plain.
 fn is_plain_row<R: PeekableRecords>(records: &R, row: usize) -> bool
     requires { row < length (R.cells records.now) }
     ensures { IsTrue result ↔ All IsPlain (slice_index_or (R.cells records.now) row []) }
@@ -137,4 +120,107 @@ pub fn is_plain_records<R: PeekableRecords>(records: &R) -> bool
         }
     }
     true
+}
+
+fn is_apart_style_at(config: &SpannedConfig, row: usize, column: usize) -> bool
+    ensures { IsTrue result ↔ IsApartStyle (style_at config.now row column) }
+{
+    let padding = config.style_at(row, column).padding;
+    is_separator_column(padding.left.fill)
+        && is_separator_column(padding.right.fill)
+        && is_separator_column(padding.top.fill)
+        && is_separator_column(padding.bottom.fill)
+}
+
+fn is_positive(size: usize) -> bool
+    ensures { IsTrue result ↔ 0 < size }
+{
+    size > 0
+}
+
+fn has_left_padding(config: &SpannedConfig, row: usize, columns: usize) -> bool
+    ensures { IsTrue result ↔ ArePaddedLeft columns (style_at config.now row) }
+{
+    (0..columns).all(|column| is_positive(config.style_at(row, column).padding.left.size))
+}
+
+fn has_right_padding(config: &SpannedConfig, row: usize, columns: usize) -> bool
+    ensures { IsTrue result ↔ ((column : ℕ) → column < columns
+        → 0 < (style_at config.now row column).padding.right.size) }
+{
+    (0..columns).all(|column| is_positive(config.style_at(row, column).padding.right.size))
+}
+
+/// Whether no cell of a row can join with the vertical line before it: the line is a separator, or
+/// left padding follows it.
+fn has_steady_bars(config: &SpannedConfig, row: usize, columns: usize) -> bool
+    ensures { IsTrue result ↔ HasSteadyBars (frame config.now) columns (style_at config.now row) }
+{
+    let frame = config.frame();
+    (is_separator_column(frame.left.main) && is_separator_column(frame.inner.main))
+        || has_left_padding(config, row, columns)
+}
+
+/// Whether there is a vertical line or padding between each two cells of a row.
+fn has_gaps(config: &SpannedConfig, row: usize, columns: usize) -> bool
+    ensures { IsTrue result ↔ HasGaps (frame config.now) columns (style_at config.now row) }
+{
+    config.frame().inner.there
+        || has_left_padding(config, row, columns)
+        || has_right_padding(config, row, columns)
+}
+
+fn are_apart_styles_in(config: &SpannedConfig, row: usize, columns: usize) -> bool
+    ensures { IsTrue result ↔ ((column : ℕ) → column < columns
+        → IsApartStyle (style_at config.now row column)) }
+{
+    (0..columns).all(|column| is_apart_style_at(config, row, column))
+}
+
+fn are_apart_cells(config: &SpannedConfig, row: usize, columns: usize) -> bool
+    ensures { IsTrue result ↔ AreApartCells (frame config.now) columns (style_at config.now row) }
+{
+    are_apart_styles_in(config, row, columns)
+        && has_steady_bars(config, row, columns)
+        && has_gaps(config, row, columns)
+}
+
+fn are_apart_rows(config: &SpannedConfig, rows: usize, columns: usize) -> bool
+    ensures { IsTrue result ↔ ((row : ℕ) → row < rows
+        → AreApartCells (frame config.now) columns (style_at config.now row)) }
+{
+    (0..rows).all(|row| are_apart_cells(config, row, columns))
+}
+
+/// Whether vertical lines are additive, side margins are separators, and top and bottom margins are
+/// additive.
+fn is_apart_around(frame: Frame) -> bool
+    ensures { IsTrue result ↔ (IsApartFrame frame × IsAdditiveColumn frame.margin.top.fill
+        × IsAdditiveColumn frame.margin.bottom.fill) }
+{
+    is_additive_column(frame.inner.main)
+        && is_additive_column(frame.left.main)
+        && is_additive_column(frame.right.main)
+        && is_separator_column(frame.margin.left.fill)
+        && is_separator_column(frame.margin.right.fill)
+        && is_additive_column(frame.margin.top.fill)
+        && is_additive_column(frame.margin.bottom.fill)
+}
+
+/// Whether the settings of a table with `rows` and `columns` separate its cells: no text can join
+/// with what is beside it. Then all lines are equally wide, whatever the cells contain.
+///
+/// All of these must hold, also for characters that aren't drawn:
+/// - Padding and side margins are separators (`is_separator_column`).
+/// - Vertical lines are separators too, or other additive characters, such as `#`, with left
+///   padding in each cell.
+/// - Between each two cells of a row there is a vertical line or padding.
+/// - Horizontal lines and the lines of margins are additive characters of one column
+///   (`is_additive_column`).
+pub fn is_apart_config(config: &SpannedConfig, rows: usize, columns: usize) -> bool
+    ensures { IsTrue result ↔ IsApartConfig config.now rows columns }
+{
+    is_apart_around(config.frame())
+        && are_plain_rules(config, rows)
+        && are_apart_rows(config, rows, columns)
 }

@@ -1,9 +1,7 @@
 //! Checks the sizes of a table and then prints it.
-ghost use Rattle.std.specs.Prelude.{◌≡◌, false};
-ghost use Rattle.tabled_size.specs.Sheet.{is_empty};
+ghost use Rattle.std.specs.Prelude.{false};
 ghost use Rattle.tabled_grid.specs.Grid.{sheet_by};
-ghost use Rattle.tabled_size.specs.Holds.{Holds, IsSized};
-ghost use Rattle.tabled_grid.specs.Printed.{Prints};
+ghost use Rattle.tabled_grid.specs.Printed.{IsChecked, Prints};
 ghost use Rattle.tabled_line.specs.Sent.{Sent};
 
 use crate::checks::{check_narrow, check_sizes, check_totals};
@@ -22,13 +20,11 @@ pub(crate) fn print_with_cursors<'a, R: PeekableRecords, D: Dimension, S: TextSi
     grid: &'a Grid<'a, R, D>,
     cursors: &mut [Cursor<'a>],
 ) -> Result<(), TableError>
-    requires filled { is_empty grid.now.cells ≡ false }
-    requires sized { IsSized grid.now }
-    requires holds { Holds grid.now }
+    requires { IsChecked grid.now }
     ensures { Prints false grid.now (S.sent sink.old) result (S.sent sink.new) }
 {
-    let whole = check_totals(grid)?;
-    write_picture(sink, grid, cursors, whole)
+    let total_width = check_totals(grid)?;
+    write_picture(sink, grid, cursors, total_width)
 }
 
 /// Prints with cursors for many columns. They take 24 KiB of stack, which other calls don't need,
@@ -38,9 +34,7 @@ fn print_with_many_cursors<'a, R: PeekableRecords, D: Dimension, S: TextSink>(
     sink: &mut S,
     grid: &'a Grid<'a, R, D>,
 ) -> Result<(), TableError>
-    requires filled { is_empty grid.now.cells ≡ false }
-    requires sized { IsSized grid.now }
-    requires holds { Holds grid.now }
+    requires { IsChecked grid.now }
     ensures { Prints false grid.now (S.sent sink.old) result (S.sent sink.new) }
 {
     print_with_cursors(sink, grid, &mut [Cursor::nowhere(); MANY_CURSORS])
@@ -52,9 +46,7 @@ pub(crate) fn print_checked<'a, R: PeekableRecords, D: Dimension, S: TextSink>(
     sink: &mut S,
     grid: &'a Grid<'a, R, D>,
 ) -> Result<(), TableError>
-    requires filled { is_empty grid.now.cells ≡ false }
-    requires sized { IsSized grid.now }
-    requires holds { Holds grid.now }
+    requires { IsChecked grid.now }
     ensures { Prints false grid.now (S.sent sink.old) result (S.sent sink.new) }
 {
     if grid.count_columns() > FEW_CURSORS {

@@ -29,11 +29,11 @@ fits_placement-requires-clause-placement g c =
 pub fits_placement-requires-clause-placeable : goal.fits_placement-requires-clause-placeable
 fits_placement-requires-clause-placeable g c = c.requires.placements.placeable c.columns.column (omega (arith, placements-count c.requires.placements, c.columns-test.true))
 
-pub returns-clause-none : goal.returns-clause-none
-returns-clause-none g c = λ k within. c.columns.invariant k (omega (arith, placements-count c.requires.placements, within, c.columns-test.false))
+pub returns : goal.returns
+returns g c = λ k within. c.columns.invariant k (omega (arith, placements-count c.requires.placements, within, c.columns-test.false))
 
-pub returns-then-not-fits_placement-clause-some : goal.returns-then-not-fits_placement-clause-some
-returns-then-not-fits_placement-clause-some g c =
+pub returns-then-not-fits_placement : goal.returns-then-not-fits_placement
+returns-then-not-fits_placement g c =
     record {
       column_in = omega (arith, placements-count c.requires.placements, c.columns-test.true);
       narrow = search rules;

@@ -1,7 +1,6 @@
 use Rattle.std.proofs.Common.{subst, sym, true, ◌∙◌}
-use Rattle.tabled_size.specs.Holds.{Holds, IsSized}
 use Rattle.tabled_size.specs.Sheet.{Sheet, estimated}
-use Rattle.tabled_grid.specs.Printed.{Prints}
+use Rattle.tabled_grid.specs.Printed.{IsChecked, Prints}
 use Rattle.tabled_grid.proofs.EstimatedSizes.{holds_estimated, sized_estimated}
 use Rattle.tabled_grid.proofs.Printing.{only_estimated, prints_nothing}
 use Rattle.tabled_grid.proofs.EffectiveSizes.{effective_estimated}
@@ -11,15 +10,15 @@ pub returns-then-is_empty-clause-printed : goal.returns-then-is_empty-clause-pri
 returns-then-is_empty-clause-printed g c =
     prints_nothing (estimated (g.R.ExactRecords.cells c.args.records.now) c.args.config.now) _ (sym c.is_empty.ensures.value ∙ c.if-is_empty.true)
 
-pub print_filled_in-requires-clause-sized : goal.print_filled_in-requires-clause-sized
-print_filled_in-requires-clause-sized g c =
+pub print_filled_in-requires : goal.print_filled_in-requires
+print_filled_in-requires g c =
     let cells = g.R.ExactRecords.cells c.args.records.now in
-    subst IsSized (sym (effective_estimated cells c.args.config.now c.new.result c.new.ensures.widths c.new.ensures.heights)) (sized_estimated cells c.args.config.now)
-
-pub print_filled_in-requires-clause-holds : goal.print_filled_in-requires-clause-holds
-print_filled_in-requires-clause-holds g c =
-    let cells = g.R.ExactRecords.cells c.args.records.now in
-    subst Holds (sym (effective_estimated cells c.args.config.now c.new.result c.new.ensures.widths c.new.ensures.heights)) (holds_estimated cells c.args.config.now)
+    subst IsChecked (sym (effective_estimated cells c.args.config.now c.new.result c.new.ensures.widths c.new.ensures.heights))
+    (record {
+      filled = sym c.is_empty.ensures.value ∙ c.if-is_empty.false;
+      sized = sized_estimated cells c.args.config.now;
+      holds = holds_estimated cells c.args.config.now;
+    })
 
 pub returns-clause-printed : goal.returns-clause-printed
 returns-clause-printed g c =

@@ -1,7 +1,6 @@
 use Rattle.std.proofs.Common.{◌∙◌, true, refl, subst, sym}
 use Rattle.tabled_size.specs.Sheet.{Sheet}
-use Rattle.tabled_size.specs.Holds.{Holds, IsSized}
-use Rattle.tabled_grid.specs.Printed.{Prints}
+use Rattle.tabled_grid.specs.Printed.{IsChecked, Prints}
 use Rattle.tabled_grid.proofs.EffectiveSizes.{answered_filled, refused_unestimated}
 use Rattle.tabled_grid.proofs.effective.print_filled_in.Goals as goal
 
@@ -11,19 +10,13 @@ returns-in_err-estimate g c =
     refl refl c.requires.filled c.requires.sized c.requires.holds
     c.in_err-estimate.ensures.only c.from_residual.ensures.1
 
-pub print_in_memory-requires-clause-sized : goal.print_in_memory-requires-clause-sized
-print_in_memory-requires-clause-sized g c =
-    subst IsSized
-    (sym (c.new-grid.ensures ∙ answered_filled (g.R.ExactRecords.cells c.args.records.now) c.args.config.now c.args.sizes c.args.sizes c.estimate.new.self
+pub print_in_memory-requires : goal.print_in_memory-requires
+print_in_memory-requires g c =
+    subst IsChecked
+    (sym (c.new-grid.ensures
+    ∙ answered_filled (g.R.ExactRecords.cells c.args.records.now) c.args.config.now c.args.sizes c.args.sizes c.estimate.new.self
     refl refl c.in_ok-estimate.ensures.ok))
-    c.requires.sized
-
-pub print_in_memory-requires-clause-holds : goal.print_in_memory-requires-clause-holds
-print_in_memory-requires-clause-holds g c =
-    subst Holds
-    (sym (c.new-grid.ensures ∙ answered_filled (g.R.ExactRecords.cells c.args.records.now) c.args.config.now c.args.sizes c.args.sizes c.estimate.new.self
-    refl refl c.in_ok-estimate.ensures.ok))
-    c.requires.holds
+    c.requires
 
 pub returns : goal.returns
 returns g c =

@@ -1,8 +1,7 @@
 use Rattle.std.proofs.Common.{◌∙◌, Bool, ap, false, inl, not, subst, sym, true}
-use Rattle.tabled_size.specs.Holds.{Holds, IsSized}
 use Rattle.tabled_size.specs.Sheet.{Sheet}
 use Rattle.tabled_size.specs.Effective.{effective}
-use Rattle.tabled_grid.specs.Printed.{Prints}
+use Rattle.tabled_grid.specs.Printed.{IsChecked, Prints}
 use Rattle.tabled_grid.proofs.Printing.{prints_nothing, refused_so}
 use Rattle.tabled_grid.proofs.EffectiveSizes.{answered_complete, same_effective}
 use Rattle.tabled_grid.proofs.effective.print_standing.Goals as goal
@@ -27,17 +26,16 @@ returns-in_err-copy g c =
     subst Q (ap not (sym (sym c.is_complete.ensures ∙ c.if-is_complete.false)))
     (refused_so t _ _ _ (sym c.is_empty.ensures.value ∙ c.if-is_empty.false) (inl c.in_err-copy.ensures.only) c.from_residual-in_err-copy.ensures.1)
 
-pub print_filled_in-requires-clause-sized : goal.print_filled_in-requires-clause-sized
-print_filled_in-requires-clause-sized g c =
-    subst IsSized
-    (sym (same_effective (g.R.ExactRecords.cells c.args.records.now) c.args.config.now c.args.stored.now c.in_ok-copy.copy c.in_ok-copy.ensures.widths c.in_ok-copy.ensures.heights))
-    c.in_ok-check_stored.ensures.sized
-
-pub print_filled_in-requires-clause-holds : goal.print_filled_in-requires-clause-holds
-print_filled_in-requires-clause-holds g c =
-    subst Holds
-    (sym (same_effective (g.R.ExactRecords.cells c.args.records.now) c.args.config.now c.args.stored.now c.in_ok-copy.copy c.in_ok-copy.ensures.widths c.in_ok-copy.ensures.heights))
-    c.in_ok-check_stored.ensures.holds
+pub print_filled_in-requires : goal.print_filled_in-requires
+print_filled_in-requires g c =
+    subst IsChecked
+    (sym (same_effective (g.R.ExactRecords.cells c.args.records.now) c.args.config.now c.args.stored.now c.in_ok-copy.copy
+    c.in_ok-copy.ensures.widths c.in_ok-copy.ensures.heights))
+    (record {
+      filled = sym c.is_empty.ensures.value ∙ c.if-is_empty.false;
+      sized = c.in_ok-check_stored.ensures.0;
+      holds = c.in_ok-check_stored.ensures.1;
+    })
 
 pub returns : goal.returns
 returns g c =

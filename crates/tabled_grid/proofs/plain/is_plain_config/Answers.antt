@@ -1,13 +1,18 @@
+use Rattle.std.proofs.Common.{◌≡◌, true, false, sym, ◌∙◌}
 use Rattle.tabled_grid.proofs.plain.is_plain_config.Goals as goal
+use Rattle.tabled_grid.proofs.plain.is_plain_config.Goals.{then-is_plain_frame, else-is_plain_frame}
 
-pub returns-then-is_plain_frame : goal.returns-then-is_plain_frame
-returns-then-is_plain_frame c =
-    let around = rw c.frame.ensures at (c.is_plain_frame.ensures.0 c.if-is_plain_frame.true) in (
-      λ e. let places = c.are_plain_places.ensures.0 e in
-          record {
-            frame = around;
-            rules = places.0;
-            styles = places.1;
-          },
-      λ plain. c.are_plain_places.ensures.1 (plain.rules, plain.styles),
-    )
+pub returns-then-are_plain_rules : goal.returns-then-are_plain_rules
+returns-then-are_plain_rules c =
+    elim c.if-is_plain_frame.branch [
+      | then-is_plain_frame w ↦ (
+        λ e. record {
+          frame = rw c.frame.ensures at (c.is_plain_frame.ensures.0 w.if-is_plain_frame.true);
+          rules = w.are_plain_rules.ensures.0 (sym w.value-is ∙ c.if-are_plain_rules.true);
+          styles = c.are_plain_styles.ensures.0 e;
+        },
+        λ plain. c.are_plain_styles.ensures.1 plain.styles,
+      )
+      | else-is_plain_frame w ↦ absurd
+          (let clash : false ≡ true = sym w.if-is_plain_frame.false ∙ (sym w.value-is ∙ c.if-are_plain_rules.true) in cc)
+    ]

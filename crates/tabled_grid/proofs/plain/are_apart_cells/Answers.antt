@@ -1,6 +1,6 @@
 use Rattle.std.proofs.Common.{◌≡◌, true, false, sym, ◌∙◌}
-use Rattle.tabled_grid.proofs.apart.are_apart_cells.Goals as goal
-use Rattle.tabled_grid.proofs.apart.are_apart_cells.Goals.{then-are_apart_styles_in, else-are_apart_styles_in}
+use Rattle.tabled_grid.proofs.plain.are_apart_cells.Goals as goal
+use Rattle.tabled_grid.proofs.plain.are_apart_cells.Goals.{then-are_apart_styles_in, else-are_apart_styles_in}
 
 pub returns-then-has_steady_bars : goal.returns-then-has_steady_bars
 returns-then-has_steady_bars c =

@@ -1,0 +1,14 @@
+use Rattle.std.proofs.Common.{ℕ, arith, refl, rules}
+use borrow.Author.Tests.{tests}
+use Rattle.std.proofs.lemmas.Iterator.{YieldsList-from_range, cases_from_all}
+use Rattle.tabled_config.specs.Settings.{style_at}
+use Rattle.tabled_line.specs.Apart.{IsApartStyle}
+use Rattle.tabled_grid.proofs.PlainTests.{below_each}
+use Rattle.tabled_grid.proofs.plain.are_apart_styles_in.Goals as goal
+
+pub returns : goal.returns
+returns c =
+    let P : ℕ → Type 0 = λ k. IsApartStyle (style_at c.args.config.now c.args.row k) in
+    below_each P _ c.args.columns
+    (cases_from_all _ _ _ P (λ k. P k → ⊥) c.all.ensures.ran (YieldsList-from_range 0 c.args.columns c.args.columns refl (omega arith))
+    (λ x q k. search (rules, tests)) (λ x q k. search (rules, tests)))
