@@ -1,16 +1,16 @@
 -- How sizes shrink in an order that is chosen at run time.
-use Rattle.std.specs.Prelude.{◌≡◌, ℕ, List, false, true, Option, MatchOption, length}
-use Rattle.tabled_priority.specs.Peak.{IsGreatest, IsLeast, IsNext, IsOutermost, NoneAbove}
-use Rattle.tabled_priority.specs.Shrunk.{IsMaxShrunk, IsMinShrunk, IsRoundShrunk, IsSideShrunk, place_after}
+use Rattle.std.specs.Prelude.{◌≡◌, ℕ, List, true, Option, MatchOption, length}
+use Rattle.tabled_priority.specs.Peak.{IsGreatest, IsLeast, IsLeftmost, IsNext, IsRightmost, NoneAbove}
+use Rattle.tabled_priority.specs.Shrunk.{IsLeftShrunk, IsMaxShrunk, IsMinShrunk, IsRightShrunk, IsRoundShrunk, place_after}
 use Rattle.tabled.specs.declared.order_priority.OrderPriority.{OrderPriority}
 use Rattle.tabled.specs.declared.plan.Order.{Order}
 use Rattle.tabled.specs.declared.plan.Order.TheVariants.{Round, Least, Greatest, Leftmost, Rightmost}
-use Rattle.std.proofs.Common.{◌∙◌, ◌+◌, None, Some, refl, subst, sym}
+use Rattle.std.proofs.Common.{◌∙◌, ◌+◌, ℕ, List, None, Some, refl, subst, sym, true}
 use Rattle.tabled_priority.specs.Permitted.{IsTakenFrom, lowered}
-use Rattle.tabled_priority.specs.Laws.Permitted.{taken-none, taken-nothing}
 use Rattle.tabled_priority.specs.Laws.Round.{IsRoundShrunk-done, IsRoundShrunk-none, IsRoundShrunk-step}
-use Rattle.tabled_priority.specs.Laws.Shrunk.{IsMaxShrunk-step, IsMaxShrunk-still, IsMinShrunk-step}
-use Rattle.tabled_priority.specs.Laws.Shrunk.{IsMinShrunk-still, IsSideShrunk-step, IsSideShrunk-still}
+use Rattle.tabled_priority.specs.Laws.Shrunk.{IsLeftShrunk-done, IsLeftShrunk-none, IsLeftShrunk-step, IsMaxShrunk-done, IsMaxShrunk-none}
+use Rattle.tabled_priority.specs.Laws.Shrunk.{IsMaxShrunk-step, IsMinShrunk-done, IsMinShrunk-none, IsMinShrunk-step, IsRightShrunk-done}
+use Rattle.tabled_priority.specs.Laws.Shrunk.{IsRightShrunk-none, IsRightShrunk-step}
 
 -- the index that a priority names, and the stored index after that, which only `Round` reads
 abbrev pub IsNamed : Order → ℕ → List ℕ → List ℕ → Option ℕ → ℕ → Type 0
@@ -18,16 +18,16 @@ IsNamed Round kept values mins answer kept' = MatchOption answer (NoneAbove valu
     (λ i. IsNext kept values mins i × (kept' ≡ place_after (length values) i))
 IsNamed Least kept values mins answer kept' = MatchOption answer (NoneAbove values mins) (IsLeast true values mins)
 IsNamed Greatest kept values mins answer kept' = MatchOption answer (NoneAbove values mins) (IsGreatest true values mins)
-IsNamed Leftmost kept values mins answer kept' = MatchOption answer (NoneAbove values mins) (IsOutermost false values mins)
-IsNamed Rightmost kept values mins answer kept' = MatchOption answer (NoneAbove values mins) (IsOutermost true values mins)
+IsNamed Leftmost kept values mins answer kept' = MatchOption answer (NoneAbove values mins) (IsLeftmost values mins)
+IsNamed Rightmost kept values mins answer kept' = MatchOption answer (NoneAbove values mins) (IsRightmost values mins)
 
 -- the new sizes, and the stored index after that
 abbrev pub IsShrunk : Order → ℕ → List ℕ → List ℕ → ℕ → List ℕ → ℕ → Type 0
 IsShrunk Round kept old mins by new kept' = IsRoundShrunk kept old mins by new kept'
 IsShrunk Least kept old mins by new kept' = IsMinShrunk true old mins by new
 IsShrunk Greatest kept old mins by new kept' = IsMaxShrunk true old mins by new
-IsShrunk Leftmost kept old mins by new kept' = IsSideShrunk false old mins by new
-IsShrunk Rightmost kept old mins by new kept' = IsSideShrunk true old mins by new
+IsShrunk Leftmost kept old mins by new kept' = IsLeftShrunk old mins by new
+IsShrunk Rightmost kept old mins by new kept' = IsRightShrunk old mins by new
 
 abbrev pub Names : OrderPriority → List ℕ → List ℕ → Option ℕ → OrderPriority → Type 0
 Names s values mins answer t = IsNamed s.order s.round.kept values mins answer t.round.kept × (t.order ≡ s.order)
@@ -38,21 +38,21 @@ Shrinks s old mins by new t = IsShrunk s.order s.round.kept old mins by new t.ro
 -- ---- laws of `OrderPriority`, from those of the five priorities
 
 none : (o : Order) (kept : ℕ) (xs mins : List ℕ) → IsShrunk o kept xs mins 0 xs kept
-none Round kept xs mins = IsRoundShrunk-none kept xs mins
-none Least kept xs mins = IsMinShrunk-still true xs mins 0 (taken-nothing xs mins)
-none Greatest kept xs mins = IsMaxShrunk-still true xs mins 0 (taken-nothing xs mins)
-none Leftmost kept xs mins = IsSideShrunk-still false xs mins 0 (taken-nothing xs mins)
-none Rightmost kept xs mins = IsSideShrunk-still true xs mins 0 (taken-nothing xs mins)
+none Round = IsRoundShrunk-none
+none Least = λ kept. IsMinShrunk-none true
+none Greatest = λ kept. IsMaxShrunk-none true
+none Leftmost = λ kept. IsLeftShrunk-none
+none Rightmost = λ kept. IsRightShrunk-none
 
 pub Shrinks-none : (s : OrderPriority) (xs mins : List ℕ) → Shrinks s xs mins 0 xs s
 Shrinks-none s xs mins = (none s.order s.round.kept xs mins, refl)
 
 done : (o : Order) (kept kept' : ℕ) (xs mins : List ℕ) (by : ℕ) → IsNamed o kept xs mins None kept' → IsShrunk o kept xs mins by xs kept'
 done Round kept kept' xs mins by h = subst (λ k. IsRoundShrunk kept xs mins by xs k) (sym h.1) (IsRoundShrunk-done kept xs mins by h.0)
-done Least kept kept' xs mins by h = IsMinShrunk-still true xs mins by (taken-none xs mins by h)
-done Greatest kept kept' xs mins by h = IsMaxShrunk-still true xs mins by (taken-none xs mins by h)
-done Leftmost kept kept' xs mins by h = IsSideShrunk-still false xs mins by (taken-none xs mins by h)
-done Rightmost kept kept' xs mins by h = IsSideShrunk-still true xs mins by (taken-none xs mins by h)
+done Least kept kept' xs mins by h = IsMinShrunk-done true xs mins by h
+done Greatest kept kept' xs mins by h = IsMaxShrunk-done true xs mins by h
+done Leftmost kept kept' xs mins by h = IsLeftShrunk-done xs mins by h
+done Rightmost kept kept' xs mins by h = IsRightShrunk-done xs mins by h
 
 pub Shrinks-done : (s t : OrderPriority) (xs mins : List ℕ) (by : ℕ) → Names s xs mins None t → Shrinks s xs mins by xs t
 Shrinks-done s t xs mins by h = (done s.order s.round.kept t.round.kept xs mins by h.0, h.1)
@@ -63,8 +63,8 @@ step Round kept next last xs mins new by i h rest =
     IsRoundShrunk-step kept xs mins i by new last h.0 (subst (λ k. IsRoundShrunk k (lowered xs i) mins by new last) h.1 rest)
 step Least kept next last xs mins new by i h rest = IsMinShrunk-step true xs mins i by new h rest
 step Greatest kept next last xs mins new by i h rest = IsMaxShrunk-step true xs mins i by new h rest
-step Leftmost kept next last xs mins new by i h rest = IsSideShrunk-step false xs mins i by new h rest
-step Rightmost kept next last xs mins new by i h rest = IsSideShrunk-step true xs mins i by new h rest
+step Leftmost kept next last xs mins new by i h rest = IsLeftShrunk-step xs mins i by new h rest
+step Rightmost kept next last xs mins new by i h rest = IsRightShrunk-step xs mins i by new h rest
 
 pub Shrinks-step : (s t u : OrderPriority) (xs mins new : List ℕ) (by i : ℕ) → Names s xs mins (Some i) t → Shrinks t (lowered xs i) mins by new u
     → Shrinks s xs mins (by + 1) new u

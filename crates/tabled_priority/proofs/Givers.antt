@@ -10,8 +10,7 @@ use Rattle.tabled_priority.specs.Shrunk.{comes_before, IsMinShrunk}
 use Rattle.tabled_priority.specs.Spares.{IsLastGiver, given, has_size, is_up_to, spare_if, spare_up_to, spare_where, stands_beside}
 use Rattle.tabled_priority.specs.Sums.{sum_below}
 use Rattle.tabled_priority.specs.Laws.Shrunk.{before-asym, before-irrefl}
-use Rattle.tabled_priority.proofs.Shares.{taken_from}
-use Rattle.tabled_priority.specs.Laws.Sums.{sum_below-same, sum_below-le, sum_below-plus, sum_below-zero, sum_below-less}
+use Rattle.tabled_priority.specs.Laws.Sums.{sum_below-same, sum_below-le, sum_below-plus, sum_below-zero, sum_below-less, sum-below}
 
 -- ---- columns up to a size
 none_at_zero : (v m : ℕ) → (if nat_le v 0 then v - m else 0) ≡ 0
@@ -216,8 +215,20 @@ pub min_shrunk_by : (right : Bool) (old mins : List ℕ) (by : ℕ) (new : List 
 min_shrunk_by right old mins by new place amount g len each =
     let w = taken old mins by in
     record {
-      takes = taken_from (given right old mins place amount) old mins by new len (given-le right old mins w place amount g)
-          (given-total right old mins w place amount g) each;
+      takes = record {
+        permitted = record {
+          same_length = len;
+          least = λ i. let e = each i in let f = given-le right old mins w place amount g i in omega arith;
+          most = λ i. let e = each i in omega arith;
+        };
+        total =
+            let a = given-total right old mins w place amount g in
+            let b = sum_below-plus (at new) (given right old mins place amount) (length old) in
+            let c = sum_below-same (λ i. at new i + given right old mins place amount i) (at old) (length old) (λ i _. each i) in
+            let d = sum-below old in
+            let e = sum-below new ∙ ap (sum_below (at new)) len in
+            omega arith;
+      };
       place = place;
       above = λ _. let s = g.some in let f = g.fits in omega arith;
       before = λ i _ above b. let e = each i in let f = given-before right old mins w place amount g i b in omega arith;

@@ -1,8 +1,8 @@
+pub mod AtOnce
 pub mod BestPlace
 pub mod Between
 pub mod ByLevel
 pub mod Gains
-pub mod Emptying
 pub mod Givers
 pub mod Leveled
 pub mod Optimal
@@ -10,5 +10,5 @@ pub mod Ramps
 pub mod Shares
 pub mod Spans
 pub mod Sums
-pub mod Turns
+pub mod Underway
 pub mod Visiting

@@ -59,32 +59,24 @@ pub share-spare : (from to : ℕ → ℕ) (xs mins : List ℕ) (level first last
     → share from to level first last i ≤ spare xs mins i
 share-spare from to xs mins level first last i h = omega arith
 
--- a list from which each column gave an amount
-pub taken_from : (give : ℕ → ℕ) (old mins : List ℕ) (by : ℕ) (new : List ℕ) → length new ≡ length old
-    → ((i : ℕ) → give i ≤ spare old mins i) → sum_below give (length old) ≡ taken old mins by
-    → ((i : ℕ) → at new i + give i ≡ at old i) → IsTakenFrom old mins by new
-taken_from give old mins by new len fits all each = record {
-  permitted = record {
-    same_length = len;
-    least = λ i. let e = each i in let f = fits i in omega arith;
-    most = λ i. let e = each i in omega arith;
-  };
-  total =
-      let b = sum_below-plus (at new) give (length old) in
-      let c = sum_below-same (λ i. at new i + give i) (at old) (length old) (λ i _. each i) in
-      let d = sum-below old in
-      let e = sum-below new ∙ ap (sum_below (at new)) len in
-      omega arith;
-}
-
 pub taken_by_shares : (from to : ℕ → ℕ) (old mins : List ℕ) (by : ℕ) (new : List ℕ) (level rest first last : ℕ)
     → IsReached from to (length old) (taken old mins by) level rest → IsSpan from to (length old) level rest first last
     → ((i : ℕ) → to i - from i ≤ spare old mins i) → length new ≡ length old
     → ((i : ℕ) → at new i + share from to level first last i ≡ at old i) → IsTakenFrom old mins by new
-taken_by_shares from to old mins by new level rest first last r s fits len each =
-    taken_from (share from to level first last) old mins by new len
-    (λ i. share-spare from to old mins level first last i (fits i))
-    (shares from to (length old) (taken old mins by) level rest first last r s) each
+taken_by_shares from to old mins by new level rest first last r s fits len each = record {
+  permitted = record {
+    same_length = len;
+    least = λ i. let e = each i in let f = share-spare from to old mins level first last i (fits i) in omega arith;
+    most = λ i. let e = each i in omega arith;
+  };
+  total =
+      let a = shares from to (length old) (taken old mins by) level rest first last r s in
+      let b = sum_below-plus (at new) (share from to level first last) (length old) in
+      let c = sum_below-same (λ i. at new i + share from to level first last i) (at old) (length old) (λ i _. each i) in
+      let d = sum-below old in
+      let e = sum-below new ∙ ap (sum_below (at new)) len in
+      omega arith;
+}
 
 -- up to the greatest level columns give all they can
 pub spare_total-total_amount : (from to : ℕ → ℕ) (old mins : List ℕ) (top : ℕ)

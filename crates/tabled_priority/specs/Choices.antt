@@ -1,11 +1,9 @@
 -- The priorities that have no state: they choose an index by the values alone.
-use Rattle.std.specs.Prelude.{◌≡◌, ℕ, List, [], Option, MatchOption, ⊤}
+use Rattle.std.specs.Prelude.{◌≡◌, ℕ, List, [], Option, MatchOption}
 use Rattle.tabled_priority.specs.declared.choice.Choice.{Choice}
 use Rattle.tabled_priority.specs.declared.choice.Choice.TheVariants.{Outermost, Greatest, Least}
 use Rattle.tabled_priority.specs.Grown.{IsGrownAt, IsMinGrown}
-use Rattle.tabled_priority.specs.Least.{HasGreatestLeast, HasLeastGreatest, IsLevel}
 use Rattle.tabled_priority.specs.Peak.{IsGreatest, IsLeast, IsOutermost, NoneAbove}
-use Rattle.tabled_priority.specs.Permitted.{HasOneBetween}
 use Rattle.tabled_priority.specs.Shrunk.{IsMaxShrunk, IsMinShrunk, IsSideShrunk}
 
 -- the value above its minimum that comes first
@@ -25,18 +23,6 @@ abbrev pub IsGrownBy : Choice → List ℕ → ℕ → List ℕ → Type 0
 IsGrownBy (Outermost right) = IsGrownAt (λ values. IsOutermost right values [])
 IsGrownBy (Greatest right) = IsGrownAt (λ values. IsGreatest right values [])
 IsGrownBy (Least right) = IsMinGrown right
-
--- what else holds of the list that shrank
-abbrev pub HasShrunkShape : Choice → List ℕ → List ℕ → List ℕ → Type 0
-HasShrunkShape (Outermost right) = HasOneBetween
-HasShrunkShape (Greatest right) = λ old mins new. IsLevel old mins new × HasLeastGreatest old mins new
-HasShrunkShape (Least right) = HasOneBetween
-
--- what else holds of the list that grew
-abbrev pub HasGrownShape : Choice → List ℕ → List ℕ → Type 0
-HasGrownShape (Outermost right) = λ old new. ⊤
-HasGrownShape (Greatest right) = λ old new. ⊤
-HasGrownShape (Least right) = HasGreatestLeast
 
 -- what `peak`, `shrink` and `grow` do, and that the state stays
 abbrev pub peaks_by : {S : Type 0} → (S → Choice) → S → List ℕ → List ℕ → Option ℕ → S → Type 0

@@ -1,6 +1,6 @@
 -- The indices that the priorities choose: the side or the stored index of a state, the values, the
 -- minimums, the index.
-use Rattle.std.specs.Prelude.{◌≡◌, ◌≢◌, ℕ, ◌-◌, ◌<◌, ◌≤◌, Bool, true, List, length, nat_le, if◌then◌else◌}
+use Rattle.std.specs.Prelude.{◌≡◌, ◌≢◌, ℕ, ◌-◌, ◌<◌, ◌≤◌, Bool, true, false, List, length, nat_le, if◌then◌else◌}
 use Rattle.tabled_priority.specs.Permitted.{at}
 use Rattle.tabled_priority.specs.Shrunk.{IsBefore, comes_before, start, is_met}
 
@@ -16,6 +16,12 @@ place_at right count turn = if right then count - 1 - turn else turn
 pub record IsOutermost (right : Bool) (values mins : List ℕ) (i : ℕ) : Type 0 where
   pub above : at mins i < at values i
   pub first : (j : ℕ) → IsBefore right j i → at values j ≤ at mins j
+
+abbrev pub IsLeftmost : List ℕ → List ℕ → ℕ → Type 0
+IsLeftmost = IsOutermost false
+
+abbrev pub IsRightmost : List ℕ → List ℕ → ℕ → Type 0
+IsRightmost = IsOutermost true
 
 -- the greatest value above its minimum, of equal ones the rightmost or the leftmost
 pub record IsGreatest (right : Bool) (values mins : List ℕ) (i : ℕ) : Type 0 where

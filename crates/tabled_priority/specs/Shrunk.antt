@@ -16,6 +16,12 @@ pub record IsSideShrunk (right : Bool) (old mins : List ℕ) (by : ℕ) (new : L
   pub before : (i : ℕ) → IsBefore right i place → at new i ≡ low old mins i
   pub after : (i : ℕ) → IsBefore right place i → at new i ≡ at old i
 
+abbrev pub IsLeftShrunk : List ℕ → List ℕ → ℕ → List ℕ → Type 0
+IsLeftShrunk = IsSideShrunk false
+
+abbrev pub IsRightShrunk : List ℕ → List ℕ → ℕ → List ℕ → Type 0
+IsRightShrunk = IsSideShrunk true
+
 -- the ceiling at an index: a level, or one more on one side of an index p; before p if `right`, so
 -- that the right gives first, else from p on
 abbrev pub ceiling : Bool → ℕ → ℕ → ℕ → ℕ

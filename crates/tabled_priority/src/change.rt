@@ -11,6 +11,7 @@ ghost use Rattle.tabled_priority.specs.Visits.{IsBounded, counted};
 use crate::column::Steps;
 use crate::schedule::{Ramps, Reached, Schedule, amount_by, reach};
 
+/// Returns the index after this one, and 0 after the last.
 pub(crate) fn place_after(count: usize, place: usize) -> usize
     requires { place < usize.MAX }
     ensures { result ≡ place_after count place }
@@ -28,6 +29,7 @@ struct Span {
 }
 
 impl Span {
+    /// Returns the level at an index.
     fn level_at(&self, place: usize) -> usize
         requires { self.now.level < usize.MAX }
         ensures { result ≡ self.now.level + one_if (is_met self.now.first self.now.last place) }
@@ -79,6 +81,7 @@ fn find_span(ramps: &Ramps, reached: Reached, steps: &mut Steps) -> Span
     }
 }
 
+/// Changes each column by its amount up to the level at its index.
 fn change_to(
     schedule: Schedule,
     mins: &[usize],

@@ -4,7 +4,6 @@ ghost use Rattle.tabled_priority.specs.Peak.{NoneAbove, IsGreatest, IsLeast, IsO
 ghost use Rattle.tabled_priority.specs.Choices.{IsChosen};
 ghost use Rattle.tabled_priority.specs.Grown.{IsGrownAt};
 ghost use Rattle.tabled_priority.specs.Changes.{Grows};
-ghost use Rattle.tabled_priority.specs.Permitted.{IsAbove};
 ghost use Rattle.tabled_priority.specs.Visits.{counted};
 
 use crate::column::{Steps, visit};
@@ -87,10 +86,11 @@ fn least(right: bool, mins: &[usize], values: &[usize], steps: &mut Steps) -> Op
 }
 
 impl Choice {
-    pub(crate) fn chosen(self, mins: &[usize], values: &[usize], steps: &mut Steps) -> Option<usize>
+    /// Returns the index of the size above its minimum that comes first.
+    fn chosen(self, mins: &[usize], values: &[usize], steps: &mut Steps) -> Option<usize>
         ensures answer { MatchOption result (NoneAbove values.now mins.now)
             (IsChosen self values.now mins.now) }
-        ensures above { IfSome result (IsAbove values.now mins.now) }
+        ensures inside { IfSome result (λ i. i < length values.now) }
         ensures fewest { steps.old.count ≤ steps.new.count }
         ensures most { steps.new.count ≤ counted steps.old.count (length values.now) }
     {
@@ -99,6 +99,14 @@ impl Choice {
             Choice::Greatest(right) => greatest(right, mins, values, steps),
             Choice::Least(right) => least(right, mins, values, steps),
         }
+    }
+
+    /// Returns that index without a count of the columns that are read.
+    pub(crate) fn peak(self, mins: &[usize], values: &[usize]) -> Option<usize>
+        ensures { MatchOption result (NoneAbove values.now mins.now)
+            (IsChosen self values.now mins.now) }
+    {
+        self.chosen(mins, values, &mut Steps::new())
     }
 
     /// Adds the whole amount to the size that comes first. Returns 0 if all sizes are 0.

@@ -3,14 +3,17 @@ ghost use Rattle.std.specs.Prelude.{◌≡◌, ◌-◌, ◌<◌, length};
 ghost use Rattle.tabled_priority.specs.Permitted.{at};
 ghost use Rattle.tabled_priority.specs.Visits.{counted};
 
-/// The size of a column, and its minimum: 0 if there are no minimums.
+/// The size and the minimum of a column.
 #[derive(Clone, Copy)]
 pub(crate) struct Column {
+    /// Its size.
     pub(crate) value: usize,
+    /// Its minimum, 0 if there are no minimums.
     pub(crate) least: usize,
 }
 
 impl Column {
+    /// Returns how much can be taken from it.
     pub(crate) fn spare(&self) -> usize
         ensures { result ≡ self.now.value - self.now.least }
     {
@@ -18,12 +21,14 @@ impl Column {
     }
 }
 
+/// Returns the minimum at an index, 0 if there are no minimums.
 pub(crate) fn minimum(mins: &[usize], place: usize) -> usize
     ensures { result ≡ at mins.now place }
 {
     mins.get(place).copied().unwrap_or(0)
 }
 
+/// Reads a column, and counts the visit.
 pub(crate) fn visit(mins: &[usize], values: &[usize], place: usize, steps: &mut Steps) -> Column
     requires { place < length values.now }
     ensures value { result.value ≡ at values.now place }

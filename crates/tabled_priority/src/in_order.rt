@@ -1,6 +1,6 @@
 //! Taking as much as possible from each size in order: from one side, or the smallest first.
 ghost use Rattle.tabled_priority.specs.Changes.{Shrinks};
-ghost use Rattle.tabled_priority.specs.Permitted.{at, spare};
+ghost use Rattle.tabled_priority.specs.Permitted.{HasOneBetween, at, spare};
 ghost use Rattle.tabled_priority.specs.Shrunk.{IsSideShrunk, IsMinShrunk};
 ghost use Rattle.std.specs.Prelude.{◌≡◌, ℕ, ◌+◌, ◌*◌, ◌<◌, ◌≤◌, length};
 ghost use Rattle.tabled_priority.specs.Laws.Shrunk.{before};
@@ -20,6 +20,7 @@ pub(crate) fn shrink_from(
     steps: &mut Steps,
 ) -> usize
     ensures shrinks { IsSideShrunk right values.old mins.now by values.new }
+    ensures between { HasOneBetween values.old mins.now values.new }
     ensures shrinking { Shrinks values.old mins.now by values.new result steps.old steps.new }
 {
     let mut left = by;
@@ -142,6 +143,7 @@ fn find_giver(spares: &Spares, right: bool, size: usize, rest: usize, steps: &mu
     unreachable!()
 }
 
+/// Returns the last column that gives, for a wanted amount.
 fn last_giver(spares: &Spares, right: bool, wanted: usize, steps: &mut Steps) -> Giver
     requires some { 0 < wanted }
     requires enough { wanted ≤ spare_up_to spares.now.values.now spares.now.mins.now usize.MAX }
@@ -188,6 +190,7 @@ pub(crate) fn shrink_smallest(
     steps: &mut Steps,
 ) -> usize
     ensures shrinks { IsMinShrunk right values.old mins.now by values.new }
+    ensures between { HasOneBetween values.old mins.now values.new }
     ensures shrinking { Shrinks values.old mins.now by values.new result steps.old steps.new }
 {
     let wanted = amount_by(Schedule::Rounds(0), mins, values, by, steps);

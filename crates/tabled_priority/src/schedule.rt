@@ -28,6 +28,7 @@ pub(crate) enum Schedule {
 }
 
 impl Schedule {
+    /// Whether columns on the right take one more.
     pub(crate) fn is_from_right(&self) -> bool
         ensures { result ≡ is_from_right self.now }
     {
@@ -55,6 +56,7 @@ impl Schedule {
         if kept < count { kept } else { 0 }
     }
 
+    /// Returns the size of a column after it has taken an amount.
     pub(crate) fn changed(&self, value: usize, amount: usize) -> usize
         requires { CanChange self.now value amount }
         ensures { IsChanged self.now value amount result }
@@ -75,6 +77,7 @@ pub(crate) struct Ramp {
 }
 
 impl Ramp {
+    /// Returns what the column takes up to a level.
     pub(crate) fn amount(&self, level: usize) -> usize
         ensures { result ≡ min level self.now.to - self.now.from }
     {
@@ -97,6 +100,35 @@ pub(crate) struct Ramps<'a> {
     pub(crate) values: &'a [usize],
 }
 
+/// Returns what all columns take up to a level, `usize::MAX` at most.
+#[tactic(auto, using(crate::proofs::Sums::sum_step))]
+pub(crate) fn total_amount(
+    schedule: Schedule,
+    mins: &[usize],
+    values: &[usize],
+    level: usize,
+    steps: &mut Steps,
+) -> usize
+    ensures total { result ≡ min
+        (total_amount (first_level schedule values.now mins.now)
+        (last_level schedule values.now mins.now) (length values.now) level)
+        usize.MAX }
+    ensures values_fit { (i : ℕ) → at values.now i ≤ usize.MAX }
+    ensures mins_fit { (i : ℕ) → at mins.now i ≤ usize.MAX }
+    ensures steps { steps.new.count ≡ counted steps.old.count (length values.now) }
+{
+    let mut total: usize = 0;
+    for place in 0..values.len() {
+        let ramps = Ramps {
+            schedule,
+            mins,
+            values,
+        };
+        total = total.saturating_add(ramps.visit(place, steps).amount(level));
+    }
+    total
+}
+
 /// Returns what is taken or added of an amount: all of it, or as much as the columns can.
 pub(crate) fn amount_by(
     schedule: Schedule,
@@ -114,12 +146,7 @@ pub(crate) fn amount_by(
     ensures mins_fit { (i : ℕ) → at mins.now i ≤ usize.MAX }
     ensures steps { steps.new.count ≡ counted steps.old.count (length values.now) }
 {
-    let ramps = Ramps {
-        schedule,
-        mins,
-        values,
-    };
-    by.min(ramps.total(usize::MAX, steps))
+    by.min(total_amount(schedule, mins, values, usize::MAX, steps))
 }
 
 impl Levels for Ramps<'_> {
@@ -127,17 +154,13 @@ impl Levels for Ramps<'_> {
 
     ghost columns = { columns_of };
 
-    #[tactic(auto, using(crate::proofs::Sums::sum_step))]
     fn total(&self, level: usize, steps: &mut Steps) -> usize {
-        let mut total: usize = 0;
-        for place in 0..self.values.len() {
-            total = total.saturating_add(self.visit(place, steps).amount(level));
-        }
-        total
+        total_amount(self.schedule, self.mins, self.values, level, steps)
     }
 }
 
 impl Ramps<'_> {
+    /// Reads a column, and returns it with its levels.
     pub(crate) fn visit(&self, place: usize, steps: &mut Steps) -> Ramp
         requires { place < columns_of self.now }
         ensures value { result.value ≡ at self.now.values.now place }
@@ -205,6 +228,7 @@ pub(crate) trait Levels {
     // The number of columns.
     ghost columns: { Self → ℕ };
 
+    /// Returns what all columns give up to a level, `usize::MAX` at most.
     fn total(&self, level: usize, steps: &mut Steps) -> usize
         ensures total { result ≡ min (total self.now level) usize.MAX }
         ensures steps { steps.new.count ≡ counted steps.old.count (columns self.now) };
@@ -312,7 +336,6 @@ fn find_base(ramps: &Ramps, wanted: usize, steps: &mut Steps) -> usize
 /// than one for each is missing.
 pub(crate) fn reach(ramps: &Ramps, wanted: usize, steps: &mut Steps) -> Reached
     requires some { 0 < wanted }
-    requires fit { (i : ℕ) → at ramps.now.values.now i ≤ usize.MAX }
     requires enough { wanted ≤ total_of ramps.now usize.MAX }
     ensures reached { IsReached (first_of ramps.now) (last_of ramps.now) (columns_of ramps.now)
         wanted result.level result.rest }
@@ -323,7 +346,7 @@ pub(crate) fn reach(ramps: &Ramps, wanted: usize, steps: &mut Steps) -> Reached
 {
     let base = find_base(ramps, wanted, steps);
     let open = ramps.count_open(ramps.values.len(), base, steps);
-    let missing = wanted - ramps.total(base, steps);
+    let missing = wanted - total_amount(ramps.schedule, ramps.mins, ramps.values, base, steps);
     let levels = (missing - 1) / open;
     Reached {
         level: base + levels,

@@ -1,5 +1,5 @@
 //! Sizes that never change (`ConstDimension`, `StaticDimension`, `ZeroDimension`).
-ghost use Rattle.std.specs.Prelude.{◌≡◌, ◌⊎◌, IfErr, IfOk, OnErr, OnOk, Option, Some, is_some, true, ℕ};
+ghost use Rattle.std.specs.Prelude.{◌≡◌, ◌⊎◌, IfErr, IfOk, OnErr, OnOk, Some, is_some, true, ℕ};
 ghost use Rattle.tabled_base.specs.declared.error.TableError.TheVariants.{Memory, Range};
 ghost use Rattle.tabled_size.specs.declared.const_dimension.ConstSize.TheVariants.{List as Listed, Value};
 ghost use Rattle.tabled_size.specs.FixedSizes.{HasList, IsSameValue, listed_at, size_at, value_at};
@@ -56,60 +56,6 @@ impl<const N: usize> ConstSize<N> {
     }
 }
 
-/// Sizes that never change.
-pub(crate) trait FixedSizes {
-    // The width of a column, if it is known.
-    ghost column_at: { Self → ℕ → Option ℕ };
-
-    // The height of a row, if it is known.
-    ghost row_at: { Self → ℕ → Option ℕ };
-
-    fn widths(&self) -> SizeList<'_>
-        ensures { (column : ℕ) → listed_at result column ≡ column_at self.now column };
-
-    fn heights(&self) -> SizeList<'_>
-        ensures { (row : ℕ) → listed_at result row ≡ row_at self.now row };
-}
-
-impl<S: FixedSizes> Dimension for S {
-    ghost width_at = { S.column_at };
-
-    ghost height_at = { S.row_at };
-
-    fn has_width(&self, column: usize) -> bool {
-        self.widths().get(column).is_some()
-    }
-
-    fn has_height(&self, row: usize) -> bool {
-        self.heights().get(row).is_some()
-    }
-
-    fn get_width(&self, column: usize) -> usize {
-        self.widths().get(column).unwrap()
-    }
-
-    fn get_height(&self, row: usize) -> usize {
-        self.heights().get(row).unwrap()
-    }
-
-    fn alike_from(&self) -> Option<usize> {
-        Some(self.widths().0.len())
-    }
-}
-
-impl<R, C, S: FixedSizes> Estimate<R, C> for S {
-    ghost estimates = { λ s records config t. t ≡ s };
-
-    fn estimate(&mut self, _records: &R, _config: &C) -> Result<(), TableError>
-        ensures ok { OnOk result (self.new ≡ self.old) }
-        ensures err { OnErr result (self.new ≡ self.old) }
-        ensures only { IfErr result (λ e. (e ≡ Memory) ⊎ ((e ≡ Range) × ⊥)) }
-        ensures never { OnErr result ⊥ }
-    {
-        Ok(())
-    }
-}
-
 /// Widths and heights from arrays or single values. They never change or allocate.
 #[derive(Debug, Clone, Copy)]
 pub struct ConstDimension<const COLUMNS: usize, const ROWS: usize> {
@@ -136,17 +82,43 @@ impl<const COLUMNS: usize, const ROWS: usize> From<ConstDimension<COLUMNS, ROWS>
     }
 }
 
-impl<const COLUMNS: usize, const ROWS: usize> FixedSizes for ConstDimension<COLUMNS, ROWS> {
-    ghost column_at = { λ s column. size_at s.width column };
+impl<const COLUMNS: usize, const ROWS: usize> Dimension for ConstDimension<COLUMNS, ROWS> {
+    ghost width_at = { λ s column. size_at s.width column };
 
-    ghost row_at = { λ s row. size_at s.height row };
+    ghost height_at = { λ s row. size_at s.height row };
 
-    fn widths(&self) -> SizeList<'_> {
-        self.width.list()
+    fn has_width(&self, column: usize) -> bool {
+        self.width.list().get(column).is_some()
     }
 
-    fn heights(&self) -> SizeList<'_> {
-        self.height.list()
+    fn has_height(&self, row: usize) -> bool {
+        self.height.list().get(row).is_some()
+    }
+
+    fn get_width(&self, column: usize) -> usize {
+        self.width.list().get(column).unwrap()
+    }
+
+    fn get_height(&self, row: usize) -> usize {
+        self.height.list().get(row).unwrap()
+    }
+
+    fn alike_from(&self) -> Option<usize> {
+        Some(self.width.list().0.len())
+    }
+}
+
+impl<R, C, const COLUMNS: usize, const ROWS: usize> Estimate<R, C>
+    for ConstDimension<COLUMNS, ROWS> {
+    ghost estimates = { λ s records config t. t ≡ s };
+
+    fn estimate(&mut self, _records: &R, _config: &C) -> Result<(), TableError>
+        ensures ok { OnOk result (self.new ≡ self.old) }
+        ensures err { OnErr result (self.new ≡ self.old) }
+        ensures only { IfErr result (λ e. (e ≡ Memory) ⊎ ((e ≡ Range) × ⊥)) }
+        ensures never { OnErr result ⊥ }
+    {
+        Ok(())
     }
 }
 
@@ -234,17 +206,42 @@ impl From<StaticDimension> for (DimensionValue, DimensionValue) {
     }
 }
 
-impl FixedSizes for StaticDimension {
-    ghost column_at = { λ s column. value_at s.width column };
+impl Dimension for StaticDimension {
+    ghost width_at = { λ s column. value_at s.width column };
 
-    ghost row_at = { λ s row. value_at s.height row };
+    ghost height_at = { λ s row. value_at s.height row };
 
-    fn widths(&self) -> SizeList<'_> {
-        self.width.list()
+    fn has_width(&self, column: usize) -> bool {
+        self.width.list().get(column).is_some()
     }
 
-    fn heights(&self) -> SizeList<'_> {
-        self.height.list()
+    fn has_height(&self, row: usize) -> bool {
+        self.height.list().get(row).is_some()
+    }
+
+    fn get_width(&self, column: usize) -> usize {
+        self.width.list().get(column).unwrap()
+    }
+
+    fn get_height(&self, row: usize) -> usize {
+        self.height.list().get(row).unwrap()
+    }
+
+    fn alike_from(&self) -> Option<usize> {
+        Some(self.width.list().0.len())
+    }
+}
+
+impl<R, C> Estimate<R, C> for StaticDimension {
+    ghost estimates = { λ s records config t. t ≡ s };
+
+    fn estimate(&mut self, _records: &R, _config: &C) -> Result<(), TableError>
+        ensures ok { OnOk result (self.new ≡ self.old) }
+        ensures err { OnErr result (self.new ≡ self.old) }
+        ensures only { IfErr result (λ e. (e ≡ Memory) ⊎ ((e ≡ Range) × ⊥)) }
+        ensures never { OnErr result ⊥ }
+    {
+        Ok(())
     }
 }
 
@@ -259,16 +256,41 @@ impl ZeroDimension {
     }
 }
 
-impl FixedSizes for ZeroDimension {
-    ghost column_at = { λ s column. Some 0 };
+impl Dimension for ZeroDimension {
+    ghost width_at = { λ s column. Some 0 };
 
-    ghost row_at = { λ s row. Some 0 };
+    ghost height_at = { λ s row. Some 0 };
 
-    fn widths(&self) -> SizeList<'_> {
-        SizeList(&[], Some(0))
+    fn has_width(&self, _column: usize) -> bool {
+        true
     }
 
-    fn heights(&self) -> SizeList<'_> {
-        SizeList(&[], Some(0))
+    fn has_height(&self, _row: usize) -> bool {
+        true
+    }
+
+    fn get_width(&self, _column: usize) -> usize {
+        0
+    }
+
+    fn get_height(&self, _row: usize) -> usize {
+        0
+    }
+
+    fn alike_from(&self) -> Option<usize> {
+        Some(0)
+    }
+}
+
+impl<R, C> Estimate<R, C> for ZeroDimension {
+    ghost estimates = { λ s records config t. t ≡ s };
+
+    fn estimate(&mut self, _records: &R, _config: &C) -> Result<(), TableError>
+        ensures ok { OnOk result (self.new ≡ self.old) }
+        ensures err { OnErr result (self.new ≡ self.old) }
+        ensures only { IfErr result (λ e. (e ≡ Memory) ⊎ ((e ≡ Range) × ⊥)) }
+        ensures never { OnErr result ⊥ }
+    {
+        Ok(())
     }
 }

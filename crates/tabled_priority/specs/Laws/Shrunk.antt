@@ -8,10 +8,11 @@ use Rattle.std.proofs.lemmas.List.{get_or_past}
 use Rattle.std.proofs.lemmas.Bool.{cases_lt, cases_eq, lt-ltb}
 use Rattle.std.proofs.lemmas.Bool.Decides.{nat_tests}
 use Rattle.tabled_priority.specs.Permitted.{at, low, taken, IsTakenFrom, lowered}
-use Rattle.tabled_priority.specs.Shrunk.{IsBefore, IsSideShrunk, ceiling, IsMaxShrunk, comes_before, IsMinShrunk}
-use Rattle.tabled_priority.specs.Peak.{IsOutermost, IsGreatest, IsLeast}
+use Rattle.tabled_priority.specs.Shrunk.{IsBefore, IsSideShrunk, IsLeftShrunk, IsRightShrunk, ceiling, IsMaxShrunk, comes_before, IsMinShrunk}
+use Rattle.tabled_priority.specs.Peak.{IsOutermost, IsLeftmost, IsRightmost, IsGreatest, IsLeast}
 use Rattle.tabled_priority.specs.Laws.Permitted.{IsLowered-lowered, low-lowered, spare_total-lowered}
 use Rattle.tabled_priority.specs.Laws.Permitted.{IsTakenFrom-still, IsTakenFrom-step}
+use Rattle.tabled_priority.specs.Laws.Permitted.{taken-none, taken-nothing}
 
 -- ---- from one side
 -- of two indices one comes before the other
@@ -69,6 +70,29 @@ IsSideShrunk-step right xs mins i by new g s =
       after = λ j a. let b = after_later right s.place i j a in s.after j b.0 ∙ l.there j b.1;
     }
 
+-- of the left and the right, as a priority that is chosen at run time cites them
+pub IsLeftShrunk-none : (xs mins : List ℕ) → IsLeftShrunk xs mins 0 xs
+IsLeftShrunk-none xs mins = IsSideShrunk-still false xs mins 0 (taken-nothing xs mins)
+
+pub IsLeftShrunk-done : (xs mins : List ℕ) (by : ℕ) → ((i : ℕ) → at xs i ≤ at mins i)
+    → IsLeftShrunk xs mins by xs
+IsLeftShrunk-done xs mins by h = IsSideShrunk-still false xs mins by (taken-none xs mins by h)
+
+pub IsLeftShrunk-step : (xs mins : List ℕ) (i by : ℕ) (new : List ℕ) → IsLeftmost xs mins i
+    → IsLeftShrunk (lowered xs i) mins by new → IsLeftShrunk xs mins (by + 1) new
+IsLeftShrunk-step = IsSideShrunk-step false
+
+pub IsRightShrunk-none : (xs mins : List ℕ) → IsRightShrunk xs mins 0 xs
+IsRightShrunk-none xs mins = IsSideShrunk-still true xs mins 0 (taken-nothing xs mins)
+
+pub IsRightShrunk-done : (xs mins : List ℕ) (by : ℕ) → ((i : ℕ) → at xs i ≤ at mins i)
+    → IsRightShrunk xs mins by xs
+IsRightShrunk-done xs mins by h = IsSideShrunk-still true xs mins by (taken-none xs mins by h)
+
+pub IsRightShrunk-step : (xs mins : List ℕ) (i by : ℕ) (new : List ℕ) → IsRightmost xs mins i
+    → IsRightShrunk (lowered xs i) mins by new → IsRightShrunk xs mins (by + 1) new
+IsRightShrunk-step = IsSideShrunk-step true
+
 -- ---- Max
 pub at-le-sum : (xs : List ℕ) (i : ℕ) → at xs i ≤ sum xs
 at-le-sum xs i = ⊎_elim (λ l. get_or-le-sum_by (λ x. x) xs i 0 l) (λ past. let e = get_or_past xs i 0 past in omega arith) (cases_lt i (length xs))
@@ -83,6 +107,12 @@ IsMaxShrunk-still right xs mins by z = record {
   place = 0;
   cut = λ i. let a = at-le-sum xs i in let b = level-le-ceiling right (sum xs) 0 i in omega arith;
 }
+
+pub IsMaxShrunk-none : (right : Bool) (xs mins : List ℕ) → IsMaxShrunk right xs mins 0 xs
+IsMaxShrunk-none right xs mins = IsMaxShrunk-still right xs mins 0 (taken-nothing xs mins)
+
+pub IsMaxShrunk-done : (right : Bool) (xs mins : List ℕ) (by : ℕ) → ((i : ℕ) → at xs i ≤ at mins i) → IsMaxShrunk right xs mins by xs
+IsMaxShrunk-done right xs mins by h = IsMaxShrunk-still right xs mins by (taken-none xs mins by h)
 
 -- the ceilings after one is taken from i, at the height of i
 ceiling-here : (right : Bool) (height i j : ℕ) → 0 < height → (ceiling right (height - 1) (cond right i (i + 1)) i + 1 ≡ height)
@@ -202,6 +232,12 @@ IsMinShrunk-still right xs mins by z = record {
   before = λ i some. absurd (omega arith);
   after = λ i some. absurd (omega arith);
 }
+
+pub IsMinShrunk-none : (right : Bool) (xs mins : List ℕ) → IsMinShrunk right xs mins 0 xs
+IsMinShrunk-none right xs mins = IsMinShrunk-still right xs mins 0 (taken-nothing xs mins)
+
+pub IsMinShrunk-done : (right : Bool) (xs mins : List ℕ) (by : ℕ) → ((i : ℕ) → at xs i ≤ at mins i) → IsMinShrunk right xs mins by xs
+IsMinShrunk-done right xs mins by h = IsMinShrunk-still right xs mins by (taken-none xs mins by h)
 
 pub IsMinShrunk-step : (right : Bool) (xs mins : List ℕ) (i by : ℕ) (new : List ℕ) → IsLeast right xs mins i
     → IsMinShrunk right (lowered xs i) mins by new → IsMinShrunk right xs mins (by + 1) new

@@ -5,7 +5,6 @@ use Rattle.tabled_priority.specs.Shrunk.{place_after}
 use Rattle.tabled_priority.proofs.ByLevel.{IsPlanned, fits_by, scheduled_by, still_by}
 use Rattle.tabled_priority.proofs.Visiting.{IsBounded-whole, IsBounded-passes}
 use Rattle.tabled_priority.proofs.change.change_columns.Goals as goal
-use Rattle.tabled_priority.proofs.change.change_columns.Goals.{After-find_span-span}
 
 pub returns-then-amount-eq0-clause-changed : goal.returns-then-amount-eq0-clause-changed
 returns-then-amount-eq0-clause-changed c =
@@ -21,53 +20,64 @@ returns-then-amount-eq0-clause-visits c =
     IsBounded-whole old old c.args.steps.now.count c.amount_by-amount.new.steps.count
     (length old) (omega arith) c.amount_by-amount.ensures.steps (omega arith)
 
-plan : (c : After-find_span-span) → IsPlanned c.args.schedule c.args.values.now c.args.mins.now c.args.by c.reach-reached.result.level
-    c.reach-reached.result.rest c.find_span-span.result.first c.find_span-span.result.last
-plan c =
-    let old = c.args.values.now in
-    let from = first_level c.args.schedule old c.args.mins.now in
-    let to = last_level c.args.schedule old c.args.mins.now in
-    let amount = c.amount_by-amount.ensures.amount in
-    let most = c.amount_by-amount.ensures.most in
-    record {
-      sizes = record { values = c.amount_by-amount.ensures.values_fit; least = c.amount_by-amount.ensures.mins_fit };
-      room = c.requires;
-      some = omega arith;
-      most = omega arith;
-      below = c.reach-reached.ensures.below;
-      reached = subst (λ x. IsReached from to (length old) x c.reach-reached.result.level c.reach-reached.result.rest) amount
-          c.reach-reached.ensures.reached;
-      span = c.find_span-span.ensures.span;
-      side = c.find_span-span.ensures.side;
-    }
-
 pub change_to-requires-clause-fits : goal.change_to-requires-clause-fits
 change_to-requires-clause-fits c =
     let k = c.args.schedule in
     let old = c.args.values.now in
     let mins = c.args.mins.now in
+    let from = first_level k old mins in
+    let to = last_level k old mins in
+    let n = length old in
+    let level = c.reach-reached.result.level in
+    let rest = c.reach-reached.result.rest in
     let first = c.find_span-span.result.first in
     let last = c.find_span-span.result.last in
-    λ i inside. subst (λ l. CanChange k (at old i) (share (first_level k old mins) (last_level k old mins) l first last i))
-    (sym c.find_span-span.ensures.level)
-    (fits_by k old mins c.args.by c.reach-reached.result.level c.reach-reached.result.rest first last
-    (plan (goal.at.change_to-requires-clause-fits c).After-find_span-span) i inside)
+    let w = c.amount_by-amount.ensures.amount in
+    let most = c.amount_by-amount.ensures.most in
+    let plan : IsPlanned k old mins c.args.by level rest first last = record {
+      sizes = record { values = c.amount_by-amount.ensures.values_fit; least = c.amount_by-amount.ensures.mins_fit };
+      room = c.requires;
+      some = omega arith;
+      most = omega arith;
+      below = c.reach-reached.ensures.below;
+      reached = subst (λ x. IsReached from to n x level rest) w c.reach-reached.ensures.reached;
+      span = c.find_span-span.ensures.span;
+      side = c.find_span-span.ensures.side;
+    } in
+    λ i inside. subst (λ l. CanChange k (at old i) (share from to l first last i)) (sym c.find_span-span.ensures.level)
+    (fits_by k old mins c.args.by level rest first last plan i inside)
 
 pub returns-clause-changed : goal.returns-clause-changed
 returns-clause-changed c =
     let k = c.args.schedule in
     let old = c.args.values.now in
     let mins = c.args.mins.now in
+    let from = first_level k old mins in
+    let to = last_level k old mins in
+    let n = length old in
+    let level = c.reach-reached.result.level in
+    let rest = c.reach-reached.result.rest in
     let first = c.find_span-span.result.first in
     let last = c.find_span-span.result.last in
+    let w = c.amount_by-amount.ensures.amount in
+    let most = c.amount_by-amount.ensures.most in
+    let plan : IsPlanned k old mins c.args.by level rest first last = record {
+      sizes = record { values = c.amount_by-amount.ensures.values_fit; least = c.amount_by-amount.ensures.mins_fit };
+      room = c.requires;
+      some = omega arith;
+      most = omega arith;
+      below = c.reach-reached.ensures.below;
+      reached = subst (λ x. IsReached from to n x level rest) w c.reach-reached.ensures.reached;
+      span = c.find_span-span.ensures.span;
+      side = c.find_span-span.ensures.side;
+    } in
     let new = c.change_to.new.values in
     let len = c.change_to.ensures.same_length in
     subst (λ x. IsScheduled k old mins c.args.by new x)
     (sym (c.place_after.ensures ∙ ap (λ x. place_after x last) len))
-    (scheduled_by k old mins c.args.by c.reach-reached.result.level c.reach-reached.result.rest first last new
-    (plan (goal.at.returns-clause-changed c).After-find_span-span) len
-    (λ i inside. subst (λ l. IsChanged k (at old i) (share (first_level k old mins) (last_level k old mins) l first last i) (at new i))
-    c.find_span-span.ensures.level (c.change_to.ensures.each i inside)))
+    (scheduled_by k old mins c.args.by level rest first last new plan len
+    (λ i inside. subst (λ l. IsChanged k (at old i) (share from to l first last i) (at new i)) c.find_span-span.ensures.level
+    (c.change_to.ensures.each i inside)))
 
 pub returns-clause-visits : goal.returns-clause-visits
 returns-clause-visits c =

@@ -3,6 +3,7 @@ use Rattle.tabled_priority.specs.Laws.Shrunk.{IsMinShrunk-still}
 use Rattle.tabled_priority.specs.Numbers.{greatest_usize}
 use Rattle.tabled_priority.specs.Permitted.{taken}
 use Rattle.tabled_priority.specs.Spares.{IsLastGiver}
+use Rattle.tabled_priority.proofs.Between.{min_between}
 use Rattle.tabled_priority.proofs.Givers.{min_shrunk_by, spare_up_to-all}
 use Rattle.tabled_priority.proofs.Visiting.{IsBounded-whole, IsBounded-passes, shrinking}
 use Rattle.tabled_priority.proofs.in_order.shrink_smallest.Goals as goal
@@ -12,6 +13,10 @@ returns-then-wanted-eq0-clause-shrinks c =
     let old = c.args.values.now in
     let w = c.amount_by-wanted.ensures.amount in
     IsMinShrunk-still c.args.right old c.args.mins.now c.args.by (sym w ∙ c.if-wanted-eq0.true)
+
+pub returns-then-wanted-eq0-clause-between : goal.returns-then-wanted-eq0-clause-between
+returns-then-wanted-eq0-clause-between c = min_between c.args.right c.args.values.now c.args.mins.now c.args.by
+    c.args.values.now (returns-then-wanted-eq0-clause-shrinks c)
 
 pub returns-then-wanted-eq0-clause-shrinking : goal.returns-then-wanted-eq0-clause-shrinking
 returns-then-wanted-eq0-clause-shrinking c =
@@ -38,6 +43,10 @@ returns-clause-shrinks c =
     min_shrunk_by c.args.right old mins c.args.by c.take.new.values giver.place giver.amount
     (subst (λ k. IsLastGiver c.args.right old mins k giver.place giver.amount) w c.last_giver-giver.ensures.giver)
     c.take.ensures.same_length c.take.ensures.each
+
+pub returns-clause-between : goal.returns-clause-between
+returns-clause-between c = min_between c.args.right c.args.values.now c.args.mins.now c.args.by
+    c.take.new.values (returns-clause-shrinks c)
 
 pub returns-clause-shrinking : goal.returns-clause-shrinking
 returns-clause-shrinking c =

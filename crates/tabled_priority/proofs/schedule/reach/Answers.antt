@@ -45,7 +45,7 @@ returns-clause-reached c =
     let o = open_some (first_of ramps) (last_of ramps) (columns_of ramps) c.args.wanted c.find_base-base.result
     greatest_usize b c.requires.enough in
     parted (first_of ramps) (last_of ramps) (columns_of ramps) c.args.wanted c.find_base-base.result
-    c.count_open-open.result (c.args.wanted - c.total.result) b c.count_open-open.ensures.count (omega arith) (omega arith)
+    c.count_open-open.result (c.args.wanted - c.total_amount.result) b c.count_open-open.ensures.count (omega arith) (omega arith)
 
 pub returns-clause-below : goal.returns-clause-below
 returns-clause-below c =
@@ -54,8 +54,8 @@ returns-clause-below c =
     let some = r.some in
     let enough = r.enough in
     open_below (first_of ramps) (last_of ramps) (columns_of ramps)
-    (c.find_base-base.result + (c.args.wanted - c.total.result - 1) / c.count_open-open.result) greatest_usize
-    (λ i _. ends ramps.schedule ramps.values.now ramps.mins.now i (let f = c.requires.fit i in omega (arith, f))) (omega arith)
+    (c.find_base-base.result + (c.args.wanted - c.total_amount.result - 1) / c.count_open-open.result) greatest_usize
+    (λ i _. ends ramps.schedule ramps.values.now ramps.mins.now i (let f = c.total_amount.ensures.values_fit i in omega (arith, f))) (omega arith)
 
 pub overflow_add-result : goal.overflow_add-result
 overflow_add-result c = let b = returns-clause-below c in omega arith
