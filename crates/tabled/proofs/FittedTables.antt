@@ -32,7 +32,7 @@ use Rattle.tabled.specs.Orders.{Shrinks-takes, IsShrunk, Shrinks}
 use Rattle.tabled.specs.Planned.{Cells, FitsInto, IsNarrowedTo, OrderShrinks, IsPlannedOf}
 use Rattle.tabled.specs.declared.order_priority.OrderPriority.{OrderPriority}
 use Rattle.tabled_base.specs.declared.position.Entity.TheVariants.{Row}
-use Rattle.tabled_set.specs.declared.suffix.SuffixLimit.TheVariants.{Cut}
+use Rattle.tabled_set.specs.declared.truncate.SuffixLimit.TheVariants.{Cut}
 use Rattle.tabled_set.specs.BestNarrowing.{HasLeastWidth}
 use Rattle.tabled_set.specs.ExactTotal.{HasExactTotal}
 use Rattle.tabled_set.specs.Promised.{TruncatesAsPromised, WrapsAsPromised}

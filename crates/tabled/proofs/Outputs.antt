@@ -34,7 +34,7 @@ use Rattle.tabled_base.proofs.Lengthening.{length-lengthened}
 use Rattle.tabled_records.proofs.Splitting.{rows-rectangular}
 use Rattle.tabled_records.proofs.TextCells.{text_cells}
 use Rattle.tabled_set.specs.CellChanges.{AreChanged, if_wider, truncating, wrapping}
-use Rattle.tabled_set.specs.declared.suffix.SuffixLimit.TheVariants.{Cut}
+use Rattle.tabled_set.specs.declared.truncate.SuffixLimit.TheVariants.{Cut}
 use Rattle.tabled_set.specs.BestNarrowing.{inner_width}
 use Rattle.tabled_set.specs.Narrowed.{for_content_size}
 use Rattle.tabled_set.proofs.ExactTotals.{changed_empty}

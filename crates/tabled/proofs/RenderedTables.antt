@@ -7,7 +7,7 @@ use Rattle.tabled_base.specs.Cells.{IsInside, IsRectangular, columns}
 use Rattle.tabled_base.specs.declared.error.TableError.{TableError}
 use Rattle.tabled_base.specs.declared.error.TableError.TheVariants.{Memory, ShortWidths, ShortHeights, Narrow, Range, Writer}
 use Rattle.tabled_set.specs.CellChanges.{if_wider, truncating, wrapping, AreChanged}
-use Rattle.tabled_set.specs.declared.suffix.SuffixLimit.TheVariants.{Cut}
+use Rattle.tabled_set.specs.declared.truncate.SuffixLimit.TheVariants.{Cut}
 use Rattle.tabled_grid.specs.Picture.{picture, table_text}
 use Rattle.tabled_set.specs.ExactTotal.{HasExactTotal}
 use Rattle.tabled_line.specs.Sent.{Sent, IsCause}

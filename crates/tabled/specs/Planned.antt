@@ -1,7 +1,7 @@
 -- The table that a plan makes of the cells of a text.
 use Rattle.std.specs.Prelude.{◌≡◌, ℕ, ◌-◌, true, false, List, [], MatchBool, nat_le}
 use Rattle.tabled_set.specs.CellChanges.{AreChanged, if_wider, truncating, wrapping}
-use Rattle.tabled_set.specs.declared.suffix.SuffixLimit.TheVariants.{Cut}
+use Rattle.tabled_set.specs.declared.truncate.SuffixLimit.TheVariants.{Cut}
 use Rattle.tabled_set.specs.BestNarrowing.{inner_width}
 use Rattle.tabled_set.specs.Minimums.{minimums}
 use Rattle.tabled_set.specs.Narrowed.{for_content_size}

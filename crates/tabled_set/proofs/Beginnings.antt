@@ -4,22 +4,13 @@ use Rattle.std.proofs.Math.Dec.{eqb-suc-zero}
 use Rattle.std.proofs.lemmas.Bool.{MatchBool-at_true, MatchBool-at_false, cases_Bool}
 use Rattle.std.proofs.lemmas.List.{length-take-le}
 use Rattle.tabled_base.specs.ShortOr.{FitsBehind}
-use Rattle.tabled_set.specs.Common.{lines_of}
+use Rattle.tabled_set.specs.Common.{IsCut, lines_of}
 use Rattle.tabled_text.proofs.CutOnce.{cut-once}
-use Rattle.tabled_set.specs.InPlace.{IsCutAt, IsLeftAt, IsTruncatedInPlace}
-use Rattle.tabled_set.specs.Truncated.{HasEndedLines, IsCutBefore, IsEnded, IsLimited, IsTruncated, IsUsed, suffix_columns, SuffixLimit}
+use Rattle.tabled_set.specs.Truncated.{IsCutAt, IsTruncatedInPlace}
+use Rattle.tabled_set.specs.Truncated.{HasEndedLines, IsEnded, IsLimited, IsTruncated, IsUsed, suffix_columns, SuffixLimit}
 use Rattle.tabled_set.specs.Truncated.{Cut, Ignore, Replace}
-use Rattle.tabled_set.proofs.ChangingCells.{match-false}
 
 -- ---- what is left of a text is truncated
-
-ended : (left : ℕ) (used text : List ℕ) (bytes : ℕ) → IsLeftAt left text bytes → IsEnded left used text (take bytes text ++ used)
-ended zero used text bytes none = ap (λ n. take n text ++ used) none
-ended (suc k) used text bytes kept =
-    let at = MatchBool-at_false (bytes ≡ 0) (IsCutAt (suc k) text bytes) (eqb-suc-zero k) kept in
-    let answer = take bytes text ++ used in
-    match-false (answer ≡ used) (IsCutBefore (suc k) used text answer) (eqb-suc-zero k)
-    (record { front = take bytes text; cut = at.cut; answered = refl })
 
 ended_lines : (multiline : Bool) (left : ℕ) (used text answer : List ℕ) → (multiline ≡ true → lines_of text ≡ text ∷ []) → IsEnded left used text answer
     → MatchBool multiline (HasEndedLines left used text answer) (IsEnded left used text answer)
@@ -32,14 +23,15 @@ ended_lines true left used text answer one h =
     }
 
 pub truncated-in_place : (content_size : ℕ) (suffix : List ℕ) (limit : SuffixLimit) (multiline : Bool) (text used : List ℕ) (left bytes : ℕ)
-    → (multiline ≡ true → lines_of text ≡ text ∷ []) → IsUsed content_size suffix limit used left → IsLeftAt left text bytes
+    → (multiline ≡ true → lines_of text ≡ text ∷ []) → IsUsed content_size suffix limit used left → IsCut left text (take bytes text)
     → IsTruncated content_size suffix limit multiline text (take bytes text ++ used)
-truncated-in_place content_size suffix limit multiline text used left bytes one u kept =
+truncated-in_place content_size suffix limit multiline text used left bytes one u cut =
     record {
       used = used;
       left = left;
       suffix_used = u;
-      answered = ended_lines multiline left used text (take bytes text ++ used) one (ended left used text bytes kept);
+      answered = ended_lines multiline left used text (take bytes text ++ used) one
+          (record { front = take bytes text; cut = cut; answered = refl });
     }
 
 -- ---- in one way
@@ -71,21 +63,18 @@ used-once (suc r) suffix limit used used' left left' one other =
     (MatchBool-at_false (whole used' left') (limited used' left') no some'))
     (cases_Bool beside)
 
-left-once : (left : ℕ) (text : List ℕ) (bytes bytes' : ℕ) → IsLeftAt left text bytes → IsLeftAt left text bytes' → bytes ≡ bytes'
-left-once zero text bytes bytes' one other = one ∙ sym other
-left-once (suc k) text bytes bytes' one other =
-    let a = MatchBool-at_false (bytes ≡ 0) (IsCutAt (suc k) text bytes) (eqb-suc-zero k) one in
-    let b = MatchBool-at_false (bytes' ≡ 0) (IsCutAt (suc k) text bytes') (eqb-suc-zero k) other in
+left-once : (left : ℕ) (text : List ℕ) (bytes bytes' : ℕ) → IsCutAt left text bytes → IsCutAt left text bytes' → bytes ≡ bytes'
+left-once left text bytes bytes' a b =
     sym (length-take-le bytes text a.boundary.0) ∙ ap length (cut-once a.cut b.cut) ∙ length-take-le bytes' text b.boundary.0
 
 module _ {content_size : ℕ} {suffix : List ℕ} {limit : SuffixLimit} {multiline : Bool} {text : List ℕ} (h : IsTruncatedInPlace content_size suffix limit multiline text) where
-  same_kept : (used : List ℕ) (left : ℕ) → IsUsed content_size suffix limit used left → IsLeftAt left text h.bytes
+  pub same_kept : (used : List ℕ) (left : ℕ) → IsUsed content_size suffix limit used left → IsCutAt left text h.bytes
   same_kept used left u =
       let same = used-once content_size suffix limit h.used used h.left left h.suffix_used u in
-      subst (λ l. IsLeftAt l text h.bytes) same.1 h.kept
+      subst (λ l. IsCutAt l text h.bytes) same.1 h.kept
 
   -- as many bytes are left, and the ending finds room behind them
-  pub in_place-fits : (used : List ℕ) (left bytes : ℕ) → IsUsed content_size suffix limit used left → IsLeftAt left text bytes → FitsBehind bytes used
+  pub in_place-fits : (used : List ℕ) (left bytes : ℕ) → IsUsed content_size suffix limit used left → IsCutAt left text bytes → FitsBehind bytes used
   in_place-fits used left bytes u kept =
       let same = used-once content_size suffix limit h.used used h.left left h.suffix_used u in
       let bytes_same = left-once left text h.bytes bytes (same_kept used left u) kept in

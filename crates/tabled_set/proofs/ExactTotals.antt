@@ -1,5 +1,5 @@
 -- A narrowed table has its total and holds its cells.
-use Rattle.std.proofs.Common.{◌≡◌, ℕ, ◌+◌, ◌-◌, ◌<◌, ◌≤◌, ◌==◌, ◌||◌, Bool, true, false, cond, List, [], ◌∷◌, length, sum, max, take, nat_le, nat_lt, None, refl, sym, ap, ◌∙◌, subst, arith, ⊎_elim}
+use Rattle.std.proofs.Common.{◌≡◌, ℕ, ◌+◌, ◌-◌, ◌<◌, ◌≤◌, ◌==◌, ◌||◌, Bool, true, false, cond, List, [], length, sum, max, take, nat_le, nat_lt, None, sym, ap, ◌∙◌, subst, arith, le_of_eq, ⊎_elim}
 use Rattle.std.specs.Prelude.{MatchBool}
 use Rattle.std.specs.List.{slice_index_or, All}
 use Rattle.std.proofs.Math.Seq.{take-length}
@@ -12,9 +12,11 @@ use Rattle.tabled_set.specs.Common.{IsFilledIn, IsRectangular, IsSized, IsTakenF
 use Rattle.tabled_size.specs.Estimates.{needed_width}
 use Rattle.tabled_priority.specs.Least.{HasLeastGreatest}
 use Rattle.tabled_priority.proofs.Optimal.{HasLeastGreatest-from_level, IsLevel-from_max}
-use Rattle.tabled_size.proofs.ShrunkTotals.{above_minimum, filled_width-frame, frame_width, narrowed_total}
+use Rattle.tabled_size.proofs.ShrunkTotals.{above_minimum, frame_width, narrowed_total}
 use Rattle.tabled_size.proofs.Totalling.{heights_length, widths_length}
 use Rattle.tabled_set.specs.CellChanges.{AreChanged}
+use Rattle.tabled_set.proofs.ChangingCells.{columns-changed}
+use Rattle.tabled_set.proofs.Totals.{full_total}
 use Rattle.tabled_set.specs.Minimums.{emptied, minimums, side_padding}
 use Rattle.tabled_set.specs.Narrowed.{IsNarrowed, Narrows, for_content_size}
 use Rattle.tabled_set.specs.BestNarrowing.{inner_width}
@@ -35,16 +37,9 @@ KeepsPlain change = (content_size : ℕ) (before after : List ℕ) → IsAdditiv
 row_length : (cells : List (List (List ℕ))) (row : ℕ) → IsRectangular cells → row < length cells → length (slice_index_or cells row []) ≡ columns cells
 row_length cells row h l = h row [] l
 
-first_length : (cells : List (List (List ℕ))) → length (slice_index_or cells 0 []) ≡ columns cells
-first_length [] = refl
-first_length (row ∷ rows) = refl
-
-changed_columns : (chosen : ℕ → ℕ → Bool) (change : ℕ → ℕ → List ℕ → List ℕ → Type 0) (old new : List (List (List ℕ))) → AreChanged chosen change old new → columns new ≡ columns old
-changed_columns chosen change old new h = sym (first_length new) ∙ h.row_lengths 0 ∙ first_length old
-
 pub changed_empty : (chosen : ℕ → ℕ → Bool) (change : ℕ → ℕ → List ℕ → List ℕ → Type 0) (old new : List (List (List ℕ))) → AreChanged chosen change old new → is_empty new ≡ is_empty old
 changed_empty chosen change old new h =
-    ap (λ n. (n == 0) || (columns new == 0)) h.rows ∙ ap (λ n. (length old == 0) || (n == 0)) (changed_columns chosen change old new h)
+    ap (λ n. (n == 0) || (columns new == 0)) h.rows ∙ ap (λ n. (length old == 0) || (n == 0)) (columns-changed h)
 
 -- a property of each cell, by its place
 cell_of : (P : List ℕ → Type 0) (cells : List (List (List ℕ))) (row column : ℕ) → IsRectangular cells → All (All P) cells → row < length cells
@@ -60,9 +55,6 @@ cells_of P cells h row d r column e c =
     (subst P (get_or_default (slice_index_or cells row []) column [] e c') (h row column r c'))
 
 -- ---- totals
-full_total : (t : Sheet) → is_empty t.cells ≡ false → length t.widths ≡ columns t.cells → total_width t ≡ sum t.widths + frame_width t.config (columns t.cells)
-full_total t full long = ap (λ b. cond b 0 (filled_width t.config (columns t.cells) t.widths)) full ∙ filled_width-frame t.config (columns t.cells) t.widths long
-
 full_wider : (t : Sheet) (n : ℕ) → n < total_width t → is_empty t.cells ≡ false
 full_wider t n wider = ⊎_elim
     (λ y. let none : n < 0 = subst (λ b. n < cond b 0 (filled_width t.config (columns t.cells) t.widths)) y wider in absurd (omega arith))
@@ -108,7 +100,7 @@ module _ {P : Type 0} (shrinks : Shrinks P) (s : P) (change : ℕ → List ℕ �
   width_each = shrunk.permitted.same_length ∙ long
 
   new_columns : columns new ≡ columns cells
-  new_columns = changed_columns (λ row column. true) (for_content_size change (effective cells config sizes) h.widths) cells new h.changed
+  new_columns = columns-changed h.changed
 
   -- every cell is changed for the content size that its column leaves
   pub changed_cell : (row column : ℕ) → row < length cells → column < columns cells → change (at h.widths column - side_padding config row column) (cell_at cells row column) (cell_at new row column)
@@ -187,19 +179,19 @@ module _ {P : Type 0} (shrinks : Shrinks P) (s : P) (change : ℕ → List ℕ �
     full = full_wider (effective cells config sizes) n wider
 
     old_total : total_width (effective cells config sizes) ≡ sum (effective cells config sizes).widths + frame_width config (columns cells)
-    old_total = full_total (effective cells config sizes) full long
+    old_total = full_total (effective cells config sizes) full (le_of_eq long)
 
     least_total : empty_width (effective cells config sizes) ≡ sum (minimums cells config) + frame_width config (columns cells)
     least_total =
         let none = emptied cells in
-        full_total (estimated none config) (emptied-empty cells ∙ full) (widths_length none config)
+        full_total (estimated none config) (emptied-empty cells ∙ full) (le_of_eq (widths_length none config))
         ∙ ap (λ k. sum (minimums cells config) + frame_width config k) (emptied-columns cells)
 
     new_total : total_width (effective new config last) ≡ sum h.widths + frame_width config (columns cells)
     new_total =
         let t = effective new config last in
         let empty = changed_empty (λ row column. true) (for_content_size change (effective cells config sizes) h.widths) cells new h.changed in
-        full_total t (empty ∙ full) (ap length new_widths ∙ width_each ∙ sym new_columns)
+        full_total t (empty ∙ full) (le_of_eq (ap length new_widths ∙ width_each ∙ sym new_columns))
         ∙ ap (λ ws. sum ws + frame_width config (columns new)) new_widths
         ∙ ap (λ k. sum h.widths + frame_width config k) new_columns
 

@@ -1,7 +1,10 @@
 -- Lines joined one after another.
-use Rattle.std.proofs.Common.{◌≡◌, ℕ, Bool, true, false, cond, List, [], ◌∷◌, ◌++◌, refl, sym, ap, ◌∙◌, append-nil, append_assoc, zero, suc, encode_utf8_all, lit<, replicate}
+use Rattle.std.proofs.Common.{◌≡◌, ℕ, Bool, true, false, cond, List, [], ◌∷◌, ◌++◌, refl, sym, ap, ◌∙◌, append-nil, append_assoc, zero, suc, encode_utf8_all, lit<, replicate, ◌+◌, ◌==◌, length, sum_by, arith}
 use Rattle.std.specs.List.{join_with_byte}
 use Rattle.std.proofs.lemmas.Str.{encode_ascii}
+use Rattle.tabled_set.specs.Common.{IsCut, line_columns, lines_of}
+use Rattle.tabled_set.specs.Truncated.{AddsEnded, suffix_columns}
+use Rattle.std.proofs.lemmas.List.Splits.{length-slice_split}
 
 -- what the lines that are left append, where some stand before them or none does
 abbrev pub appended : Bool → List (List ℕ) → List ℕ
@@ -27,3 +30,23 @@ copied_feeds zero = refl
 copied_feeds (suc n) =
     ap (λ bytes. bytes ++ encode_utf8_all (replicate n 10)) (encode_ascii 10 (lit< tt))
     ∙ ap (λ bytes. 10 ∷ bytes) (copied_feeds n)
+
+-- ---- what is appended of a text that is truncated
+
+-- the cut text, and then its suffix
+pub AddsEnded-cut : {left : ℕ} {used text front old new : List ℕ} → IsCut left text front → new ≡ (old ++ front) ++ used
+    → AddsEnded left used text old new
+AddsEnded-cut {left} {used} {text} {front} {old} cut e =
+    record {
+      piece = front ++ used;
+      ended = record { front = front; cut = cut; answered = refl };
+      added = e ∙ append_assoc old front used;
+    }
+
+-- the columns of some lines, and one more for each
+abbrev pub taken : List (List ℕ) → ℕ
+taken lines = sum_by line_columns lines + length lines
+
+-- a column more is left than where each line takes one more
+pub left_beside : (suffix : List ℕ) (content_size left : ℕ) → left + taken (lines_of suffix) ≡ content_size → suffix_columns suffix + (left + 1) ≡ content_size
+left_beside suffix content_size left h = let some = length-slice_split (λ c. c == 10) suffix in omega (arith, h, some)

@@ -15,9 +15,8 @@ use Rattle.tabled_set.specs.Narrowed.{IsNarrowed, Narrows}
 use Rattle.tabled_set.specs.Truncated.{IsAdditiveLimit, IsTruncated, SuffixLimit}
 use Rattle.tabled_set.specs.Priorities.{Shrinks, TakesFrom, TakesGreatest}
 use Rattle.tabled_set.specs.Promised.{IsWiderThan, TruncatesAsPromised, WrapsAsPromised}
-use Rattle.tabled_set.proofs.Bare.{longest_lines, longest_truncated}
+use Rattle.tabled_set.proofs.TruncatedTexts.{longest_lines, longest_truncated, StaysWithin-truncated, fits-if_wider}
 use Rattle.tabled_set.proofs.ExactTotals.{FindsRoom, IsNarrowed-wider, KeepsPlain, changed_for_room, exact_total, leveled}
-use Rattle.tabled_set.proofs.TruncatedTexts.{StaysWithin-truncated, fits-if_wider}
 
 -- ---- changed texts stay in their content sizes
 FindsRoom-wrapping : (words : Bool) → FindsRoom (wrapping words)

@@ -1,12 +1,13 @@
 -- The totals of tables whose rows grew or shrank, or for which too few widths may be stored.
-use Rattle.std.proofs.Common.{◌≡◌, ℕ, ◌+◌, ◌-◌, ◌==◌, ◌<◌, false, List, [], length, sum, max, refl, sym, ap, ◌∙◌, arith, if◌then◌else◌, zero, suc, ◌≤◌, ◌∷◌, take, Option, Some, None, ⊎_elim}
+use Rattle.std.proofs.Common.{◌≡◌, ℕ, ◌+◌, ◌-◌, ◌==◌, ◌<◌, false, List, [], length, sum, max, refl, sym, ap, ◌∙◌, arith, cond, if◌then◌else◌, zero, suc, ◌≤◌, Option, Some, None, ⊎_elim, ◌*◌, ◌^◌, MatchOption, subst}
 use Rattle.std.proofs.lemmas.Bool.Decides.{nat_tests}
-use Rattle.tabled_set.specs.Common.{at, cell_at, columns, CompleteDimension, effective, effective_sizes, estimated_heights}
-use Rattle.tabled_set.specs.Common.{estimated_widths, filled_height, filled_width, is_empty, IsTakenFrom, SpannedConfig, widths_of}
+use Rattle.tabled_set.specs.Common.{at, cell_at, columns, CompleteDimension, effective, effective_sizes, estimated_heights, Sheet}
+use Rattle.tabled_set.specs.Common.{total_width, estimated_widths, filled_height, filled_width, is_empty, IsTakenFrom, SpannedConfig}
+use Rattle.tabled_set.specs.Common.{widths_of}
 use Rattle.tabled_priority.specs.Grown.{IsGrownFrom, added}
 use Rattle.tabled_priority.specs.Laws.Sums.{sum-below, sum_below-plus, sum_below-same, sum_below-term, sum_below-zero}
 use Rattle.tabled_priority.specs.Permitted.{spare, spare_total}
-use Rattle.tabled_priority.specs.Sums.{sum_below}
+use Rattle.tabled_priority.specs.Sums.{sum_below, one_if}
 use Rattle.tabled_size.specs.Totals.{part_height, rules_at}
 use Rattle.tabled_size.proofs.Passing.{height_at, height_ge}
 use Rattle.tabled_size.proofs.Totalling.{heights_length, widths_length}
@@ -15,13 +16,19 @@ use Rattle.tabled_set.specs.HeightFrame.{frame_height}
 use Rattle.std.proofs.lemmas.Bool.{cases_lt}
 use Rattle.std.proofs.lemmas.List.{get_or_past, length-take}
 use Rattle.tabled_size.proofs.ShrunkTotals.{frame_width}
+use Rattle.std.specs.List.{slice_index}
+use Rattle.tabled_config.specs.Frame.{has_left, has_right, has_inner}
+use Rattle.tabled_size.specs.Reached.{reached}
+use Rattle.tabled_size.proofs.Reaching.{reached_at, reached_so}
 
 -- where there is a height a row, the whole is their sum and the frame
-parts : (config : SpannedConfig) (rows : ℕ) (heights : List ℕ) → sum_below (part_height config rows heights) rows ≡ sum_below (rules_at config rows) rows + sum_below (at heights) rows
+parts : (config : SpannedConfig) (rows : ℕ) (heights : List ℕ)
+    → sum_below (part_height config rows heights) rows ≡ sum_below (rules_at config rows) rows + sum_below (at heights) rows
 unfolding part_height
 parts config rows heights = sum_below-plus (rules_at config rows) (at heights) rows
 
-pub filled_height-frame : (config : SpannedConfig) (rows : ℕ) (heights : List ℕ) → length heights ≡ rows → filled_height config rows heights ≡ sum heights + frame_height config rows
+pub filled_height-frame : (config : SpannedConfig) (rows : ℕ) (heights : List ℕ) → length heights ≡ rows
+    → filled_height config rows heights ≡ sum heights + frame_height config rows
 unfolding filled_height
 filled_height-frame config rows heights long =
     let whole = parts config rows heights in
@@ -61,25 +68,22 @@ grown-sum old new by some h =
 spare-all : (values : List ℕ) → spare_total values [] ≡ sum values
 spare-all values = sum_below-same (spare values []) (at values) (length values) (λ i lt. omega arith) ∙ sym (sum-below values)
 
-pub shrunk-total : (old new : List ℕ) (frame n : ℕ) → n < sum old + frame → IsTakenFrom old [] (sum old + frame - n) new → sum new + frame ≡ max n frame
+pub shrunk-total : (old new : List ℕ) (frame n : ℕ) → n < sum old + frame → IsTakenFrom old [] (sum old + frame - n) new
+    → sum new + frame ≡ max n frame
 shrunk-total old new frame n more t =
     let s = spare-all old in
     let e = t.total in
     omega arith
 
 -- no list that stands is longer than the table
-pub short-sizes : (stored : Option (List ℕ)) (estimates : List ℕ) (count : ℕ) → length estimates ≡ count → length (effective_sizes stored estimates count) ≤ count
+pub short-sizes : (stored : Option (List ℕ)) (estimates : List ℕ) (count : ℕ) → length estimates ≡ count
+    → length (effective_sizes stored estimates count) ≤ count
 short-sizes None estimates count long = omega (arith, long)
 short-sizes (Some sizes) estimates count long = omega (arith, length-take count sizes)
 
-pub short-widths : (cells : List (List (List ℕ))) (config : SpannedConfig) (sizes : CompleteDimension) → length (effective cells config sizes).widths ≤ columns cells
+pub short-widths : (cells : List (List (List ℕ))) (config : SpannedConfig) (sizes : CompleteDimension)
+    → length (effective cells config sizes).widths ≤ columns cells
 short-widths cells config sizes = short-sizes (widths_of sizes) (estimated_widths cells config) (columns cells) (widths_length cells config)
-
-pub take-all : {A : Type 0} (n : ℕ) (xs : List A) → length xs ≤ n → take n xs ≡ xs
-take-all zero [] h = refl
-take-all zero (x ∷ xs) h = absurd (omega arith)
-take-all (suc n) [] h = refl
-take-all (suc n) (x ∷ xs) h = ap (λ l. x ∷ l) (take-all n xs (omega arith))
 
 -- what is read past the end of a list adds nothing
 past-end : (sizes : List ℕ) (count : ℕ) → length sizes ≤ count → sum_below (at sizes) count ≡ sum_below (at sizes) (length sizes)
@@ -92,8 +96,62 @@ past-end sizes (suc count) h = ⊎_elim
     (λ past. let e : suc count ≡ length sizes = omega arith in ap (sum_below (at sizes)) e)
     (cases_lt (length sizes) (suc count))
 
-pub filled_width-short : (config : SpannedConfig) (count : ℕ) (widths : List ℕ) → length widths ≤ count → filled_width config count widths ≡ sum widths + frame_width config count
+pub filled_width-short : (config : SpannedConfig) (count : ℕ) (widths : List ℕ) → length widths ≤ count
+    → filled_width config count widths ≡ sum widths + frame_width config count
 unfolding filled_width
 filled_width-short config count widths short =
     let a : sum widths ≡ sum_below (at widths) count = sum-below widths ∙ sym (past-end widths count short) in
     omega arith
+
+-- the total of a table with no more widths than columns
+pub full_total : (t : Sheet) → is_empty t.cells ≡ false → length t.widths ≤ columns t.cells
+    → total_width t ≡ sum t.widths + frame_width t.config (columns t.cells)
+full_total t full short =
+    ap (λ b. cond b 0 (filled_width t.config (columns t.cells) t.widths)) full
+    ∙ filled_width-short t.config (columns t.cells) t.widths short
+
+-- ---- sizes that are read as 0 past the end of their list
+
+-- the size at each place, 0 past the end
+abbrev pub padded : List ℕ → ℕ → Option ℕ
+padded sizes i = Some (slice_index sizes i)
+
+-- all places are reached
+pub padded_long : (sizes : List ℕ) (count : ℕ) → count ≤ length (reached (padded sizes) count)
+padded_long sizes count = reached_so (padded sizes) count count (omega arith) (λ i lt. refl)
+
+same_some : {m n : ℕ} → Some m ≡ Some n → m ≡ n
+same_some h = cc
+
+-- a total depends on the sizes below the count alone
+pub same_width : (config : SpannedConfig) (count : ℕ) (old new : List ℕ) → ((i : ℕ) → i < count → at new i ≡ at old i) → filled_width config count new ≡ filled_width config count old
+unfolding filled_width
+same_width config count old new h =
+    ap (λ n. (config.margin.left.size + one_if (has_left config.borders)) + ((n + (count - 1) * one_if (has_inner config.borders)) + (one_if (has_right config.borders) + config.margin.right.size)))
+    (sum_below-same (at new) (at old) count h)
+
+same_part : (config : SpannedConfig) (count : ℕ) (old new : List ℕ) (i : ℕ) → at new i ≡ at old i → part_height config count new i ≡ part_height config count old i
+unfolding part_height
+same_part config count old new i h = ap (λ n. rules_at config count i + n) h
+
+pub same_height : (config : SpannedConfig) (count : ℕ) (old new : List ℕ) → ((i : ℕ) → i < count → at new i ≡ at old i) → filled_height config count new ≡ filled_height config count old
+unfolding filled_height
+same_height config count old new h =
+    ap (λ n. config.margin.top.size + (n + (rules_at config count count + config.margin.bottom.size)))
+    (sum_below-same (part_height config count new) (part_height config count old) count (λ i lt. same_part config count old new i (h i lt)))
+
+same_reached : (sizes : List ℕ) (count i : ℕ) → i < count → at (reached (padded sizes) count) i ≡ at sizes i
+same_reached sizes count i lt =
+    let long = padded_long sizes count in
+    same_some (sym (reached_at (padded sizes) count i (omega arith)))
+
+pub padded_width_total : (config : SpannedConfig) (count : ℕ) (sizes : List ℕ) → filled_width config count (reached (padded sizes) count) ≡ filled_width config count sizes
+padded_width_total config count sizes = same_width config count sizes (reached (padded sizes) count) (same_reached sizes count)
+
+pub padded_height_total : (config : SpannedConfig) (count : ℕ) (sizes : List ℕ) → filled_height config count (reached (padded sizes) count) ≡ filled_height config count sizes
+padded_height_total config count sizes = same_height config count sizes (reached (padded sizes) count) (same_reached sizes count)
+
+-- a total that isn't there passes the range
+pub passes : (total same : ℕ) (o : Option ℕ) → MatchOption o (2 ^ 64 ≤ total) (λ n. n ≡ total) → o ≡ None → total ≡ same → 2 ^ 64 ≤ same
+passes total same o h none e =
+    subst (λ k. 2 ^ 64 ≤ k) e (subst (λ (p : Option ℕ). MatchOption p (2 ^ 64 ≤ total) (λ n. n ≡ total)) none h)

@@ -1,25 +1,98 @@
 -- Truncated texts stay in their content size.
-use Rattle.std.proofs.Common.{◌≡◌, ◌≢◌, ◌+◌, ◌<◌, ◌≤◌, ◌-◌, ◌==◌, ℕ, zero, suc, Bool, true, false, List, [], ◌∷◌, ◌++◌, All, MatchBool, encode_utf8_all, length, nat_lt, replicate, refl, sum_by, sym, ap, subst, ◌∙◌, append-nil, arith, ⊎_elim}
+use Rattle.std.proofs.Common.{◌≡◌, ◌-◌, ℕ, zero, suc, true, false, List, [], ◌∷◌, ◌++◌, MatchBool, nat_lt, chars, replicate, refl, sym, ap, subst, ◌∙◌, append-nil, arith, ⊎_elim, ◌+◌, ◌<◌, ◌≤◌, ◌==◌, Bool, All, encode_utf8_all, length, sum_by}
 use Rattle.std.specs.List.{AllZip, join_with_byte}
-use Rattle.std.specs.Str.{IsUtf8}
 use Rattle.std.proofs.Math.Dec.{eqb-suc-zero}
-use Rattle.std.proofs.lemmas.Bool.{MatchBool-at_true, MatchBool-at_false, cases_Bool, ltb-true, ltb-false}
+use Rattle.std.proofs.lemmas.Bool.{MatchBool-at_true, MatchBool-at_false, cases_Bool, ltb-false, ltb-true}
+use Rattle.std.proofs.lemmas.List.Sums.{sum_by-cons}
+use Rattle.std.proofs.lemmas.Str.{IsUtf8-nil, chars-nil}
+use Rattle.tabled_set.specs.Common.{IsCut, IsExactLine, IsLongestCut, line_columns, lines_of, FitsIn, IsAdditive, IsAdditiveColumn}
+use Rattle.tabled_set.specs.Common.{text_columns}
+use Rattle.tabled_text.specs.Cut.{missing_columns}
+use Rattle.tabled_text.proofs.CutLemmas.{IsReached-nil, longest_at_full}
+use Rattle.tabled_text.proofs.PlainLines.{plain_line-nil, plain_line-each, plain_text-line}
+use Rattle.tabled_text.proofs.ExactLines.{exact-longest}
+use Rattle.tabled_set.specs.Truncated.{SuffixLimit, IsEnded, IsLimited, IsTruncated, IsUsed, suffix_columns, HasLongestLines}
+use Rattle.tabled_set.specs.Truncated.{IsAdditiveLimit, Cut, Ignore, Replace}
+use Rattle.std.specs.Str.{IsUtf8}
 use Rattle.std.proofs.lemmas.List.{get_or_default}
 use Rattle.std.proofs.lemmas.List.Elements.{All-head, All-tail, All-cons, All-nil, length_all_zip}
 use Rattle.std.proofs.lemmas.List.Splits.{length-slice_split}
-use Rattle.tabled_set.specs.Common.{FitsIn, IsAdditive, IsAdditiveColumn, IsCut, line_columns, lines_of, text_columns}
 use Rattle.tabled_text.specs.Room.{StaysWithin}
-use Rattle.tabled_text.proofs.FittingLaws.{fits-cut, fits-suffix, fits-joined, fits-none, fits-filled}
-use Rattle.tabled_text.proofs.PlainLines.{plain_line-each, plain_text-line}
-use Rattle.tabled_text.proofs.StayLemmas.{StaysWithin-cut, StaysWithin-suffix, StaysWithin-join, StaysWithin-none, StaysWithin-filled}
+use Rattle.tabled_text.proofs.FittingLaws.{fits-cut, fits-suffix, fits-joined, fits-filled}
+use Rattle.tabled_text.proofs.StayLemmas.{StaysWithin-cut, StaysWithin-suffix, StaysWithin-join, StaysWithin-filled}
+use Rattle.tabled_text.proofs.CutOnce.{cut-once}
 use Rattle.tabled_set.specs.CellChanges.{if_wider, truncating}
-use Rattle.tabled_set.specs.Truncated.{IsAdditiveLimit, IsCutBefore, IsEnded, IsLimited, IsTruncated, IsUsed, suffix_columns, SuffixLimit}
-use Rattle.tabled_set.specs.Truncated.{Cut, Ignore, Replace}
+
+missing-none : (rest : List ℕ) → missing_columns 0 [] rest ≡ 0
+missing-none [] = refl
+missing-none (c ∷ rest) = refl
+
+pub IsCut-nothing : (text : List ℕ) → IsCut 0 text []
+IsCut-nothing text =
+    record {
+      front = [];
+      rest = chars text;
+      longest = longest_at_full 0 (chars text) [] (chars text) refl (IsReached-nil 0) refl;
+      utf8 = IsUtf8-nil;
+      characters = chars-nil ∙ ap (λ n. replicate n 0xFFFD) (sym (missing-none (chars text)));
+    }
+
+pub no_columns : suffix_columns [] ≡ 0
+no_columns = let e = plain_line-nil.columns in let s = sum_by-cons line_columns [] [] in omega (arith, e, s)
+
+-- no suffix is written, and it leaves all columns
+bare-used : (content_size : ℕ) (limit : SuffixLimit) (used : List ℕ) (left : ℕ) → IsUsed content_size [] limit used left
+    → (used ≡ []) × (left ≡ content_size)
+bare-used zero limit used left u = u
+bare-used (suc r) limit used left u =
+    let content_size = suc r in
+    let whole = (used ≡ []) × (left ≡ content_size - suffix_columns []) in
+    let limited = IsLimited content_size [] limit used left in
+    let beside = nat_lt (suffix_columns []) content_size in
+    let some = MatchBool-at_false ((used ≡ []) × (left ≡ 0)) (MatchBool beside whole limited) (eqb-suc-zero r) u in
+    ⊎_elim
+    (λ yes. let k = MatchBool-at_true whole limited yes some in let e = k.1 in let none = no_columns in (k.0, omega (arith, e, none)))
+    (λ no. let e = ltb-false (suffix_columns []) content_size no in let none = no_columns in absurd (omega (arith, e, none)))
+    (cases_Bool beside)
+
+-- what no suffix ends is cut
+IsCut-ended : (content_size : ℕ) (limit : SuffixLimit) (used : List ℕ) (left : ℕ) (text answer : List ℕ)
+    → IsUsed content_size [] limit used left → IsEnded left used text answer → IsCut content_size text answer
+IsCut-ended content_size limit used left text answer u h =
+    let bare = bare-used content_size limit used left u in
+    subst (IsCut content_size text) (sym (h.answered ∙ ap (λ l. h.front ++ l) bare.0 ∙ append-nil h.front))
+    (subst (λ n. IsCut n text h.front) bare.1 h.cut)
+
+pub IsCut-truncated : (content_size : ℕ) (limit : SuffixLimit) (text answer : List ℕ) → IsTruncated content_size [] limit false text answer → IsCut content_size text answer
+IsCut-truncated content_size limit text answer h = IsCut-ended content_size limit h.used h.left text answer h.suffix_used h.answered
+
+-- a line whose characters count as its columns is cut to its longest beginning
+pub longest_truncated : (content_size : ℕ) (limit : SuffixLimit) (text answer : List ℕ) → IsExactLine text → IsTruncated content_size [] limit false text answer → IsLongestCut content_size text answer
+longest_truncated content_size limit text answer exact h = exact-longest content_size text answer exact (IsCut-truncated content_size limit text answer h)
+
+module _ (content_size : ℕ) (limit : SuffixLimit) (used : List ℕ) (left : ℕ) (u : IsUsed content_size [] limit used left) where
+  longest_each : (lines cuts : List (List ℕ)) → AllZip (IsEnded left used) lines cuts → AllZip (λ line cut. IsExactLine line → IsLongestCut content_size line cut) lines cuts
+  longest_each [] [] h = h
+  longest_each [] (cut ∷ cuts) h = h
+  longest_each (line ∷ lines) [] h = h
+  longest_each (line ∷ lines) (cut ∷ cuts) h =
+      (λ exact. exact-longest content_size line cut exact (IsCut-ended content_size limit used left line cut u h.0), longest_each lines cuts h.1)
+
+-- so is each line
+pub longest_lines : (content_size : ℕ) (limit : SuffixLimit) (text answer : List ℕ) → IsTruncated content_size [] limit true text answer → HasLongestLines content_size text answer
+longest_lines content_size limit text answer h =
+    let ended = h.answered in
+    record {
+      lines = ended.lines;
+      each = longest_each content_size limit h.used h.left h.suffix_used (lines_of text) ended.lines ended.each;
+      joined = ended.joined;
+    }
+
+-- ---- texts that stay in their content size
 
 -- how texts stay in a content size: what is cut from texts of some kind does, with a suffix or
 -- without, and so do the copies of a character and lines that are joined
 record IsKept (Own : List ℕ → Type 0) (Stays : ℕ → List ℕ → Type 0) : Type 0 where
-  none : (n : ℕ) → Stays n []
   cut : (n : ℕ) (text front : List ℕ) → Own text → IsCut n text front → Stays n front
   cut_suffix : (n : ℕ) (suffix used : List ℕ) → IsAdditive suffix → IsCut n suffix used → Stays n used
   suffix : (n left : ℕ) (text front ending : List ℕ) → Own text → IsAdditive ending
@@ -27,22 +100,20 @@ record IsKept (Own : List ℕ → Type 0) (Stays : ℕ → List ℕ → Type 0) 
   copies : (n c : ℕ) → IsAdditiveColumn c → Stays n (encode_utf8_all (replicate n c))
   joined : (n : ℕ) (lines : List (List ℕ)) → 0 < length lines → All (Stays n) lines → Stays n (join_with_byte 10 lines)
 
--- what stands for a suffix closes a text: alone where it leaves no column, else after the cut text
-record Closes (Own : List ℕ → Type 0) (Stays : ℕ → List ℕ → Type 0) (n left : ℕ) (used : List ℕ) : Type 0 where
-  alone : left ≡ 0 → Stays n used
-  after : left ≢ 0 → (text front : List ℕ) → Own text → IsCut left text front → Stays n (front ++ used)
+-- what is written for a suffix closes a text, after what is cut to the columns that it leaves
+abbrev Closes : (List ℕ → Type 0) → (ℕ → List ℕ → Type 0) → ℕ → ℕ → List ℕ → Type 0
+Closes Own Stays n left used = (text front : List ℕ) → Own text → IsCut left text front → Stays n (front ++ used)
 
 module _ (Own : List ℕ → Type 0) (Stays : ℕ → List ℕ → Type 0) (kept : IsKept Own Stays) where
   closes-nothing : (n left : ℕ) (used : List ℕ) → used ≡ [] → left ≡ n → Closes Own Stays n left used
-  closes-nothing n left used none whole =
-      record {
-        alone = λ _. subst (Stays n) (sym none) (kept.none n);
-        after = λ _ text front own cut.
-            subst (Stays n) (sym (ap (λ l. front ++ l) none ∙ append-nil front)) (kept.cut n text front own (subst (λ k. IsCut k text front) whole cut));
-      }
+  closes-nothing n left used none whole text front own cut =
+      subst (Stays n) (sym (ap (λ l. front ++ l) none ∙ append-nil front))
+      (kept.cut n text front own (subst (λ k. IsCut k text front) whole cut))
 
   closes-alone : (n left : ℕ) (used : List ℕ) → left ≡ 0 → Stays n used → Closes Own Stays n left used
-  closes-alone n left used none stays = record { alone = λ _. stays; after = λ some text front own cut. absurd (some none) }
+  closes-alone n left used none stays text front own cut =
+      let nothing : front ≡ [] = cut-once (subst (λ k. IsCut k text front) none cut) (IsCut-nothing text) in
+      subst (λ f. Stays n (f ++ used)) (sym nothing) stays
 
   closes-limited : (n : ℕ) (suffix : List ℕ) (limit : SuffixLimit) (used : List ℕ) (left : ℕ) → IsAdditive suffix → IsAdditiveLimit limit
       → IsLimited n suffix limit used left → Closes Own Stays n left used
@@ -52,12 +123,8 @@ module _ (Own : List ℕ → Type 0) (Stays : ℕ → List ℕ → Type 0) (kept
 
   closes-whole : (n : ℕ) (suffix used : List ℕ) (left : ℕ) → IsAdditive suffix → suffix_columns suffix < n → used ≡ suffix
       → left ≡ n - suffix_columns suffix → Closes Own Stays n left used
-  closes-whole n suffix used left p below whole rest =
-      record {
-        alone = λ none. absurd (omega (arith, none, below, rest));
-        after = λ _ text front own cut.
-            subst (λ l. Stays n (front ++ l)) (sym whole) (kept.suffix n left text front suffix own p (omega (arith, below, rest)) cut);
-      }
+  closes-whole n suffix used left p below whole rest text front own cut =
+      subst (λ l. Stays n (front ++ l)) (sym whole) (kept.suffix n left text front suffix own p (omega (arith, below, rest)) cut)
 
   closes-used : (n : ℕ) (suffix : List ℕ) (limit : SuffixLimit) (used : List ℕ) (left : ℕ) → IsAdditive suffix → IsAdditiveLimit limit
       → IsUsed n suffix limit used left → Closes Own Stays n left used
@@ -73,10 +140,7 @@ module _ (Own : List ℕ → Type 0) (Stays : ℕ → List ℕ → Type 0) (kept
       (cases_Bool (nat_lt (suffix_columns suffix) n))
 
   stays-ended : (n left : ℕ) (used text answer : List ℕ) → Closes Own Stays n left used → Own text → IsEnded left used text answer → Stays n answer
-  stays-ended n zero used text answer closes own h = subst (Stays n) (sym h) (closes.alone refl)
-  stays-ended n (suc k) used text answer closes own h =
-      let before = MatchBool-at_false (answer ≡ used) (IsCutBefore (suc k) used text answer) (eqb-suc-zero k) h in
-      subst (Stays n) (sym before.answered) (closes.after (λ e. let no : suc k ≡ 0 = e in absurd (omega (arith, no))) text before.front own before.cut)
+  stays-ended n left used text answer closes own h = subst (Stays n) (sym h.answered) (closes text h.front own h.cut)
 
   each-ended : (n left : ℕ) (used : List ℕ) (lines answers : List (List ℕ)) → Closes Own Stays n left used → All Own lines
       → AllZip (IsEnded left used) lines answers → All (Stays n) answers
@@ -103,7 +167,6 @@ module _ (Own : List ℕ → Type 0) (Stays : ℕ → List ℕ → Type 0) (kept
 
 additive : IsKept IsAdditive StaysWithin
 additive = record {
-  none = λ n. StaysWithin-none;
   cut = λ n text front own cut. StaysWithin-cut own cut;
   cut_suffix = λ n suffix used p cut. StaysWithin-cut p cut;
   suffix = λ n left text front ending own p le cut. StaysWithin-suffix own p le cut;
@@ -126,7 +189,6 @@ IsAny text = Unit {0}
 
 any : IsKept IsAny FitsIn
 any = record {
-  none = fits-none;
   cut = λ n text front own cut. fits-cut n text front cut;
   cut_suffix = λ n suffix used p cut. fits-cut n suffix used cut;
   suffix = λ n left text front ending own p le cut. fits-suffix left n text front ending p le cut;

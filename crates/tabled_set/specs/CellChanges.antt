@@ -1,12 +1,13 @@
 -- Tables of which some cells change and the others don't.
-use Rattle.std.specs.Prelude.{◌≡◌, ◌⊎◌, ℕ, Bool, true, not, ◌&&◌, ◌||◌, ◌==◌, nat_lt, List, [], MatchBool, Option, Some, None, length, slice_index_or}
-use Rattle.tabled_set.specs.Common.{cell_at, covers, Entity, IsInside, lines_of, Memory, Range, TableError, text_columns}
+use Rattle.std.specs.Prelude.{◌≡◌, ◌⊎◌, ℕ, Bool, true, not, ◌&&◌, ◌||◌, ◌==◌, nat_lt, List, [], MatchBool, Option, Some, None, length, slice_index_or, IfSome, nat_le}
+use Rattle.tabled_set.specs.Common.{cell_at, covers, Entity, IsInside, lines_of, Memory, Range, TableError, text_columns, columns}
 use Rattle.tabled_text.specs.Wrapping.{IsWrapped}
 use Rattle.tabled_set.specs.Truncated.{IsTruncated, SuffixLimit}
 pub use Rattle.tabled_set.specs.declared.walk.WalkOrder.{WalkOrder}
 pub use Rattle.tabled_set.specs.declared.walk.WalkOrder.TheVariants.{ByColumn, ByRow}
-pub use Rattle.tabled_set.specs.declared.changing.CellFilter.{CellFilter}
-pub use Rattle.tabled_set.specs.declared.changing.CellFilter.TheVariants.{Every, Higher, Lower, Narrower, NotAsWide, Wider}
+pub use Rattle.tabled_set.specs.declared.resize.CellFilter.{CellFilter}
+pub use Rattle.tabled_set.specs.declared.resize.CellFilter.TheVariants.{Every, Higher, Lower, Narrower, NotAsWide, Wider}
+use Rattle.std.specs.declared.ops.Range.{Range as Band}
 
 -- ---- one text
 
@@ -106,3 +107,39 @@ abbrev pub StopsEntity : CellFilter → (ℕ → List ℕ → Type 0) → (ℕ �
     → List (List (List ℕ)) → Type 0
 StopsEntity cell_filter in_place change content_size entity error old new =
     StopsChanging ByRow (covers entity) (λ row column. NeedsMemory cell_filter in_place content_size) (λ row column. if_taken cell_filter change content_size) error old new
+
+-- ---- a walk, line by line: lines are rows or columns, and a band is a range of them
+
+-- a row or column is in a band
+abbrev pub is_within : Band ℕ → ℕ → Bool
+is_within band place = nat_le band.start place && nat_lt place band.end
+
+-- the number of lines, and of places in each
+abbrev pub lines_in : WalkOrder → List (List (List ℕ)) → ℕ
+lines_in ByRow cells = length cells
+lines_in ByColumn cells = columns cells
+
+abbrev pub places_in : WalkOrder → List (List (List ℕ)) → ℕ
+places_in ByRow cells = columns cells
+places_in ByColumn cells = length cells
+
+-- a cell is on a line, at a place in a band
+abbrev pub on_line : WalkOrder → ℕ → Band ℕ → ℕ → ℕ → Bool
+on_line order line places row column = line_of order row column == line && is_within places (place_of order row column)
+
+-- what a walk makes of a cell: one that has a content size and passes the filter is changed for it
+abbrev pub leaves : CellFilter → (ℕ → List ℕ → List ℕ → Type 0) → (ℕ → ℕ → Option ℕ) → ℕ → ℕ → List ℕ → List ℕ → Type 0
+leaves cell_filter change content_sizes row column before after = in_room (if_taken cell_filter change) (content_sizes row column) before after
+
+-- a cell has a content size, and changing it needs an allocation
+abbrev pub needs : CellFilter → (ℕ → List ℕ → Type 0) → (ℕ → ℕ → Option ℕ) → ℕ → ℕ → List ℕ → Type 0
+needs cell_filter in_place content_sizes row column text = NeedsMemoryIn cell_filter in_place (content_sizes row column) text
+
+-- a walk cuts a text in place, if it changes it
+abbrev pub IsCutInPlace : CellFilter → (ℕ → List ℕ → Type 0) → (ℕ → ℕ → Option ℕ) → ℕ → ℕ → List ℕ → Type 0
+IsCutInPlace cell_filter shortens content_sizes row column text = IfSome (content_sizes row column) (λ content_size. is_taken cell_filter content_size text ≡ true → shortens content_size text)
+
+-- a walk cuts all chosen cells in place, if it changes them
+abbrev pub AreCutInPlace : (ℕ → ℕ → Bool) → CellFilter → (ℕ → List ℕ → Type 0) → (ℕ → ℕ → Option ℕ) → List (List (List ℕ)) → Type 0
+AreCutInPlace chosen cell_filter shortens content_sizes cells =
+    (row column : ℕ) → IsInside cells row column → chosen row column ≡ true → IsCutInPlace cell_filter shortens content_sizes row column (cell_at cells row column)

@@ -1,7 +1,8 @@
 -- The maximum or minimum size of a table's cells, and a percentage of its total size.
-use Rattle.std.specs.Prelude.{ℕ, List, [], ◌∷◌, length, map, min, ◌⊎◌, ◌≤◌, ◌^◌, ◌*◌, ◌/◌}
+use Rattle.std.specs.Prelude.{ℕ, List, [], ◌∷◌, length, map, min, ◌⊎◌, ◌≤◌, ◌^◌, ◌*◌, ◌/◌, ◌≡◌, MatchBool, Some, nat_lt}
 use Rattle.std.specs.List.{range_with_len}
-use Rattle.tabled_set.specs.Common.{cell_at, columns, lines_of, Sheet, text_columns, total_height, total_width}
+use Rattle.tabled_set.specs.Common.{cell_at, columns, lines_of, Sheet, text_columns, total_height, total_width, CompleteDimension}
+use Rattle.tabled_set.specs.Common.{heights_of, widths_of}
 use Rattle.tabled_text.specs.Measure.{greatest}
 pub use Rattle.tabled_set.specs.declared.measurement.TextMeasure.{TextMeasure}
 pub use Rattle.tabled_set.specs.declared.measurement.TextMeasure.TheVariants.{Columns, Lines}
@@ -55,3 +56,13 @@ percent_of percent whole = whole * percent / 100
 -- the number, or its product with the percentage, overflows `usize`
 abbrev pub HasNoPercent : ℕ → ℕ → Type 0
 HasNoPercent percent whole = (2 ^ 64 ≤ whole) ⊎ (2 ^ 64 ≤ whole * percent)
+
+-- ---- sizes that are stored
+
+-- a list of widths or heights is stored, and the other sizes don't change; a list shorter than the
+-- number of columns or rows changes nothing
+abbrev pub StoresSizes : TextMeasure → List ℕ → List (List (List ℕ)) → CompleteDimension → CompleteDimension → Type 0
+StoresSizes Columns list cells old new =
+    MatchBool (nat_lt (length list) (columns cells)) (new ≡ old) ((widths_of new ≡ Some list) × (heights_of new ≡ heights_of old))
+StoresSizes Lines list cells old new =
+    MatchBool (nat_lt (length list) (length cells)) (new ≡ old) ((heights_of new ≡ Some list) × (widths_of new ≡ widths_of old))

@@ -4,10 +4,7 @@ pub mod Common
 pub mod ExactTotal
 pub mod Extremes
 pub mod HeightFrame
-pub mod InPlace
 pub mod Increased
-pub mod Limited
-pub mod Lists
 pub mod Minimums
 pub mod Narrowed
 pub mod Priorities
@@ -15,4 +12,3 @@ pub mod Promised
 pub mod Sides
 pub mod TextLines
 pub mod Truncated
-pub mod Walking

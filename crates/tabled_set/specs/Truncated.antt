@@ -1,9 +1,12 @@
 -- What a text becomes if it is truncated to a content size with a suffix. Texts are lists of bytes.
-use Rattle.std.specs.Prelude.{◌≡◌, ℕ, ◌+◌, ◌-◌, Bool, ◌==◌, nat_lt, List, [], ◌++◌, MatchBool, encode_utf8_all, length, replicate, sum_by}
+use Rattle.std.specs.Prelude.{◌≡◌, ℕ, ◌+◌, ◌-◌, Bool, ◌==◌, nat_lt, List, [], ◌++◌, MatchBool, encode_utf8_all, length, replicate, sum_by, true, ◌∷◌, take}
 use Rattle.std.specs.List.{AllZip, join_with_byte}
-use Rattle.tabled_set.specs.Common.{IsAdditiveColumn, IsCut, IsExactLine, IsLongestCut, line_columns, lines_of}
-pub use Rattle.tabled_set.specs.declared.suffix.SuffixLimit.{SuffixLimit}
-pub use Rattle.tabled_set.specs.declared.suffix.SuffixLimit.TheVariants.{Cut, Ignore, Replace}
+use Rattle.tabled_set.specs.Common.{IsAdditiveColumn, IsCut, IsExactLine, IsLongestCut, line_columns, lines_of, NeedsFill}
+pub use Rattle.tabled_set.specs.declared.truncate.SuffixLimit.{SuffixLimit}
+pub use Rattle.tabled_set.specs.declared.truncate.SuffixLimit.TheVariants.{Cut, Ignore, Replace}
+use Rattle.std.specs.Str.{IsCharBoundary}
+use Rattle.tabled_base.specs.ShortOr.{FitsBehind}
+use Rattle.tabled_set.specs.declared.resize.Beginning.{Beginning}
 
 -- ---- the suffix
 
@@ -28,15 +31,11 @@ IsUsed content_size suffix limit used left =
 
 -- ---- the text
 
--- a text cut to n columns, and then the suffix that is written
-pub record IsCutBefore (n : ℕ) (used text answer : List ℕ) : Type 0 where
+-- a text cut to n columns, and then the suffix that is written; only that if n is 0
+pub record IsEnded (n : ℕ) (used text answer : List ℕ) : Type 0 where
   pub front : List ℕ
   pub cut : IsCut n text front
   pub answered : answer ≡ front ++ used
-
--- the cut text with its suffix, or the suffix alone if it leaves the text no column
-abbrev pub IsEnded : ℕ → List ℕ → List ℕ → List ℕ → Type 0
-IsEnded left used text answer = MatchBool (left == 0) (answer ≡ used) (IsCutBefore left used text answer)
 
 -- each line is cut and has the suffix, even a short one
 pub record HasEndedLines (left : ℕ) (used text answer : List ℕ) : Type 0 where
@@ -71,3 +70,47 @@ pub record HasLongestLines (content_size : ℕ) (text answer : List ℕ) : Type 
   pub lines : List (List ℕ)
   pub each : AllZip (λ line cut. IsExactLine line → IsLongestCut content_size line cut) (lines_of text) lines
   pub joined : answer ≡ join_with_byte 10 lines
+
+-- ---- in place
+
+-- a beginning of a text, with its ending
+abbrev pub ended_text : Beginning → List ℕ → List ℕ
+ended_text kept text = take kept.bytes text ++ kept.ending.now
+
+-- ---- the suffix
+
+-- a suffix that leaves the text no column has to be allocated: for copies of a character, or for a
+-- beginning that is filled with U+FFFD
+abbrev pub IsMadeFor : ℕ → List ℕ → SuffixLimit → Type 0
+IsMadeFor content_size suffix Cut = NeedsFill content_size suffix
+IsMadeFor content_size suffix Ignore = ⊥
+IsMadeFor content_size suffix (Replace c) = Unit {0}
+
+-- whether a suffix has to be allocated: not if the content size is 0, as then it is left out, and
+-- not if it leaves the text a column
+abbrev pub IsMade : ℕ → List ℕ → SuffixLimit → Type 0
+IsMade content_size suffix limit = MatchBool (content_size == 0) ⊥ (MatchBool (nat_lt (suffix_columns suffix) content_size) ⊥ (IsMadeFor content_size suffix limit))
+
+-- ---- the text
+
+-- `bytes` is the length of a text cut to n columns, which isn't filled with U+FFFD
+pub record IsCutAt (columns : ℕ) (text : List ℕ) (bytes : ℕ) : Type 0 where
+  pub cut : IsCut columns text (take bytes text)
+  pub boundary : IsCharBoundary text bytes
+  pub whole : NeedsFill columns text → ⊥
+
+-- a text is truncated in place: it is cut as a whole (with `multiline` it has one line), its suffix
+-- isn't allocated, and the suffix fits after what is left of the text
+pub record IsTruncatedInPlace (content_size : ℕ) (suffix : List ℕ) (limit : SuffixLimit) (multiline : Bool) (text : List ℕ) : Type 0 where
+  pub one_line : multiline ≡ true → lines_of text ≡ text ∷ []
+  pub used : List ℕ
+  pub left : ℕ
+  pub suffix_used : IsUsed content_size suffix limit used left
+  pub lent : IsMade content_size suffix limit → ⊥
+  pub bytes : ℕ
+  pub kept : IsCutAt left text bytes
+  pub fits : FitsBehind bytes used
+
+-- the same, as a relation of a content size and a text
+abbrev pub truncating_in_place : List ℕ → SuffixLimit → Bool → ℕ → List ℕ → Type 0
+truncating_in_place suffix limit multiline content_size text = IsTruncatedInPlace content_size suffix limit multiline text

@@ -1,22 +1,21 @@
 //! The options `CellHeightIncrease`, `CellHeightLimit`, `TableHeightIncrease` and
 //! `TableHeightLimit`, which change the heights of cells and tables.
-ghost use Rattle.std.specs.Prelude.{◌≡◌, ◌⊎◌, ◌≤◌, ◌^◌, IfErr, IfOk, None, OnErr, OnOk, Some, false, true};
-ghost use Rattle.tabled_set.specs.Common.{at, effective, estimated, estimated_heights, is_empty, IsTooHigh, Memory, Range, total_height};
+ghost use Rattle.std.specs.Prelude.{◌≡◌, None, Some, false};
+ghost use Rattle.tabled_set.specs.Common.{at, effective, is_empty};
 ghost use Rattle.tabled_set.specs.Increased.{HeightOutOfRange, IncreasesHeight};
-ghost use Rattle.tabled_set.specs.Limited.{LimitsHeight, StopsLimiting};
+ghost use Rattle.tabled_set.specs.Narrowed.{LimitsHeight, StopsLimiting};
 ghost use Rattle.tabled_set.specs.Promised.{AfterClearing, HeightensAsPromised, LimitsAsPromised};
 ghost use Rattle.tabled_set.specs.TextLines.{lengthening, limiting};
 ghost use Rattle.tabled_set.specs.CellChanges.{Higher, Lower};
 
-use crate::changing::{Beginning, CellFilter, Change, ContentSizes, TextTransform};
 use crate::measurement::{Height, Measurement};
-use crate::resize::Resize;
-use crate::sizes::{grown, padded_height, shrunk};
+use crate::resize::{Beginning, CellFilter, Change, ContentSizes, Resize, TextTransform};
+use crate::sizes::{estimated_rows, grown, shrunk};
 use crate::walk::{WalkOrder, change_cells};
 use std::alloc::Global;
 use tabled_base::{Entity, PeekableRecords, Position, RecordsMut, TableError, TableOption};
-use tabled_config::{ColoredConfig, SpannedConfig};
-use tabled_size::{CompleteDimension, Peaker, PriorityNone, estimate_heights, is_empty};
+use tabled_config::ColoredConfig;
+use tabled_size::{CompleteDimension, Peaker, PriorityNone, is_empty};
 use tabled_text::{count_lines, lines, push_copies};
 
 /// Appends empty lines to cells that have fewer lines than measured. As a table option it grows the
@@ -55,27 +54,6 @@ impl TextTransform for Lengthening {
         push_copies(&mut answer, '\n', wanting)?;
         Ok(answer)
     }
-}
-
-/// Returns the estimated heights of a table with cells, and its total height. Fails with `Memory`,
-/// or with `Range` if a height or the total overflows `usize`.
-fn estimated_rows<R: PeekableRecords>(
-    alloc: Global,
-    records: &R,
-    config: &SpannedConfig,
-) -> Result<(Vec<usize>, usize), TableError>
-    requires { is_empty (R.cells records.now) ≡ false }
-    ensures heights { IfOk result (λ rows.
-        rows.0.items ≡ estimated_heights (R.cells records.now) config.now) }
-    ensures total { IfOk result (λ rows.
-        rows.1 ≡ total_height (estimated (R.cells records.now) config.now)) }
-    ensures err { IfErr result (λ e. (e ≡ Memory) ⊎ ((e ≡ Range)
-        × (IsTooHigh (R.cells records.now) config.now
-        ⊎ (2 ^ 64 ≤ total_height (estimated (R.cells records.now) config.now))))) }
-{
-    let heights = estimate_heights(alloc, records, config)?;
-    let total = padded_height(config, records.count_rows(), &heights).ok_or(TableError::Range)?;
-    Ok((heights, total))
 }
 
 /// Grows the rows of a table that has fewer lines than measured, in the order of its priority, by

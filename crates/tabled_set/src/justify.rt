@@ -4,10 +4,9 @@ ghost use Rattle.tabled_set.specs.Common.{Global};
 ghost use Rattle.tabled_set.specs.CellChanges.{ChangesEntity, StopsEntity, if_taken, never_in_place, NotAsWide};
 ghost use Rattle.tabled_set.specs.TextLines.{IsJustified};
 
-use crate::changing::{Beginning, CellFilter, TextTransform};
 use crate::measurement::{Max, Measurement, Min, Width};
 use crate::min_width::Filling;
-use crate::resize::Resize;
+use crate::resize::{Beginning, CellFilter, Resize, TextTransform};
 use crate::truncate::Truncating;
 use std::alloc::Global;
 use tabled_base::{CellOption, Entity, RecordsMut, TableError, TableOption};

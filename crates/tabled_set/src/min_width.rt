@@ -1,16 +1,14 @@
 //! The option `MinWidth`, which widens cells and tables.
 ghost use Rattle.std.specs.Prelude.{◌≡◌, ◌⊎◌, IfErr, None, OnOk, false};
 ghost use Rattle.tabled_set.specs.Common.{effective, is_empty, Memory, Range};
-ghost use Rattle.tabled_set.specs.CellChanges.{never_in_place, Narrower};
+ghost use Rattle.tabled_set.specs.CellChanges.{Narrower};
 ghost use Rattle.tabled_set.specs.Increased.{IncreasesWidth, StopsIncreasing, WidthOutOfRange};
 ghost use Rattle.tabled_set.specs.Promised.{AfterClearing, WidensAsPromised};
 ghost use Rattle.tabled_set.specs.TextLines.{filling};
 
-use crate::changing::{Beginning, CellFilter, TextTransform};
 use crate::measurement::{Measurement, Width};
-use crate::narrowing::stored_widths;
-use crate::resize::Resize;
-use crate::sizes::{first_sizes, grown, padded_width};
+use crate::resize::{Beginning, CellFilter, Resize, TextTransform};
+use crate::sizes::{grown, stored_columns};
 use std::alloc::Global;
 use tabled_base::{Entity, PeekableRecords, TableError, TableOption};
 use tabled_config::{ColoredConfig, SpannedConfig};
@@ -99,11 +97,7 @@ fn increase_width<W: Measurement<Width> + Drop, P: Peaker + Drop, R: PeekableRec
     }
     let n = option.size.measure(records, config)?;
     sizes.estimate(records, config)?;
-    let columns = records.count_columns();
-    let widths = first_sizes(stored_widths(sizes), columns);
-    let Some(total) = padded_width(config, columns, widths) else {
-        return Err(TableError::Range);
-    };
+    let (widths, total) = stored_columns(records, config, sizes)?;
     if n <= total {
         return Ok(());
     }

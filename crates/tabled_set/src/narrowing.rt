@@ -1,20 +1,17 @@
 //! Narrows a table to a total width, and changes its cells to fit.
 ghost use Rattle.std.specs.Prelude.{◌≡◌, ◌⊎◌, IfErr, IfOk, ◌<◌, ◌≤◌, MatchOption, OnErr, Some, false, is_some, true, None, if◌then◌else◌, ◌-◌, OnOk};
-ghost use Rattle.tabled_set.specs.Common.{at, effective, filled_width, is_empty, IsRectangular, Memory, Range, total_width, widths_of};
-ghost use Rattle.tabled_set.specs.CellChanges.{if_taken, ByColumn};
+ghost use Rattle.tabled_set.specs.Common.{at, effective, is_empty, IsRectangular, Memory, Range, total_width, widths_of};
+ghost use Rattle.tabled_set.specs.CellChanges.{if_taken};
 ghost use Rattle.tabled_set.specs.Narrowed.{is_permitted, WiderOutOfRange, Narrows, NarrowingOutOfRange, StopsNarrowing, IsFound};
 ghost use Rattle.tabled_set.specs.Minimums.{emptied, side_padding};
 
-use crate::changing::{CellFilter, Change, ContentSizes, TextTransform};
 use crate::measurement::{Measurement, Width};
-use crate::resize::Resize;
-use crate::sizes::{first_sizes, padded_width, shrunk};
+use crate::resize::{CellFilter, Change, ContentSizes, Resize, TextTransform};
+use crate::sizes::{shrunk, stored_columns};
 use crate::walk::{WalkOrder, change_cells};
 use tabled_base::{Entity, ExactRecords, PeekableRecords, Position, RecordsMut, TableError};
 use tabled_config::SpannedConfig;
-use tabled_size::{
-    CompleteDimension, Dimension, Estimate, Peaker, Steps, estimate_widths, filled_width, is_empty,
-};
+use tabled_size::{CompleteDimension, Estimate, Peaker, estimate_widths, is_empty};
 use tabled_text::{count_lines, text_width};
 
 /// A view of records with all cells empty.
@@ -49,17 +46,6 @@ impl<'a, R: ExactRecords> PeekableRecords for EmptiedRecords<'a, R> {
     }
 }
 
-/// Returns the widths, which must be stored.
-pub(crate) fn stored_widths(sizes: &CompleteDimension) -> &[usize]
-    requires { is_some (widths_of sizes.now) ≡ true }
-    ensures { widths_of sizes.now ≡ Some result.now }
-{
-    match sizes.get_widths() {
-        None => unreachable!(),
-        Some(widths) => widths,
-    }
-}
-
 /// Returns the widths to which the columns of a table shrink, with their minimums, or `None` if the
 /// total is at most n.
 fn narrowed_widths<P: Peaker + Drop, R: ExactRecords>(
@@ -79,9 +65,7 @@ fn narrowed_widths<P: Peaker + Drop, R: ExactRecords>(
     ensures err { IfErr result (λ e. (e ≡ Memory)
         ⊎ ((e ≡ Range) × WiderOutOfRange n (R.cells records.now) config.now sizes.now)) }
 {
-    let columns = records.count_columns();
-    let widths = first_sizes(stored_widths(sizes), columns);
-    let total = padded_width(config, columns, widths).ok_or(TableError::Range)?;
+    let (widths, total) = stored_columns(records, config, sizes)?;
     if total <= n {
         return Ok(None);
     }
@@ -162,14 +146,13 @@ pub(crate) fn narrow_table<
     let Some(found) = narrowed_widths(option.priority, records, config, sizes, n)? else {
         return Ok(());
     };
-    let content_sizes = ColumnContentWidths {
-        config,
-        sizes: &found,
-    };
     let change = Change {
         transform: &option.transform,
         cell_filter,
-        content_sizes: &content_sizes,
+        content_sizes: &ColumnContentWidths {
+            config,
+            sizes: &found,
+        },
     };
     change_cells(&change, records, WalkOrder::ByColumn, Entity::Global)?;
     sizes.set_widths(found.widths);

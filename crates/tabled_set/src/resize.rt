@@ -1,11 +1,16 @@
-//! `Resize`, the type of the options that change widths and heights.
-ghost use Rattle.std.specs.Prelude.{◌≡◌};
-ghost use Rattle.tabled_set.specs.CellChanges.{ChangesEntity, StopsEntity, if_taken};
+//! `Resize`, the type of the options that change widths and heights: their transforms of one text,
+//! the cells that they are for, and the change of one, in place if possible.
+ghost use Rattle.std.specs.Prelude.{◌≡◌, ℕ, Option, Some, true, IfErr, IfNone, IfOk, IfSome, List, OnErr, OnOk, string_bytes};
+ghost use Rattle.std.specs.Str.{IsCharBoundary};
+ghost use Rattle.tabled_set.specs.Common.{Cell, cell_at, covers, IsInside, Memory};
+ghost use Rattle.tabled_base.specs.ShortOr.{FitsBehind};
+ghost use Rattle.tabled_set.specs.CellChanges.{is_taken, AreChanged, CellFilter, IsCutInPlace, leaves, needs, ChangesEntity, StopsEntity, if_taken};
+ghost use Rattle.tabled_set.specs.Truncated.{ended_text};
 
-use crate::changing::{Change, TextTransform};
 use crate::measurement::Measurement;
 use crate::walk::{WalkOrder, change_cells};
-use tabled_base::{CellOption, Entity, RecordsMut, TableError};
+use std::alloc::Global;
+use tabled_base::{CellOption, Entity, PeekableRecords, Position, RecordsMut, TableError};
 use tabled_config::ColoredConfig;
 use tabled_size::{Peaker, PriorityNone};
 
@@ -81,5 +86,167 @@ impl<T: TextTransform, W: Measurement<T::Direction>, P, R: RecordsMut> CellOptio
 
     fn hint_change(&self) -> Option<Entity> {
         Some(Entity::Global)
+    }
+}
+
+/// Which cells are changed, by the size of their text and their content size.
+#[derive(Clone, Copy, Debug)]
+pub enum CellFilter {
+    /// All cells.
+    Every,
+    /// Cells with more columns than the content size.
+    Wider,
+    /// Cells with fewer columns than the content size.
+    Narrower,
+    /// Cells with more or fewer columns than the content size.
+    NotAsWide,
+    /// Cells with more lines than the content size.
+    Higher,
+    /// Cells with fewer lines than the content size.
+    Lower,
+}
+
+impl CellFilter {
+    fn takes<R: PeekableRecords>(self, records: &R, at: Position, content_size: usize) -> bool
+        requires { IsInside (R.cells records.now) at.row at.column }
+        ensures { result
+            ≡ is_taken self content_size (cell_at (R.cells records.now) at.row at.column) }
+    {
+        match self {
+            CellFilter::Every => true,
+            CellFilter::Wider => content_size < records.get_width(at),
+            CellFilter::Narrower => records.get_width(at) < content_size,
+            CellFilter::NotAsWide => records.get_width(at) != content_size,
+            CellFilter::Higher => content_size < records.count_lines(at),
+            CellFilter::Lower => records.count_lines(at) < content_size,
+        }
+    }
+}
+
+/// The content size of each cell, in columns or lines.
+pub trait ContentSizes {
+    // The content size at a row and a column. A cell without one doesn't change.
+    ghost content_size_at: { Self → ℕ → ℕ → Option ℕ };
+
+    /// Returns the content size of a cell, or `None` if the cell doesn't change.
+    fn content_size(&self, at: Position) -> Option<usize>
+        ensures { result ≡ content_size_at self.now at.row at.column };
+}
+
+/// The same content size for all cells.
+impl ContentSizes for usize {
+    ghost content_size_at = { λ n row column. Some n };
+
+    fn content_size(&self, _at: Position) -> Option<usize> {
+        Some(*self)
+    }
+}
+
+/// What a text becomes if it is cut in place: its first `bytes` bytes, and then `ending`.
+#[derive(Clone, Copy, Debug)]
+pub struct Beginning<'a> {
+    pub bytes: usize,
+    pub ending: &'a str,
+}
+
+/// A transform of one text, for a content size in columns or lines.
+pub trait TextTransform {
+    /// The direction that its option measures: `Width` or `Height`.
+    type Direction;
+
+    ghost cell_filter: { CellFilter };
+
+    // Holds for the transform of a new option. By default there is only one.
+    ghost is_new: { Self → Type 0 } = { λ _. Unit {0} };
+
+    // Relates a content size, a text, and what may be made of it.
+    ghost makes: { Self → ℕ → List ℕ → List ℕ → Type 0 };
+
+    // Holds for a content size and a text that is cut in place, without an allocation. By default
+    // none is.
+    ghost shortens: { Self → ℕ → List ℕ → Type 0 } = { λ _ _ _. ⊥ };
+
+    /// Returns the filter for cells that have too few columns or lines, or too many.
+    fn filter() -> CellFilter
+        ensures { result ≡ cell_filter };
+
+    /// Returns the transform of a new option.
+    fn new() -> Self
+        ensures { is_new result };
+
+    /// Returns what the text becomes if it is cut in place.
+    fn beginning(&self, text: &str, content_size: usize) -> Option<Beginning<'_>>
+        ensures made { IfSome result (λ kept.
+            makes self.now content_size text.now (ended_text kept text.now)) }
+        ensures boundary { IfSome result (λ kept. IsCharBoundary text.now kept.bytes) }
+        ensures fits { IfSome result (λ kept. FitsBehind kept.bytes kept.ending.now) }
+        ensures some { IfSome result (λ _. shortens self.now content_size text.now) }
+        ensures none { IfNone result (shortens self.now content_size text.now → ⊥) };
+
+    /// Returns the transformed text. Fails only with `Memory`.
+    fn apply(&self, alloc: Global, text: &str, content_size: usize) -> Result<String, TableError>
+        ensures made { IfOk result (λ answer.
+            makes self.now content_size text.now (string_bytes answer)) }
+        ensures only { IfErr result (λ e. e ≡ Memory) };
+}
+
+/// A change of cells: the transform, which cells it is for, and their content sizes.
+#[derive(Drop)]
+pub struct Change<'a, T, M> {
+    pub transform: &'a T,
+    pub cell_filter: CellFilter,
+    pub content_sizes: &'a M,
+}
+
+impl<'a, T: TextTransform, M: ContentSizes> Change<'a, T, M> {
+    /// Whether a cell doesn't change, or is cut in place.
+    pub(crate) fn is_cut_in_place<R: PeekableRecords>(&self, records: &R, at: Position) -> bool
+        requires { IsInside (R.cells records.now) at.row at.column }
+        ensures { let by = self.now in result ≡ true
+            → IsCutInPlace by.cell_filter (T.shortens by.transform.now)
+            (M.content_size_at by.content_sizes.now)
+            at.row at.column (cell_at (R.cells records.now) at.row at.column) }
+    {
+        match self.content_sizes.content_size(at) {
+            Some(content_size) if self.cell_filter.takes(records, at, content_size) => {
+                let text = records.get_text(at);
+                self.transform.beginning(text, content_size).is_some()
+            }
+            _ => true,
+        }
+    }
+
+    /// Changes a cell if it has a content size and passes the filter.
+    pub(crate) fn change_cell<R: RecordsMut>(
+        &self,
+        records: &mut R,
+        at: Position,
+    ) -> Result<(), TableError>
+        requires { IsInside (R.cells records.old) at.row at.column }
+        ensures ok { let by = self.now in OnOk result (AreChanged (covers (Cell at.row at.column))
+            (leaves by.cell_filter (T.makes by.transform.now)
+            (M.content_size_at by.content_sizes.now))
+            (R.cells records.old) (R.cells records.new)) }
+        ensures err { OnErr result (R.cells records.new ≡ R.cells records.old) }
+        ensures needed { let by = self.now in OnErr result (
+            needs by.cell_filter (T.shortens by.transform.now)
+            (M.content_size_at by.content_sizes.now) at.row at.column
+            (cell_at (R.cells records.old) at.row at.column)) }
+        ensures only { IfErr result (λ e. e ≡ Memory) }
+    {
+        let Some(content_size) = self.content_sizes.content_size(at) else {
+            return Ok(());
+        };
+        if !self.cell_filter.takes(records, at, content_size) {
+            return Ok(());
+        }
+        let _columns = records.count_columns();
+        let (by, alloc) = (self.transform, records.allocator());
+        if let Some(kept) = by.beginning(records.get_text(at), content_size) {
+            records.shorten(at, kept.bytes, kept.ending);
+            return Ok(());
+        }
+        let text = by.apply(alloc, records.get_text(at), content_size)?;
+        records.set(at, text)
     }
 }

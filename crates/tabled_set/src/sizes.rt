@@ -1,20 +1,23 @@
-//! Lists of sizes: their total, lists that a priority has shrunk or grown, and the options
-//! `WidthList` and `HeightList`, which store given sizes.
+//! Lists of sizes: those of a table with their total, lists that a priority has shrunk or grown, and
+//! the options `WidthList` and `HeightList`, which store given sizes.
 ghost use Rattle.std.specs.Iterator.{IsFiniteIterable};
 ghost use Rattle.std.specs.List.{slice_index};
-ghost use Rattle.std.specs.Prelude.{◌≡◌, ◌+◌, ◌<◌, ◌≤◌, ◌^◌, IfErr, IfOk, length, sum, take, MatchOption, None, Some};
+ghost use Rattle.std.specs.Prelude.{◌≡◌, ◌⊎◌, ◌+◌, ◌<◌, ◌≤◌, ◌^◌, IfErr, IfOk, length, sum, None, Some, false, is_some, true};
 ghost use Rattle.tabled_base.specs.Given.{Given};
-ghost use Rattle.tabled_set.specs.Common.{filled_height, filled_width, FitsMinimums, Memory};
+ghost use Rattle.tabled_set.specs.Common.{effective, estimated, estimated_heights, FitsMinimums, is_empty, IsTooHigh, Memory, Range};
+ghost use Rattle.tabled_set.specs.Common.{total_height, total_width, widths_of};
 ghost use Rattle.tabled_set.specs.Increased.{IsGrownBy};
-ghost use Rattle.tabled_set.specs.Lists.{StoresSizes};
+ghost use Rattle.tabled_set.specs.Extremes.{StoresSizes};
 ghost use Rattle.tabled_set.specs.Narrowed.{IsShrunkBy};
 
 use crate::measurement::{Direction, Height, TextMeasure, Width};
 use std::alloc::Global;
 use std::marker::PhantomData;
-use tabled_base::{Entity, ExactRecords, TableError, TableOption};
+use tabled_base::{Entity, ExactRecords, PeekableRecords, TableError, TableOption};
 use tabled_config::SpannedConfig;
-use tabled_size::{CompleteDimension, Dimension, Peaker, Steps, filled_height, filled_width};
+use tabled_size::{
+    CompleteDimension, Dimension, Peaker, Steps, estimate_heights, filled_height, filled_width,
+};
 
 /// Stores the widths or the heights of a table. A list that is shorter than the table changes
 /// nothing. Entries past the table's last column or row are ignored. Never fails.
@@ -98,14 +101,6 @@ impl<A: Direction + Drop, R: ExactRecords, C> TableOption<R, C, CompleteDimensio
     }
 }
 
-/// Returns the first `count` sizes of a list, or all if there are fewer.
-pub(crate) fn first_sizes(sizes: &[usize], count: usize) -> &[usize]
-    ensures first { result.now ≡ take count sizes.now }
-    ensures short { length result.now ≤ count }
-{
-    sizes.split_at(count.min(sizes.len())).0
-}
-
 /// Returns a copy of the sizes, shrunk by the priority by an amount.
 pub(crate) fn shrunk<P: Peaker + Drop>(
     alloc: Global,
@@ -149,14 +144,6 @@ struct PaddedSizes<'a> {
     sizes: &'a [usize],
 }
 
-impl<'a> PaddedSizes<'a> {
-    fn at(&self, place: usize) -> usize
-        ensures { result ≡ slice_index self.now.sizes.now place }
-    {
-        self.sizes.get(place).copied().unwrap_or(0)
-    }
-}
-
 impl<'a> Dimension for PaddedSizes<'a> {
     ghost width_at = { λ s column. Some (slice_index s.sizes.now column) };
 
@@ -171,32 +158,60 @@ impl<'a> Dimension for PaddedSizes<'a> {
     }
 
     fn get_width(&self, column: usize) -> usize {
-        self.at(column)
+        self.sizes.get(column).copied().unwrap_or(0)
     }
 
     fn get_height(&self, row: usize) -> usize {
-        self.at(row)
+        self.sizes.get(row).copied().unwrap_or(0)
     }
 }
 
-/// Returns the total width of a table with `columns` columns. Those past the end of the list have
-/// width 0. Returns `None` if the total overflows `usize`.
-pub(crate) fn padded_width(
+/// Returns the widths of a table's columns, which must be stored, and its total width. Columns past
+/// the end of a list that is too short have width 0.
+pub(crate) fn stored_columns<'a, R: ExactRecords>(
+    records: &R,
     config: &SpannedConfig,
-    columns: usize,
-    widths: &[usize],
-) -> Option<usize>
-    ensures { MatchOption result (2 ^ 64 ≤ filled_width config.now columns widths.now)
-        (λ n. n ≡ filled_width config.now columns widths.now) }
+    sizes: &'a CompleteDimension,
+) -> Result<(&'a [usize], usize), TableError>
+    requires filled { is_empty (R.cells records.now) ≡ false }
+    requires stored { is_some (widths_of sizes.now) ≡ true }
+    ensures widths { let t = effective (R.cells records.now) config.now sizes.now in
+        IfOk result (λ columns. columns.0.now ≡ t.widths) }
+    ensures total { let t = effective (R.cells records.now) config.now sizes.now in
+        IfOk result (λ columns. columns.1 ≡ total_width t) }
+    ensures err { let t = effective (R.cells records.now) config.now sizes.now in
+        IfErr result (λ e. (e ≡ Range) × (2 ^ 64 ≤ total_width t)) }
 {
-    filled_width(config, columns, &PaddedSizes { sizes: widths })
+    let Some(stored) = sizes.get_widths() else {
+        unreachable!();
+    };
+    let columns = records.count_columns();
+    let widths = stored.split_at(columns.min(stored.len())).0;
+    let Some(total) = filled_width(config, columns, &PaddedSizes { sizes: widths }) else {
+        return Err(TableError::Range);
+    };
+    Ok((widths, total))
 }
 
-/// Returns the total height of a table with `rows` rows. Those past the end of the list have height
-/// 0. Returns `None` if the total overflows `usize`.
-pub(crate) fn padded_height(config: &SpannedConfig, rows: usize, heights: &[usize]) -> Option<usize>
-    ensures { MatchOption result (2 ^ 64 ≤ filled_height config.now rows heights.now)
-        (λ n. n ≡ filled_height config.now rows heights.now) }
+/// Returns the estimated heights of a table with cells, and its total height.
+pub(crate) fn estimated_rows<R: PeekableRecords>(
+    alloc: Global,
+    records: &R,
+    config: &SpannedConfig,
+) -> Result<(Vec<usize>, usize), TableError>
+    requires { is_empty (R.cells records.now) ≡ false }
+    ensures heights { IfOk result (λ rows.
+        rows.0.items ≡ estimated_heights (R.cells records.now) config.now) }
+    ensures total { IfOk result (λ rows.
+        rows.1 ≡ total_height (estimated (R.cells records.now) config.now)) }
+    ensures err { IfErr result (λ e. (e ≡ Memory) ⊎ ((e ≡ Range)
+        × (IsTooHigh (R.cells records.now) config.now
+        ⊎ (2 ^ 64 ≤ total_height (estimated (R.cells records.now) config.now))))) }
 {
-    filled_height(config, rows, &PaddedSizes { sizes: heights })
+    let heights = estimate_heights(alloc, records, config)?;
+    let padded = PaddedSizes { sizes: &heights };
+    let Some(total) = filled_height(config, records.count_rows(), &padded) else {
+        return Err(TableError::Range);
+    };
+    Ok((heights, total))
 }

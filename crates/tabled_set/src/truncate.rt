@@ -1,24 +1,34 @@
-//! The option `Truncate`, which truncates cells and narrows tables.
+//! The option `Truncate`, which truncates cells and narrows tables, and the suffix that ends a text.
 ghost use Rattle.std.specs.Cow.{cow_str_bytes, IsOwnedStr};
-ghost use Rattle.std.specs.Prelude.{◌≡◌, ◌≢◌, [], IfNone, IfOk, IfSome, OnOk, false, string_bytes, IfErr, None, OnErr};
+ghost use Rattle.std.specs.Prelude.{◌≡◌, ◌-◌, [], IfErr, IfNone, IfOk, IfSome, None, OnErr, OnOk, Some, false, if◌then◌else◌};
+ghost use Rattle.std.specs.Prelude.{nat_lt, string_bytes};
 ghost use Rattle.tabled_set.specs.Common.{effective, is_empty, IsCut, Memory, NeedsFill};
 ghost use Rattle.tabled_set.specs.CellChanges.{truncating, if_wider, Wider};
-ghost use Rattle.tabled_set.specs.InPlace.{IsLeftAt, truncating_in_place};
 ghost use Rattle.tabled_set.specs.Narrowed.{Narrows, NarrowingOutOfRange, StopsNarrowing};
+ghost use Rattle.tabled_set.specs.Truncated.{AddsEnded, Cut, HasEndedLines, IsMade, IsTruncated, IsUsed, suffix_columns, truncating_in_place};
 ghost use Rattle.tabled_set.specs.Promised.{AfterClearing, TruncatesAsPromised};
-ghost use Rattle.tabled_set.specs.Truncated.{AddsEnded, HasEndedLines, IsTruncated, Cut};
 
-use crate::changing::{Beginning, CellFilter, TextTransform};
 use crate::measurement::{Measurement, Width};
 use crate::narrowing::narrow_table;
-use crate::resize::Resize;
-use crate::suffix::{SuffixLimit, UsedSuffix, borrowed_suffix, used_suffix};
+use crate::resize::{Beginning, CellFilter, Resize, TextTransform};
 use std::alloc::{AllocError, Global};
 use std::borrow::CowStr;
 use tabled_base::{Entity, RecordsMut, SHORT_TEXT, TableError, TableOption};
 use tabled_config::ColoredConfig;
 use tabled_size::{CompleteDimension, Peaker, PriorityNone};
-use tabled_text::{count_lines, cut_length, cut_str, lines};
+use tabled_text::{copies, count_lines, cut_length, cut_str, line_width, lines};
+
+/// What happens to a suffix that is as wide as the content width, or wider.
+#[derive(Clone, Copy, Debug, PartialEq, Eq, PartialOrd, Ord)]
+pub enum SuffixLimit {
+    /// The suffix is cut to the content width. Nothing of the text is left.
+    Cut,
+    /// The suffix is left out. The text gets the whole content width.
+    Ignore,
+    /// The suffix is replaced by n copies of this character, where n is the content width in
+    /// columns. Nothing of the text is left.
+    Replace(char),
+}
 
 /// Cuts a text to the columns that the suffix leaves of the content size, and appends the suffix.
 /// If the suffix leaves none, the limit says what is written. For 0 columns every line is empty.
@@ -64,7 +74,7 @@ impl<'a> TextTransform for Truncating<'a> {
             return None;
         }
         let used = borrowed_suffix(self.suffix, self.limit, content_size)?;
-        let bytes = length_left(text, used.left)?;
+        let bytes = cut_length(text, used.left)?;
         if used.text.len() > SHORT_TEXT.saturating_sub(bytes) {
             return None;
         }
@@ -83,17 +93,78 @@ impl<'a> TextTransform for Truncating<'a> {
     }
 }
 
-/// Returns the length in bytes of a text cut to some columns, or `None` if it has to be filled with
-/// U+FFFD.
-fn length_left(text: &str, columns: usize) -> Option<usize>
-    ensures some { IfSome result (λ bytes. IsLeftAt columns text.now bytes) }
-    ensures none { IfNone result ((columns ≢ 0) × NeedsFill columns text.now) }
+/// The suffix that is written for a content size, and the columns that it leaves to the text.
+#[derive(Drop)]
+struct UsedSuffix<T> {
+    text: T,
+    left: usize,
+}
+
+fn columns_beside(suffix: &str, content_size: usize) -> Option<usize>
+    ensures { let own = suffix_columns suffix.now in
+        result ≡ (if nat_lt own content_size then Some (content_size - own) else None) }
 {
-    if columns == 0 {
-        Some(0)
-    } else {
-        cut_length(text, columns)
+    // Each line takes one column more than its own, for its line feed. The last line has no line
+    // feed, hence the `+ 1`.
+    let mut left = content_size;
+    for line in lines(suffix) {
+        left = left.checked_sub(line_width(line))?.checked_sub(1)?;
     }
+    Some(left + 1)
+}
+
+/// Returns the suffix to write for `content_size` columns, or `None` if it has to be allocated.
+fn borrowed_suffix(
+    suffix: &str,
+    limit: SuffixLimit,
+    content_size: usize,
+) -> Option<UsedSuffix<&str>>
+    ensures used { IfSome result (λ lent.
+        IsUsed content_size suffix.now limit lent.text.now lent.left) }
+    ensures some { IfSome result (λ _. IsMade content_size suffix.now limit → ⊥) }
+    ensures none { IfNone result (IsMade content_size suffix.now limit) }
+{
+    let none = UsedSuffix {
+        text: "",
+        left: content_size,
+    };
+    if content_size == 0 || suffix.is_empty() {
+        return Some(none);
+    }
+    if let Some(left) = columns_beside(suffix, content_size) {
+        return Some(UsedSuffix { text: suffix, left });
+    }
+    match limit {
+        SuffixLimit::Cut => {
+            let bytes = cut_length(suffix, content_size)?;
+            let (text, _) = suffix.split_at(bytes);
+            Some(UsedSuffix { text, left: 0 })
+        }
+        SuffixLimit::Ignore => Some(none),
+        SuffixLimit::Replace(_) => None,
+    }
+}
+
+/// Returns the suffix to write for `content_size` columns, borrowed if possible.
+fn used_suffix(
+    alloc: Global,
+    suffix: &str,
+    limit: SuffixLimit,
+    content_size: usize,
+) -> Result<UsedSuffix<CowStr<'_, Global>>, AllocError>
+    ensures { IfOk result (λ used.
+        IsUsed content_size suffix.now limit (cow_str_bytes used.text) used.left) }
+{
+    if let Some(UsedSuffix { text, left }) = borrowed_suffix(suffix, limit, content_size) {
+        let text = CowStr::Borrowed(text);
+        return Ok(UsedSuffix { text, left });
+    }
+    let text = match limit {
+        SuffixLimit::Cut => cut_str(alloc, suffix, content_size)?,
+        SuffixLimit::Ignore => unreachable!(),
+        SuffixLimit::Replace(c) => CowStr::Owned(copies(alloc, c, content_size)?),
+    };
+    Ok(UsedSuffix { text, left: 0 })
 }
 
 /// Appends a text, cut to the columns left, and the suffix.
@@ -105,10 +176,6 @@ fn push_ended(
     ensures { OnOk result (AddsEnded used.now.left (cow_str_bytes used.now.text) text.now
         (string_bytes answer.old) (string_bytes answer.new)) }
 {
-    if used.left == 0 {
-        answer.push_str(&used.text)?;
-        return Ok(());
-    }
     let front = cut_str(*answer.allocator(), text, used.left)?;
     answer.push_str(&front)?;
     answer.push_str(&used.text)?;
@@ -153,10 +220,8 @@ impl<'a, W, P> Truncate<'a, W, P> {
           transform = record self.entry.transform { suffix = suffix.entry };
         } }
     {
-        let transform = Truncating {
-            suffix,
-            ..self.transform
-        };
+        let mut transform = self.transform;
+        transform.suffix = suffix;
         Resize { transform, ..self }
     }
 
@@ -166,10 +231,8 @@ impl<'a, W, P> Truncate<'a, W, P> {
           transform = record self.entry.transform { limit = limit };
         } }
     {
-        let transform = Truncating {
-            limit,
-            ..self.transform
-        };
+        let mut transform = self.transform;
+        transform.limit = limit;
         Resize { transform, ..self }
     }
 

@@ -2,9 +2,10 @@
 ghost use Rattle.std.specs.Prelude.{◌≡◌, ◌≤◌, ◌<◌, ◌==◌, ◌&&◌, ℕ, IfErr, OnErr, OnOk, length, true};
 ghost use Rattle.tabled_set.specs.Common.{columns, covers, IsInside, Memory};
 ghost use Rattle.tabled_set.specs.CellChanges.{line_of, place_of, AreChanged, AreChangedBefore, ByRow};
-ghost use Rattle.tabled_set.specs.Walking.{AreCutInPlace, is_within, leaves, lines_in, needs, on_line, places_in};
+ghost use Rattle.tabled_set.specs.CellChanges.{AreCutInPlace, is_within, leaves, lines_in, needs, on_line, places_in};
 
-use crate::changing::{Change, ContentSizes, TextTransform};
+use crate::resize::{Change, ContentSizes, TextTransform};
+use std::ops::Range;
 use tabled_base::{Entity, ExactRecords, Position, RecordsMut, TableError};
 
 /// The order in which cells are changed. It decides which of them have changed after an error.
@@ -29,52 +30,34 @@ impl WalkOrder {
     }
 }
 
-/// Adjacent rows or columns: the first, and the one after the last.
-#[derive(Clone, Copy)]
-struct Band {
-    first: usize,
-    end: usize,
+/// Returns the range of one of `count` rows or columns, empty if `place` is out of range.
+fn one_of(place: usize, count: usize) -> Range<usize>
+    ensures within { (k : ℕ) → k < count → is_within result k ≡ (place == k) }
+    ensures end { result.end ≤ count }
+{
+    place..place.saturating_add(1).min(count)
 }
 
-impl Band {
-    fn all(count: usize) -> Band
-        ensures { result ≡ record { first = 0; end = count } }
-    {
-        Band {
-            first: 0,
-            end: count,
-        }
-    }
-
-    /// Returns the band of one of `count` rows or columns, empty if `place` is out of range.
-    fn one(place: usize, count: usize) -> Band
-        ensures within { (k : ℕ) → k < count → is_within result k ≡ (place == k) }
-        ensures end { result.end ≤ count }
-    {
-        Band {
-            first: place,
-            end: place.saturating_add(1).min(count),
-        }
-    }
-}
-
-/// Returns the rows and columns of an entity's cells.
-fn bands_of(entity: Entity, rows: usize, columns: usize) -> (Band, Band)
+fn bands_of(entity: Entity, rows: usize, columns: usize) -> (Range<usize>, Range<usize>)
     ensures cells { (r c : ℕ) → r < rows → c < columns
         → covers entity r c ≡ (is_within result.0 r && is_within result.1 c) }
     ensures rows { result.0.end ≤ rows }
     ensures columns { result.1.end ≤ columns }
 {
     match entity {
-        Entity::Global => (Band::all(rows), Band::all(columns)),
-        Entity::Row(row) => (Band::one(row, rows), Band::all(columns)),
-        Entity::Column(column) => (Band::all(rows), Band::one(column, columns)),
-        Entity::Cell(row, column) => (Band::one(row, rows), Band::one(column, columns)),
+        Entity::Global => (0..rows, 0..columns),
+        Entity::Row(row) => (one_of(row, rows), 0..columns),
+        Entity::Column(column) => (0..rows, one_of(column, columns)),
+        Entity::Cell(row, column) => (one_of(row, rows), one_of(column, columns)),
     }
 }
 
 /// Returns the lines of an entity's cells and their places in each.
-fn lines_of_entity<R: ExactRecords>(entity: Entity, order: WalkOrder, records: &R) -> (Band, Band)
+fn lines_of_entity<R: ExactRecords>(
+    entity: Entity,
+    order: WalkOrder,
+    records: &R,
+) -> (Range<usize>, Range<usize>)
     ensures cells { (r c : ℕ) → IsInside (R.cells records.now) r c
         → covers entity r c
         ≡ (is_within result.0 (line_of order r c) && is_within result.1 (place_of order r c)) }
@@ -88,27 +71,26 @@ fn lines_of_entity<R: ExactRecords>(entity: Entity, order: WalkOrder, records: &
     }
 }
 
-/// Changes the cells of a line at the places of a band.
 fn change_line<T: TextTransform, M: ContentSizes, R: RecordsMut>(
     by: &Change<'_, T, M>,
     records: &mut R,
     order: WalkOrder,
     line: usize,
-    band: Band,
+    band: &Range<usize>,
 ) -> Result<(), TableError>
     requires line_in { line < lines_in order (R.cells records.old) }
-    requires places_in { band.end ≤ places_in order (R.cells records.old) }
-    ensures ok { let it = by.now in OnOk result (AreChanged (on_line order line band)
+    requires places_in { band.now.end ≤ places_in order (R.cells records.old) }
+    ensures ok { let it = by.now in OnOk result (AreChanged (on_line order line band.now)
         (leaves it.cell_filter (T.makes it.transform.now) (M.content_size_at it.content_sizes.now))
         (R.cells records.old) (R.cells records.new)) }
-    ensures err { let it = by.now in OnErr result (AreChangedBefore order (on_line order line band)
+    ensures err { let it = by.now in OnErr result (AreChangedBefore order (on_line order line band.now)
         (needs it.cell_filter (T.shortens it.transform.now)
         (M.content_size_at it.content_sizes.now))
         (leaves it.cell_filter (T.makes it.transform.now) (M.content_size_at it.content_sizes.now))
         (R.cells records.old) (R.cells records.new)) }
     ensures only { IfErr result (λ e. e ≡ Memory) }
 {
-    'places: for place in band.first..band.end {
+    'places: for place in band.start..band.end {
         by.change_cell(records, order.cell(line, place))?;
     }
     Ok(())
@@ -131,26 +113,25 @@ fn walk_cells<T: TextTransform, M: ContentSizes, R: RecordsMut>(
     ensures only { IfErr result (λ e. e ≡ Memory) }
 {
     let (lines, places) = lines_of_entity(entity, order, records);
-    'lines: for line in lines.first..lines.end {
-        change_line(by, records, order, line, places)?;
+    'lines: for line in lines.start..lines.end {
+        change_line(by, records, order, line, &places)?;
     }
     Ok(())
 }
 
-/// Whether each cell of a row, in a band of columns, doesn't change or is cut in place.
 fn are_cut_in_place_in<T: TextTransform, M: ContentSizes, R: RecordsMut>(
     by: &Change<'_, T, M>,
     records: &R,
     row: usize,
-    band: Band,
+    band: &Range<usize>,
 ) -> bool
     requires row_in { row < length (R.cells records.now) }
-    requires columns_in { band.end ≤ columns (R.cells records.now) }
-    ensures { let it = by.now in result ≡ true → AreCutInPlace (on_line ByRow row band)
+    requires columns_in { band.now.end ≤ columns (R.cells records.now) }
+    ensures { let it = by.now in result ≡ true → AreCutInPlace (on_line ByRow row band.now)
         it.cell_filter (T.shortens it.transform.now)
         (M.content_size_at it.content_sizes.now) (R.cells records.now) }
 {
-    'columns: for column in band.first..band.end {
+    'columns: for column in band.start..band.end {
         if !by.is_cut_in_place(records, Position { row, column }) {
             return false;
         }
@@ -169,8 +150,8 @@ fn are_cut_in_place<T: TextTransform, M: ContentSizes, R: RecordsMut>(
         (M.content_size_at it.content_sizes.now) (R.cells records.now) }
 {
     let (rows, columns) = bands_of(entity, records.count_rows(), records.count_columns());
-    'rows: for row in rows.first..rows.end {
-        if !are_cut_in_place_in(by, records, row, columns) {
+    'rows: for row in rows.start..rows.end {
+        if !are_cut_in_place_in(by, records, row, &columns) {
             return false;
         }
     }

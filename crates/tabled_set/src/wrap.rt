@@ -7,10 +7,9 @@ ghost use Rattle.tabled_set.specs.Promised.{AfterClearing, WrapsAsPromised};
 ghost use Rattle.tabled_text.specs.Breaking.{EachUnitFits, HasFewestLines, IsLeastBreaking};
 ghost use Rattle.tabled_text.specs.Wrapping.{IsWrapped};
 
-use crate::changing::{Beginning, CellFilter, TextTransform};
 use crate::measurement::{Measurement, Width};
 use crate::narrowing::narrow_table;
-use crate::resize::Resize;
+use crate::resize::{Beginning, CellFilter, Resize, TextTransform};
 use std::alloc::Global;
 use tabled_base::{Entity, RecordsMut, TableError, TableOption};
 use tabled_config::ColoredConfig;

@@ -2,7 +2,7 @@ use Rattle.std.proofs.Common.{◌≡◌, ◌∙◌, [], None, Some, ap, arith, f
 use Rattle.std.proofs.lemmas.Grind.{common_steps}
 use Rattle.tabled_base.specs.declared.position.Entity.TheVariants.{Row}
 use Rattle.tabled_set.specs.CellChanges.{if_wider, truncating}
-use Rattle.tabled_set.specs.declared.suffix.SuffixLimit.TheVariants.{Cut}
+use Rattle.tabled_set.specs.declared.truncate.SuffixLimit.TheVariants.{Cut}
 use Rattle.tabled_config.specs.declared.colored.ColoredConfig.{ColoredConfig}
 use Rattle.tabled_config.specs.declared.spanned.SpannedConfig.{SpannedConfig}
 use Rattle.tabled_set.specs.Narrowed.{Narrows}

@@ -1,5 +1,4 @@
-use Rattle.tabled_set.proofs.Bare.{IsCut-truncated, longest_lines, longest_truncated}
-use Rattle.tabled_set.proofs.TruncatedTexts.{StaysWithin-truncated, fits-truncated}
+use Rattle.tabled_set.proofs.TruncatedTexts.{IsCut-truncated, longest_lines, longest_truncated, StaysWithin-truncated, fits-truncated}
 use Rattle.tabled_set.proofs.laws.truncated_texts.Goals as goal
 
 pub returns : goal.returns

@@ -1,10 +1,10 @@
-use Rattle.std.proofs.Common.{◌≡◌, ℕ, ◌≤◌, ◌<◌, ◌⊎◌, ◌∙◌, IfErr, List, MatchOption, None, Option, Some, false, inl, refl, rules, subst}
+use Rattle.std.proofs.Common.{◌≡◌, ℕ, ◌≤◌, ◌<◌, ◌⊎◌, ◌∙◌, IfErr, MatchOption, None, Option, Some, false, inl, refl, rules, subst}
 use Rattle.std.proofs.lemmas.Result.{err_from_is_err_and}
 use Rattle.tabled_set.specs.Common.{effective, is_empty, is_stored, Memory, Range, Sheet, total_width}
 use Rattle.tabled_set.specs.CellChanges.{if_taken}
 use Rattle.tabled_set.specs.Narrowed.{NarrowingOutOfRange, StopsNarrowing, IsFound}
 use Rattle.tabled_set.specs.declared.narrowing.ColumnWidths.{ColumnWidths}
-use Rattle.tabled_set.proofs.ChangingColumns.{widths-before, widths-made}
+use Rattle.tabled_set.proofs.NarrowingTables.{widths-before, widths-made}
 use Rattle.tabled_set.proofs.NarrowingTables.{fails-lacking, if-err, narrows-none, narrows-some, passes-before, stops-some, stops-wider}
 use Rattle.tabled_set.proofs.Stopping.{stops-measuring}
 use Rattle.tabled_set.specs.Priorities.{Shrinks}

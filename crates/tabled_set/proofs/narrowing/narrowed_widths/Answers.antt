@@ -4,7 +4,7 @@ use Rattle.tabled_set.proofs.narrowing.narrowed_widths.Goals as goal
 
 pub shrunk-requires : goal.shrunk-requires
 shrunk-requires g c =
-    minimums-fit (g.R.ExactRecords.cells c.args.records.now) c.args.config.now c.stored_widths.result.now
-    c.first_sizes-widths.result.now c.deref.result.now c.count_columns-columns.result
-    c.count_columns-columns.ensures.columns c.first_sizes-widths.ensures.first
-    (c.deref.ensures.value ∙ c.truncate.ensures.items ∙ ap (take (length c.first_sizes-widths.result.now)) c.in_ok-mins.ensures.ok)
+    let cells = g.R.ExactRecords.cells c.args.records.now in
+    let widths = c.in_ok-widths.widths.now in
+    minimums-fit cells c.args.config.now c.args.sizes.now widths c.deref.result.now c.in_ok-widths.ensures.widths
+    (c.deref.ensures.value ∙ c.truncate.ensures.items ∙ ap (take (length widths)) c.in_ok-mins.ensures.ok)

@@ -1,7 +1,6 @@
 use Rattle.std.proofs.Common.{◌&&◌}
 use Rattle.tabled_set.specs.Common.{covers}
-use Rattle.tabled_set.specs.CellChanges.{precedes, ByRow}
-use Rattle.tabled_set.specs.Walking.{AreCutInPlace}
+use Rattle.tabled_set.specs.CellChanges.{precedes, ByRow, AreCutInPlace}
 use Rattle.tabled_set.proofs.walk.are_cut_in_place.Given as goal
 
 abbrev pub invariant-rows : goal.invariant-rows

@@ -1,6 +1,5 @@
 use Rattle.std.proofs.Common.{◌&&◌}
-use Rattle.tabled_set.specs.CellChanges.{precedes, ByRow}
-use Rattle.tabled_set.specs.Walking.{AreCutInPlace, on_line}
+use Rattle.tabled_set.specs.CellChanges.{precedes, ByRow, AreCutInPlace, on_line}
 use Rattle.tabled_set.proofs.walk.are_cut_in_place_in.Given as goal
 
 abbrev pub invariant-columns : goal.invariant-columns

@@ -1,7 +1,6 @@
 use Rattle.std.proofs.Common.{arith}
 use Rattle.std.proofs.lemmas.Result.{err_from_is_err_and}
-use Rattle.tabled_set.proofs.ChangingCells.{AreChanged-next}
-use Rattle.tabled_set.proofs.WalkLemmas.{on_line-itself, on_line-next, stops-there}
+use Rattle.tabled_set.proofs.ChangingCells.{AreChanged-next, on_line-itself, on_line-next, stops-there}
 use Rattle.tabled_set.proofs.walk.change_line.Goals as goal
 
 pub places-preserved : goal.places-preserved
@@ -11,13 +10,13 @@ places-preserved g c =
     let line = c.args.line in
     let place = c.places.place in
     AreChanged-next at.row at.column c.places.invariant c.in_ok-change_cell.ensures.ok
-    (on_line-itself order at.row at.column line place c.args.band c.cell.ensures.line c.cell.ensures.place) (λ before after h. h)
-    (λ r k. on_line-next order at.row at.column line place r k c.args.band c.cell.ensures.line c.cell.ensures.place (omega arith) (omega arith))
+    (on_line-itself order at.row at.column line place c.args.band.now c.cell.ensures.line c.cell.ensures.place) (λ before after h. h)
+    (λ r k. on_line-next order at.row at.column line place r k c.args.band.now c.cell.ensures.line c.cell.ensures.place (omega arith) (omega arith))
 
 pub returns-in_err-change_cell-clause-err : goal.returns-in_err-change_cell-clause-err
 returns-in_err-change_cell-clause-err g c =
     let at = c.cell.result in
     let p = err_from_is_err_and c.from_residual.result c.from_residual.ensures.1 in
     rw p.1
-    (stops-there c.args.order c.args.band c.args.line c.places.place at.row at.column c.cell.ensures.line c.cell.ensures.place (omega arith) (omega arith) (omega arith) (omega arith)
+    (stops-there c.args.order c.args.band.now c.args.line c.places.place at.row at.column c.cell.ensures.line c.cell.ensures.place (omega arith) (omega arith) (omega arith) (omega arith)
     c.places.invariant c.in_err-change_cell.ensures.err c.in_err-change_cell.ensures.needed)

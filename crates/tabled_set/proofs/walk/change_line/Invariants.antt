@@ -1,6 +1,5 @@
 use Rattle.std.proofs.Common.{◌&&◌}
-use Rattle.tabled_set.specs.CellChanges.{AreChanged, precedes}
-use Rattle.tabled_set.specs.Walking.{leaves, on_line}
+use Rattle.tabled_set.specs.CellChanges.{AreChanged, precedes, leaves, on_line}
 use Rattle.tabled_set.proofs.walk.change_line.Given as goal
 
 abbrev pub invariant-places : goal.invariant-places

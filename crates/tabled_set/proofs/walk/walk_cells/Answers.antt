@@ -1,8 +1,7 @@
 use Rattle.std.proofs.Common.{arith}
 use Rattle.std.proofs.lemmas.Result.{err_from_is_err_and}
 use Rattle.tabled_set.specs.Common.{covers}
-use Rattle.tabled_set.proofs.ChangingCells.{AreChanged-both}
-use Rattle.tabled_set.proofs.WalkLemmas.{lines-more, stops-later}
+use Rattle.tabled_set.proofs.ChangingCells.{AreChanged-both, lines-more, stops-later}
 use Rattle.tabled_set.proofs.walk.walk_cells.Goals as goal
 
 pub returns-in_err-change_line-clause-err : goal.returns-in_err-change_line-clause-err

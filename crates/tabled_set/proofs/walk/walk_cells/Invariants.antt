@@ -1,7 +1,6 @@
 use Rattle.std.proofs.Common.{◌&&◌}
 use Rattle.tabled_set.specs.Common.{covers}
-use Rattle.tabled_set.specs.CellChanges.{AreChanged, precedes}
-use Rattle.tabled_set.specs.Walking.{leaves}
+use Rattle.tabled_set.specs.CellChanges.{AreChanged, precedes, leaves}
 use Rattle.tabled_set.proofs.walk.walk_cells.Given as goal
 
 abbrev pub invariant-lines : goal.invariant-lines

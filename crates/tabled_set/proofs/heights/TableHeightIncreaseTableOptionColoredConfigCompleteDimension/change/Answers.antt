@@ -1,7 +1,6 @@
 use Rattle.std.proofs.Common.{◌≡◌, ℕ, ◌+◌, ◌-◌, ◌<◌, ◌∙◌, List, ap, arith, false, rules, subst, sum, sym}
 use Rattle.tabled_set.specs.Common.{estimated, estimated_heights, is_empty, SpannedConfig, total_height}
-use Rattle.tabled_set.proofs.GrowingTables.{heights-fit}
-use Rattle.tabled_set.proofs.PromisedSizes.{heightened, heightens}
+use Rattle.tabled_set.proofs.PromisedSizes.{heights-fit, heightened, heightens}
 use Rattle.tabled_set.proofs.heights.TableHeightIncreaseTableOptionColoredConfigCompleteDimension.change.Goals as goal
 
 pub grown-requires : goal.grown-requires

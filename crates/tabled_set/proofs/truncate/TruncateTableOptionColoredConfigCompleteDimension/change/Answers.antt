@@ -2,7 +2,7 @@ use Rattle.std.proofs.Common.{◌≡◌, IfErr, false, refl, rules, subst}
 use Rattle.std.proofs.lemmas.Result.{on_ok_weaker}
 use Rattle.tabled_set.specs.Common.{is_empty, SpannedConfig, TableError}
 use Rattle.tabled_set.specs.CellChanges.{if_wider, truncating, Wider}
-use Rattle.tabled_set.specs.InPlace.{truncating_in_place}
+use Rattle.tabled_set.specs.Truncated.{truncating_in_place}
 use Rattle.tabled_set.specs.Narrowed.{Narrows, StopsNarrowing}
 use Rattle.tabled_set.proofs.Promises.{truncates}
 use Rattle.tabled_set.proofs.Stopping.{stops-filled}

@@ -1,8 +1,8 @@
 use Rattle.std.proofs.Common.{◌≡◌, [], ◌+◌, ◌-◌, ◌<◌, Some, None, ap, ◌∙◌, arith}
 use Rattle.std.proofs.lemmas.Bool.{cond_below}
 use Rattle.tabled_set.specs.Truncated.{suffix_columns}
-use Rattle.tabled_set.proofs.Endings.{taken, left_beside}
-use Rattle.tabled_set.proofs.suffix.columns_beside.Goals as goal
+use Rattle.tabled_set.proofs.JoinedLines.{taken, left_beside}
+use Rattle.tabled_set.proofs.truncate.columns_beside.Goals as goal
 
 pub overflow_add-result : goal.overflow_add-result
 overflow_add-result c =

@@ -1,8 +1,8 @@
 use Rattle.std.proofs.Common.{◌≡◌, ◌+◌}
 use Rattle.tabled_text.specs.Lines.{lines_left}
 use Rattle.tabled_set.specs.Common.{lines_of}
-use Rattle.tabled_set.proofs.Endings.{taken}
-use Rattle.tabled_set.proofs.suffix.columns_beside.Given as goal
+use Rattle.tabled_set.proofs.JoinedLines.{taken}
+use Rattle.tabled_set.proofs.truncate.columns_beside.Given as goal
 
 abbrev pub invariant-loop-line : goal.invariant-loop-line
 invariant-loop-line l = l.left + taken (lines_of l.suffix) ≡ l.content_size + taken (lines_left l.line-iterator)
