@@ -10,7 +10,6 @@ ghost use Rattle.tabled.specs.Arguments.{name_of, order_word};
 
 use crate::plan::{Order, Plan};
 
-/// A setting, with its value.
 #[derive(Clone, Copy)]
 enum Argument {
     /// `--wrap N`
@@ -25,7 +24,6 @@ enum Argument {
     Stream,
 }
 
-/// The settings that are read so far.
 #[derive(Clone, Copy, Default)]
 struct Arguments {
     wrap: Option<usize>,
@@ -46,7 +44,6 @@ fn number_of(word: &str) -> Option<usize>
     word.parse().ok()
 }
 
-/// Returns the order of a name.
 fn order_of(word: &str) -> Option<Order>
     ensures { (order : Order) → (result ≡ Some order) ↔ (word.now ≡ order_word order) }
 {
@@ -60,7 +57,6 @@ fn order_of(word: &str) -> Option<Order>
     }
 }
 
-/// Returns the setting of a name and a value.
 fn valued_argument(name: &str, value: &str) -> Option<Argument>
     ensures { MatchOption result
         ((setting : Argument) → name.now ≡ name_of setting → ¬ HasValues setting (value.now ∷ []))
@@ -74,7 +70,6 @@ fn valued_argument(name: &str, value: &str) -> Option<Argument>
     }
 }
 
-/// Returns the first setting, and the arguments after it.
 fn first_argument(words: &[String]) -> Option<(Argument, &[String])>
     ensures { MatchOption result
         ((setting : Argument) (rest : List (List ℕ))

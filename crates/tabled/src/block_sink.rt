@@ -86,7 +86,6 @@ impl<'a, W: Write> BlockSink<'a, W> {
         }
     }
 
-    /// Adds a text as a `TextSink` does.
     #[inline(always)]
     fn add_text(&mut self, text: &str) -> Result<(), TableError>
         ensures written { Writes (block_sent (block W.contents self.old)) result

@@ -4,7 +4,6 @@ ghost use Rattle.tabled.specs.Faults.{fault_of, line_of, word_of};
 
 use tabled_base::TableError;
 
-/// A failure, with its message.
 #[derive(Debug, Drop)]
 pub(crate) enum Fault {
     /// The arguments are wrong.

@@ -8,7 +8,6 @@ use tabled_size::{
     Peaker, PriorityLeft, PriorityMax, PriorityMin, PriorityNone, PriorityRight, Steps, TakesAll,
 };
 
-/// A priority for each `Order`.
 #[derive(Clone, Copy)]
 pub(crate) struct OrderPriority {
     order: Order,

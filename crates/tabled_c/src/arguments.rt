@@ -8,7 +8,6 @@ ghost use Rattle.tabled_c.specs.Asked.{Asks, order_number, style_of, style_word}
 use tabled::settings::Style;
 use tabled::{Order, Plan};
 
-/// The name of a style.
 #[derive(Clone, Copy, Debug)]
 pub(crate) enum StyleName {
     Ascii,
@@ -19,7 +18,6 @@ pub(crate) enum StyleName {
     Empty,
 }
 
-/// Returns the style name that a word spells.
 pub(crate) fn style_named(word: &[u8]) -> Option<StyleName>
     ensures { (name : StyleName) → (result ≡ Some name) ↔ (word.now ≡ style_word name) }
 {
@@ -34,7 +32,6 @@ pub(crate) fn style_named(word: &[u8]) -> Option<StyleName>
     }
 }
 
-/// Returns the style of a name.
 pub(crate) fn style_of(name: StyleName) -> Style
     ensures { result ≡ style_of name }
 {
@@ -48,7 +45,6 @@ pub(crate) fn style_of(name: StyleName) -> Style
     }
 }
 
-/// Returns the order of a number.
 fn order_of(number: u32) -> Option<Order>
     ensures { (order : Order) → (result ≡ Some order) ↔ (number ≡ order_number order) }
 {

@@ -2,7 +2,6 @@
 ghost use Rattle.std.specs.Prelude.{◌≡◌};
 ghost use Rattle.tabled_c.specs.Answers.{code_of};
 
-/// The cause of an error.
 #[derive(Clone, Copy, Debug)]
 pub(crate) enum ErrorCode {
     /// An allocation failed.

@@ -50,7 +50,6 @@ pub trait LabelFn {
     // Whether the function may return the result for the index.
     ghost gives: { Self → ℕ → Result (String Global) AllocError → Type 0 };
 
-    /// Returns the label for an index.
     fn text_at(&self, index: usize) -> Result<String, AllocError>
         requires { callable self.now }
         ensures { gives self.now index result };

@@ -123,7 +123,6 @@ fn truncate_row(
     Ok(())
 }
 
-/// Truncates the cells of a row if there is a width limit.
 fn truncate_if_limited(
     alloc: Global,
     row: &mut Vec<Text<String>>,

@@ -1,7 +1,6 @@
 //! Where the batches of a table's rows begin.
-ghost use Rattle.std.specs.Prelude.{◌≡◌, ◌+◌, ◌<◌, ◌^◌, [], ℕ, IsFalse, IsTrue, length};
+ghost use Rattle.std.specs.Prelude.{◌≡◌, ◌+◌, ◌<◌, ◌^◌, [], ℕ, IsFalse, IsTrue, length, slice_get};
 ghost use Rattle.std.specs.Iterator.{YieldsFirst, item_count};
-ghost use Rattle.std.specs.List.{slice_get};
 ghost use Rattle.tabled_table.specs.Batches.{batch_at, batches_left};
 ghost use Rattle.tabled_table.specs.TableSheet.{cells_of};
 
@@ -41,7 +40,6 @@ impl LayoutIterator {
         LayoutIterator::new(0, table.count_rows(), T::length())
     }
 
-    /// Whether no number is left.
     #[tactic(auto, using(crate::proofs::Progressions::done_left, crate::proofs::Progressions::empty_left))]
     fn is_done(&self) -> bool
         ensures done { IsTrue result → batches_left self.now ≡ [] }

@@ -164,7 +164,6 @@ impl<I> IterTable<I> {
     }
 }
 
-/// Collects all rows of an iterator.
 fn collect_rows<I: Iterator<Item = W>, W: IntoIterator<Item = C>, C: Drop>(
     alloc: Global,
     rows: &mut I,

@@ -1,5 +1,5 @@
 //! Laws of tables and of streamed tables, each the contract of a function.
-ghost use Rattle.std.specs.Prelude.{◌≡◌, ℕ, List, length, ◌<◌, ◌++◌, All};
+ghost use Rattle.std.specs.Prelude.{◌≡◌, ℕ, List, length, ◌<◌, ◌++◌, All, IsUtf8};
 ghost use Rattle.tabled_base.specs.Cells.{columns, IsRectangular};
 ghost use Rattle.tabled_size.specs.Holds.{Holds};
 ghost use Rattle.tabled_grid.specs.ApartSheet.{IsApartConfig};
@@ -7,7 +7,6 @@ ghost use Rattle.tabled_grid.specs.PlainSheet.{IsPlainConfig};
 ghost use Rattle.tabled_table.specs.NewTable.{IsNew};
 ghost use Rattle.tabled_table.specs.TableSheet.{new_sheet, sheet};
 ghost use Rattle.tabled_table.specs.declared.table.Table.{Table};
-ghost use Rattle.std.specs.Str.{IsUtf8};
 ghost use Rattle.tabled_text.specs.Cut.{IsCut};
 ghost use Rattle.tabled_text.specs.Measure.{lines_of};
 ghost use Rattle.tabled_text.specs.Plain.{IsAdditive};

@@ -1,7 +1,6 @@
 //! Makes tables of values and of rows.
-ghost use Rattle.std.specs.Prelude.{◌≡◌, ◌∷◌, List, IfErr, IfOk, map};
+ghost use Rattle.std.specs.Prelude.{◌≡◌, ◌∷◌, List, IfErr, IfOk, map, flat_map};
 ghost use Rattle.std.specs.Iterator.{IsFiniteIterable};
-ghost use Rattle.std.specs.List.{flat_map};
 ghost use Rattle.tabled_base.specs.Cells.{lengthened_rows};
 ghost use Rattle.tabled_base.specs.declared.error.TableError.TheVariants.{Memory};
 ghost use Rattle.tabled_value.specs.ValueRows.{pairs};

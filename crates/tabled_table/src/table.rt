@@ -80,7 +80,6 @@ impl Table {
         }
     }
 
-    /// Returns the records, and drops settings and sizes.
     fn into_records(self) -> VecRecords<Text<String>>
         ensures { result ≡ self.records }
     {

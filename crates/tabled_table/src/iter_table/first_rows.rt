@@ -1,6 +1,5 @@
 //! Reads the first rows of a stream, lays out its columns by them, and prints it.
-ghost use Rattle.std.specs.Prelude.{◌≡◌, ◌<◌, ◌≤◌, ◌^◌, ◌⊎◌, ℕ, Bool, List, IfErr, IfOk, map};
-ghost use Rattle.std.specs.List.{slice_index_or};
+ghost use Rattle.std.specs.Prelude.{◌≡◌, ◌<◌, ◌≤◌, ◌^◌, ◌⊎◌, ℕ, Bool, List, IfErr, IfOk, map, slice_index_or};
 ghost use Rattle.tabled_base.specs.Cells.{texts_of};
 ghost use Rattle.tabled_base.specs.declared.error.TableError.TheVariants.{Memory, Range};
 ghost use Rattle.tabled_records.specs.Reading.{MayGive, ReadsTo};
@@ -19,7 +18,6 @@ use tabled_config::{AlignmentVertical, CellStyle, CompactConfig, SpannedConfig};
 use tabled_line::{ColumnSeparator, TextSink, UniformPlacement};
 use tabled_records::reading::take_rows;
 
-/// The settings of a stream and the allocator.
 #[derive(Drop)]
 pub(crate) struct Printer<'a> {
     pub alloc: Global,

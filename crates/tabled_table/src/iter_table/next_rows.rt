@@ -21,7 +21,6 @@ use tabled_base::{CellText, TableError, Text};
 use tabled_line::{Cursor, FEW_CURSORS, LinePrinter, TextSink};
 use tabled_records::reading::{Taken, next_cells};
 
-/// A stream while it is printed.
 #[derive(Drop)]
 pub(crate) struct Stream<'a> {
     alloc: Global,

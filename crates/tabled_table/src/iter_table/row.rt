@@ -1,7 +1,6 @@
 //! The columns of a stream, and a row of it that is cut to them.
-ghost use Rattle.std.specs.Prelude.{◌≡◌, ◌<◌, ◌^◌, [], ℕ, IfErr, IfOk, length, map, min};
+ghost use Rattle.std.specs.Prelude.{◌≡◌, ◌<◌, ◌^◌, [], ℕ, IfErr, IfOk, length, map, min, slice_index_or};
 ghost use Rattle.tabled_table.specs.Stream.Row.{content_at, layout_columns, layout_row, width_at};
-ghost use Rattle.std.specs.List.{slice_index_or};
 ghost use Rattle.tabled_base.specs.declared.error.TableError.TheVariants.{Memory};
 ghost use Rattle.tabled_base.specs.Cells.{lengthened};
 ghost use Rattle.tabled_text.specs.Cut.{IsCut};

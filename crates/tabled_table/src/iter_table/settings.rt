@@ -31,7 +31,6 @@ pub(crate) fn ahead(settings: &StreamSettings) -> usize
     }
 }
 
-/// Whether no further row may be printed.
 pub(crate) fn is_none_left(left: Option<usize>) -> bool
     ensures going { result ≡ false → left ≢ Some 0 }
     ensures reached { result ≡ true → left ≡ Some 0 }
