@@ -6,7 +6,7 @@ use Rattle.std.specs.declared.vec.Vec.{Vec}
 use Rattle.std.proofs.lemmas.List.{map-append}
 use Rattle.tabled_base.specs.Cells.{row_texts}
 use Rattle.tabled_base.specs.Given.{Given}
-use Rattle.tabled_value.proofs.Joining.{all_zip-more}
+use Rattle.std.proofs.lemmas.Slice.Zip.{all_zipped_more}
 use Rattle.tabled_value.proofs.RowsAdded.{row_texts-push}
 
 -- the cells of the lists so far have the texts of the rows
@@ -26,7 +26,7 @@ pub collected-more : {W T A : Type 0} {becomes : W → T → Type 0} {steps : T 
     → row.items ≡ map text items → Collected becomes steps text (lists ++ list ∷ []) (row_texts new)
 collected-more {becomes = becomes} {steps = steps} {text = text} {lists = lists} {list = list} {items = items} rows new row h e given t = record {
   cells = h.cells ++ items ∷ [];
-  each = all_zip-more (Given becomes steps) lists h.cells list items h.each given;
+  each = all_zipped_more (Given becomes steps) lists h.cells list items h.each given;
   texts =
       ap row_texts e ∙ row_texts-push rows row ∙ ap (λ u. u ++ row.items ∷ []) h.texts
       ∙ ap (λ (t' : List (List ℕ)). map (map text) h.cells ++ t' ∷ []) t

@@ -5,7 +5,7 @@ use Rattle.std.specs.declared.alloc.Global.{Global}
 use Rattle.std.specs.declared.vec.Vec.{Vec}
 use Rattle.std.proofs.lemmas.List.{map-append}
 use Rattle.tabled_base.specs.Cells.{row_texts}
-use Rattle.tabled_value.proofs.Joining.{all_zip-more}
+use Rattle.std.proofs.lemmas.Slice.Zip.{all_zipped_more}
 use Rattle.tabled_value.proofs.RowsAdded.{row_texts-push}
 use Rattle.tabled_extended.specs.Escaped.{escaped}
 
@@ -23,7 +23,7 @@ pub escaped-more : {V : Type 0} (shows : V → List (List ℕ) → Type 0) (valu
     → shows value texts → row.items ≡ map escaped texts → AreEscaped shows (values ++ value ∷ []) (row_texts new)
 escaped-more shows values rows new row value texts h e r t = record {
   rows = h.rows ++ texts ∷ [];
-  each = all_zip-more shows values h.rows value texts h.each r;
+  each = all_zipped_more shows values h.rows value texts h.each r;
   whole =
       ap row_texts e ∙ row_texts-push rows row ∙ ap (λ u. u ++ row.items ∷ []) h.whole
       ∙ ap (λ (t' : List (List ℕ)). map (map escaped) h.rows ++ t' ∷ []) t
