@@ -34,7 +34,7 @@ fn a_table_is_displayed_without_a_width(rt: HostRuntime) -> Result<(), Fail> {
     Ok(())
 }
 
-// A text in so many rows and columns, each of one box.
+// A text in n rows and columns, each of one box.
 fn wrapped(alloc: Global, levels: usize) -> Result<TableValue, TableError> {
     let mut value = TableValue::Cell(String::from_str(alloc, "a")?);
     for level in 0..levels {

@@ -10,7 +10,7 @@ use tabled_base::{CellText, TableError};
 use tabled_line::IoSink;
 use tabled_table::IterTable;
 
-// Takes so many bytes, and then none.
+// Takes n bytes, and then none.
 #[derive(Drop)]
 struct Narrow {
     left: usize,
@@ -46,7 +46,7 @@ fn hundred(alloc: Global) -> Result<Source, TableError> {
     Ok(vec![in alloc; [Word {}, Word {}]; 100]?.into_iter())
 }
 
-// Sniffs so many rows, of which so many are shown, and returns how many of the source are left.
+// Sniffs some rows, shows some of them, and returns how many of the source are left.
 fn left(alloc: Global, sniffed: usize, shown: usize) -> Result<usize, TableError> {
     let mut rows = hundred(alloc)?;
     let mut table = IterTable::new(&mut rows);
@@ -67,7 +67,7 @@ fn no_row_is_taken_that_is_neither_sniffed_nor_shown(rt: HostRuntime) -> Result<
     Ok(())
 }
 
-// Prints through a writer that takes so many bytes, and returns how many rows are left.
+// Prints through a writer that takes n bytes, and returns how many rows are left.
 fn left_behind(rows: &mut Source, alloc: Global, bytes: usize) -> (Result<(), TableError>, usize) {
     let mut table = IterTable::new(&mut *rows);
     table.sniff(1);

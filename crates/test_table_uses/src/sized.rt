@@ -1,4 +1,4 @@
-//! Tables of which a caller tells the total: what is told here follows from `with` alone.
+//! Tables whose total a caller knows from the contract of `with` alone.
 ghost use Rattle.std.specs.Prelude.{◌≡◌, ◌<◌, OnOk, false, length, max, true};
 ghost use Rattle.tabled_set.specs.BestNarrowing.{HasLeastWidth, IsBestWrapped};
 ghost use Rattle.tabled_set.specs.ExactTotal.{empty_width};
