@@ -71,21 +71,21 @@ module _ {T : Type 0} where
 
   -- what the change at a place says, and else what the whole table has
   abbrev pub said_at : T → List (Entity × T) → Option ℕ → T
-  said_at whole parts None = whole
-  said_at whole parts (Some i) = (get_or parts (length parts - 1 - i) (Global, whole)).1
+  said_at global parts None = global
+  said_at global parts (Some i) = (get_or parts (length parts - 1 - i) (Global, global)).1
 
-  said_at-more : (whole : T) (part : Entity × T) (earlier : List (Entity × T)) (o : Option ℕ)
-      → IsBelow (length earlier) o → said_at whole (part ∷ earlier) o ≡ said_at whole earlier o
-  said_at-more whole part earlier None h = refl
-  said_at-more whole part earlier (Some i) h =
+  said_at-more : (global : T) (part : Entity × T) (earlier : List (Entity × T)) (o : Option ℕ)
+      → IsBelow (length earlier) o → said_at global (part ∷ earlier) o ≡ said_at global earlier o
+  said_at-more global part earlier None h = refl
+  said_at-more global part earlier (Some i) h =
       let k : i < length earlier = h in
       let e : length (part ∷ earlier) - 1 - i ≡ suc (length earlier - 1 - i) = omega arith in
-      ap (λ n. (get_or (part ∷ earlier) n (Global, whole)).1) e
+      ap (λ n. (get_or (part ∷ earlier) n (Global, global)).1) e
 
-  said_at-newest : (whole : T) (part : Entity × T) (earlier : List (Entity × T)) → said_at whole (part ∷ earlier) (Some (length earlier)) ≡ part.1
-  said_at-newest whole part earlier =
+  said_at-newest : (global : T) (part : Entity × T) (earlier : List (Entity × T)) → said_at global (part ∷ earlier) (Some (length earlier)) ≡ part.1
+  said_at-newest global part earlier =
       let e : length (part ∷ earlier) - 1 - length earlier ≡ 0 = omega arith in
-      ap (λ n. (get_or (part ∷ earlier) n (Global, whole)).1) e
+      ap (λ n. (get_or (part ∷ earlier) n (Global, global)).1) e
 
   -- one change more is the latest for the cells that it covers
   place-more : (entity : Entity) (value : T) (earlier : List (Entity × T)) (row column : ℕ)
@@ -127,15 +127,15 @@ module _ {T : Type 0} where
   none-before (Column c) value earlier h = h
   none-before (Cell r c) value earlier h = h
 
-  pub said_at-latest : (whole : T) (parts : List (Entity × T)) (row column : ℕ) → last_for Global parts ≡ None
-      → said_at whole parts (latest_place parts row column) ≡ first_covering whole parts row column
-  said_at-latest whole [] row column h = refl
-  said_at-latest whole (part ∷ earlier) row column h =
-      ap (said_at whole (part ∷ earlier)) (place-more part.0 part.1 earlier row column h)
-      ∙ elim (covers part.0 row column) as (λ t. said_at whole (part ∷ earlier)
-      (cond t (Some (length earlier)) (latest_place earlier row column)) ≡ cond t part.1 (first_covering whole earlier row column)) [
-        | true ↦ said_at-newest whole part earlier
+  pub said_at-latest : (global : T) (parts : List (Entity × T)) (row column : ℕ) → last_for Global parts ≡ None
+      → said_at global parts (latest_place parts row column) ≡ first_covering global parts row column
+  said_at-latest global [] row column h = refl
+  said_at-latest global (part ∷ earlier) row column h =
+      ap (said_at global (part ∷ earlier)) (place-more part.0 part.1 earlier row column h)
+      ∙ elim (covers part.0 row column) as (λ t. said_at global (part ∷ earlier)
+      (cond t (Some (length earlier)) (latest_place earlier row column)) ≡ cond t part.1 (first_covering global earlier row column)) [
+        | true ↦ said_at-newest global part earlier
         | false ↦
-            said_at-more whole part earlier (latest_place earlier row column) (below-latest_place earlier row column)
-            ∙ said_at-latest whole earlier row column (none-before part.0 part.1 earlier h)
+            said_at-more global part earlier (latest_place earlier row column) (below-latest_place earlier row column)
+            ∙ said_at-latest global earlier row column (none-before part.0 part.1 earlier h)
       ]

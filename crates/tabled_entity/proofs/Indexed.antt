@@ -24,38 +24,38 @@ module _ {T : Type 0} where
       ∙ (ap (λ b. later (last_for (Row row) parts) (later b (found places (Cell row column)))) (p.found (Column column))
       ∙ ap (λ d. later (last_for (Row row) parts) (later (last_for (Column column) parts) d)) (p.found (Cell row column)))
 
-  said_at-placed : (whole : T) (places : ChangeIndex) (parts : List (Entity × T)) (row column : ℕ) (o : Option ℕ)
-      → IsIndexed places parts → o ≡ latest_place parts row column → said_at whole parts o ≡ first_covering whole parts row column
-  said_at-placed whole places parts row column o p e =
-      ap (said_at whole parts) e ∙ said_at-latest whole parts row column (sym (p.found Global))
+  said_at-placed : (global : T) (places : ChangeIndex) (parts : List (Entity × T)) (row column : ℕ) (o : Option ℕ)
+      → IsIndexed places parts → o ≡ latest_place parts row column → said_at global parts o ≡ first_covering global parts row column
+  said_at-placed global places parts row column o p e =
+      ap (said_at global parts) e ∙ said_at-latest global parts row column (sym (p.found Global))
 
   -- the value of a change, by its index from the earliest
-  value_of-said : (whole : T) (items : List (Entity × T)) (o : Option ℕ) → IsBelow (length (reverse items)) o
-      → value_of whole items o ≡ said_at whole (reverse items) o
-  value_of-said whole items None h = refl
-  value_of-said whole items (Some i) h =
-      let none : Entity × T = (Global, whole) in
+  value_of-said : (global : T) (items : List (Entity × T)) (o : Option ℕ) → IsBelow (length (reverse items)) o
+      → value_of global items o ≡ said_at global (reverse items) o
+  value_of-said global items None h = refl
+  value_of-said global items (Some i) h =
+      let none : Entity × T = (Global, global) in
       let below : i < length (reverse items) = h in
       let within : i < length items = subst (λ (n : ℕ). i < n) (length-reverse items) below in
-      ap (λ o. unwrap_or (option_map (λ change. change.1) o) whole) (slice_get-get_or items i none within)
+      ap (λ o. unwrap_or (option_map (λ change. change.1) o) global) (slice_get-get_or items i none within)
       ∙ ap (λ change. change.1) (item-reversed items i none below)
 
   -- the value of the latest change for a cell is the latest that covers it
-  pub value_of-latest : (whole : T) (places : ChangeIndex) (items : List (Entity × T)) (row column : ℕ) (o : Option ℕ)
+  pub value_of-latest : (global : T) (places : ChangeIndex) (items : List (Entity × T)) (row column : ℕ) (o : Option ℕ)
       → IsIndexed places (reverse items) → o ≡ latest (found places) row column
-      → value_of whole items o ≡ first_covering whole (reverse items) row column
-  value_of-latest whole places items row column o p e =
+      → value_of global items o ≡ first_covering global (reverse items) row column
+  value_of-latest global places items row column o p e =
       let parts = reverse items in
       let placed : o ≡ latest_place parts row column = e ∙ indexed-latest places parts row column p in
-      value_of-said whole items o (subst (IsBelow (length parts)) (sym placed) (below-latest_place parts row column))
-      ∙ said_at-placed whole places parts row column o p placed
+      value_of-said global items o (subst (IsBelow (length parts)) (sym placed) (below-latest_place parts row column))
+      ∙ said_at-placed global places parts row column o p placed
 
   -- rows whose cells have the same latest places have the same settings
-  pub alike-found : (whole : T) (places : ChangeIndex) (parts : List (Entity × T)) (row other column : ℕ) → IsIndexed places parts
-      → latest (found places) row column ≡ latest (found places) other column → first_covering whole parts row column ≡ first_covering whole parts other column
-  alike-found whole places parts row other column p e =
-      sym (said_at-placed whole places parts row column (latest (found places) row column) p (indexed-latest places parts row column p))
-      ∙ said_at-placed whole places parts other column (latest (found places) row column) p (e ∙ indexed-latest places parts other column p)
+  pub alike-found : (global : T) (places : ChangeIndex) (parts : List (Entity × T)) (row other column : ℕ) → IsIndexed places parts
+      → latest (found places) row column ≡ latest (found places) other column → first_covering global parts row column ≡ first_covering global parts other column
+  alike-found global places parts row other column p e =
+      sym (said_at-placed global places parts row column (latest (found places) row column) p (indexed-latest places parts row column p))
+      ∙ said_at-placed global places parts other column (latest (found places) row column) p (e ∙ indexed-latest places parts other column p)
 
 -- one change more
 pub indexed-more : {T : Type 0} (old new : ChangeIndex) (items : List (Entity × T)) (entity : Entity) (value : T) (place : ℕ)
@@ -93,17 +93,17 @@ item-part items i d h below =
     (part-at (reverse items) (length (reverse items) - 1 - i) d h (omega (arith, within)))
 
 -- where nothing was set for a part, each cell has what the whole table has
-pub nothing_set : {T : Type 0} (whole : T) (items : List (Entity × T)) (row column : ℕ) → length items ≡ 0 → whole
-    ≡ first_covering whole (reverse items) row column
-nothing_set whole [] row column h = refl
-nothing_set whole (item ∷ items) row column h = let e : suc (length items) ≡ 0 = h in absurd (omega arith)
+pub nothing_set : {T : Type 0} (global : T) (items : List (Entity × T)) (row column : ℕ) → length items ≡ 0 → global
+    ≡ first_covering global (reverse items) row column
+nothing_set global [] row column h = refl
+nothing_set global (item ∷ items) row column h = let e : suc (length items) ≡ 0 = h in absurd (omega arith)
 
 -- then the value of the whole table is shared
-pub unparted : {T : Type 0} (whole : T) (items : List (Entity × T)) → length items ≡ 0 → Some whole ≡ if_unparted whole (reverse items)
-unparted whole [] h = refl
-unparted whole (item ∷ items) h = let e : suc (length items) ≡ 0 = h in absurd (omega arith)
+pub unparted : {T : Type 0} (global : T) (items : List (Entity × T)) → length items ≡ 0 → Some global ≡ if_unparted global (reverse items)
+unparted global [] h = refl
+unparted global (item ∷ items) h = let e : suc (length items) ≡ 0 = h in absurd (omega arith)
 
 -- and else none is
-pub parted : {T : Type 0} (whole : T) (parts : List (Entity × T)) → 0 < length parts → None ≡ if_unparted whole parts
-parted whole [] h = absurd (omega arith)
-parted whole (part ∷ earlier) h = refl
+pub parted : {T : Type 0} (global : T) (parts : List (Entity × T)) → 0 < length parts → None ≡ if_unparted global parts
+parted global [] h = absurd (omega arith)
+parted global (part ∷ earlier) h = refl

@@ -9,11 +9,11 @@ use Rattle.tabled_entity.specs.declared.row_values.RowValues.TheVariants.{Set, U
 module _ {T : Type 0} where
   -- the value of the change at an index, or else that of the entire table
   abbrev pub value_of : T → List (Entity × T) → Option ℕ → T
-  value_of whole changes place =
-      unwrap_or (option_map (λ change. change.1) (option_and_then (slice_get changes) place)) whole
+  value_of global changes place =
+      unwrap_or (option_map (λ change. change.1) (option_and_then (slice_get changes) place)) global
 
   -- the value of the cell in a column
   abbrev pub value_at : RowValues T → ℕ → T
   value_at (Uniform value) column = value.now
   value_at (Set values) column =
-      value_of values.whole.now values.changes.now (latest_at values.latest column)
+      value_of values.global.now values.changes.now (latest_at values.latest column)

@@ -18,7 +18,7 @@ use tabled_base::Entity;
 #[derive(Debug)]
 pub struct EntityMap<T> {
     // The value of the entire table.
-    whole: T,
+    global: T,
     // The values that were set for parts since then, in order.
     changes: Vec<(Entity, T)>,
     // The index in `changes` of the latest change for each part.
@@ -41,7 +41,7 @@ fn index_of<T: Copy>(alloc: Global, changes: &[(Entity, T)]) -> Result<ChangeInd
 impl<T: Drop> Drop for EntityMap<T> {
     fn drop(self) {
         let EntityMap {
-            whole: _,
+            global: _,
             changes: _,
             places: _,
         } = self;
@@ -55,7 +55,7 @@ impl<T> Model for EntityMap<T> {
 
     ghost Value = { Changes T };
 
-    ghost view = { λ m. record { whole = m.whole; parts = reverse m.changes.items } };
+    ghost view = { λ m. record { global = m.global; parts = reverse m.changes.items } };
 
     ghost invariant = { λ m. IsIndexed m.places (reverse m.changes.items) };
 }
@@ -66,7 +66,7 @@ impl<T: Copy> EntityMap<T> {
         ensures { result ≡ for_all value }
     {
         EntityMap {
-            whole: value,
+            global: value,
             changes: Vec::new(alloc),
             places: ChangeIndex::new(alloc),
         }
@@ -76,7 +76,7 @@ impl<T: Copy> EntityMap<T> {
     pub fn set_all(&mut self, value: T)
         ensures { self.new ≡ for_all value }
     {
-        self.whole = value;
+        self.global = value;
         self.changes.clear();
         self.places.clear();
     }
@@ -93,7 +93,7 @@ impl<T: Copy> EntityMap<T> {
         ensures everywhere { IfSome result (λ value. (row column : ℕ) → setting_at self.now row column ≡ value) }
     {
         if self.changes.is_empty() {
-            Some(self.whole)
+            Some(self.global)
         } else {
             None
         }
@@ -125,9 +125,9 @@ impl<T: Copy> EntityMap<T> {
         ensures { (column : ℕ) → value_at result column ≡ setting_at self.now row column }
     {
         if self.changes.is_empty() {
-            return RowValues::Uniform(&self.whole);
+            return RowValues::Uniform(&self.global);
         }
-        RowValues::new(&self.whole, &self.changes, self.places.in_row(row))
+        RowValues::new(&self.global, &self.changes, self.places.in_row(row))
     }
 
     /// Looks up the value of a cell among the changes.
@@ -155,7 +155,7 @@ impl<T: Copy> EntityMap<T> {
     {
         let alloc = *self.changes.allocator();
         Ok(EntityMap {
-            whole: self.whole,
+            global: self.global,
             changes: Vec::from_slice(alloc, &self.changes)?,
             places: index_of(alloc, &self.changes)?,
         })
@@ -197,14 +197,14 @@ impl<T: PartialEq> PartialEq for EntityMap<T> {
     ghost use Rattle.std.specs.Cmp.Lexicographic.{lists_per, pointwise};
     ghost use Rattle.tabled_base.specs.contracts.position.EntityPartialEq.TheImpl.Laws.{laws-law as entity_per};
 
-    ghost eq = { λ a b. T.eq a.whole b.whole
+    ghost eq = { λ a b. T.eq a.global b.global
         && pointwise (λ p q. ⟦<Entity as PartialEq>⟧.eq p.0 q.0 && T.eq p.1 q.1) (reverse a.parts) (reverse b.parts) };
 
-    ghost laws = { and_per (on_per (λ m. m.whole) T.laws) (on_per (λ m. reverse m.parts)
+    ghost laws = { and_per (on_per (λ m. m.global) T.laws) (on_per (λ m. reverse m.parts)
         (lists_per (and_per (on_per (λ p. p.0) entity_per) (on_per (λ p. p.1) T.laws)))) };
 
     fn eq(&self, other: &EntityMap<T>) -> bool {
-        self.whole == other.whole && self.changes == other.changes
+        self.global == other.global && self.changes == other.changes
     }
 }
 
@@ -214,6 +214,6 @@ impl<T: Eq> Eq for EntityMap<T> {
     ghost use Rattle.std.specs.Cmp.Lexicographic.{lists_equiv};
     ghost use Rattle.tabled_base.specs.contracts.position.EntityEq.TheImpl.Laws.{laws-law as entity_eq};
 
-    ghost laws = { and_equiv (on_equiv (λ m. m.whole) T.Eq.laws) (on_equiv (λ m. reverse m.parts)
+    ghost laws = { and_equiv (on_equiv (λ m. m.global) T.Eq.laws) (on_equiv (λ m. reverse m.parts)
         (lists_equiv (and_equiv (on_equiv (λ p. p.0) entity_eq) (on_equiv (λ p. p.1) T.Eq.laws)))) };
 }

@@ -10,7 +10,7 @@ use tabled_base::Entity;
 #[derive(Clone, Copy)]
 pub struct SetValues<'a, T> {
     // The value of the entire table.
-    whole: &'a T,
+    global: &'a T,
     // The changes since then, in order.
     changes: &'a [(Entity, T)],
     latest: RowChanges<'a>,
@@ -27,15 +27,15 @@ pub enum RowValues<'a, T> {
 
 /// Returns the value of the change at an index, or of the entire table for `None`.
 #[inline(always)]
-fn value_of<'a, T>(whole: &'a T, changes: &'a [(Entity, T)], place: Option<usize>) -> &'a T
-    ensures { result.now ≡ value_of whole.now changes.now place }
+fn value_of<'a, T>(global: &'a T, changes: &'a [(Entity, T)], place: Option<usize>) -> &'a T
+    ensures { result.now ≡ value_of global.now changes.now place }
 {
     let Some(place) = place else {
-        return whole;
+        return global;
     };
     match changes.get(place) {
         Some(change) => &change.1,
-        None => whole,
+        None => global,
     }
 }
 
@@ -43,17 +43,17 @@ impl<'a, T: Copy> RowValues<'a, T> {
     /// Makes the values of a row from all changes, and the latest ones for its cells.
     #[inline(always)]
     pub(crate) fn new(
-        whole: &'a T,
+        global: &'a T,
         changes: &'a [(Entity, T)],
         latest: RowChanges<'a>,
     ) -> RowValues<'a, T>
         ensures { (column : ℕ) → value_at result column
-            ≡ value_of whole.now changes.now (latest_at latest.entry column) }
+            ≡ value_of global.now changes.now (latest_at latest.entry column) }
     {
         match latest {
-            RowChanges::Same(place) => RowValues::Uniform(value_of(whole, changes, place)),
+            RowChanges::Same(place) => RowValues::Uniform(value_of(global, changes, place)),
             _ => RowValues::Set(SetValues {
-                whole,
+                global,
                 changes,
                 latest,
             }),
@@ -79,7 +79,7 @@ impl<'a, T: Copy> RowValues<'a, T> {
         match self {
             RowValues::Uniform(value) => *value,
             RowValues::Set(values) => {
-                value_of(values.whole, values.changes, values.latest.at(column))
+                value_of(values.global, values.changes, values.latest.at(column))
             }
         }
     }
