@@ -1,9 +1,11 @@
 -- Rows that are lengthened to the longest of them.
-use Rattle.std.proofs.Common.{◌≡◌, ℕ, ◌+◌, ◌-◌, ◌≤◌, List, [], ◌∷◌, ◌++◌, length, map, max, get_or, replicate, refl, sym, ap, ◌∙◌}
+use Rattle.std.proofs.Common.{◌≡◌, ℕ, ◌+◌, ◌-◌, ◌≤◌, List, [], ◌∷◌, ◌++◌, drop, length, map, max, get_or, replicate, take, refl, sym, ap, ◌∙◌}
 use Rattle.std.proofs.Common.{arith, append_assoc, All}
-use Rattle.std.proofs.lemmas.List.{replicate-append-replicate, map-append}
+use Rattle.std.proofs.lemmas.List.{length-map, replicate-append-replicate, map-append, take_at}
+use Rattle.std.specs.declared.alloc.Global.{Global}
+use Rattle.std.specs.declared.vec.Vec.{Vec}
 use Rattle.std.proofs.lemmas.List.Elements.{All-head, All-tail, All-cons, All-map, All-nil}
-use Rattle.tabled_base.specs.Cells.{IsRectangular, columns, longest, lengthened, lengthened_rows, with_record}
+use Rattle.tabled_base.specs.Cells.{IsRectangular, columns, longest, lengthened, lengthened_rows, row_texts, with_record}
 use Rattle.tabled_base.proofs.Lengthening.{length-lengthened, rectangular-from_length}
 
 -- no row is longer than the longest
@@ -65,3 +67,21 @@ longest-le n (row ∷ rows) h =
 -- rows that are equally long are as long as the longest
 pub rectangular-longest : (rows : List (List (List ℕ))) → IsRectangular rows → All (λ row. longest rows ≤ length row) rows
 rectangular-longest rows h = λ k d l. omega (arith, longest-le (columns rows) rows h, h k d l)
+
+-- rows that were lengthened in their vector
+pub written_back : (len n : ℕ) (first reserved new old : List (Vec (List ℕ) Global)) → length first ≡ len
+    → row_texts reserved ≡ row_texts first → row_texts new ≡ map (lengthened n) (row_texts reserved)
+    → row_texts (take len (new ++ drop (length new) old)) ≡ map (lengthened n) (row_texts first)
+written_back len n first reserved new old long same wide =
+    let texts : Vec (List ℕ) Global → List (List ℕ) = λ row. map (λ t. t) row.items in
+    let many : length new ≡ len = omega (
+      arith,
+      ap length wide,
+      ap length same,
+      length-map new texts,
+      length-map reserved texts,
+      length-map first texts,
+      length-map (row_texts reserved) (lengthened n),
+      long,
+    ) in
+    ap row_texts (take_at new (drop (length new) old) len many) ∙ wide ∙ ap (map (lengthened n)) same

@@ -1,5 +1,5 @@
 //! `Builder`, which makes records row by row.
-ghost use Rattle.std.specs.Prelude.{◌≡◌, ◌≤◌, ℕ, List, [], IfOk, IfErr, OnErr, OnOk, ◌∷◌, ◌++◌, length, map, vec_capacity};
+ghost use Rattle.std.specs.Prelude.{◌≡◌, ◌≤◌, ℕ, List, [], IfOk, IfErr, OnErr, OnOk, length, map, vec_capacity};
 ghost use Rattle.std.specs.Iterator.{IsFiniteIterable};
 ghost use Rattle.std.specs.Borrow.{RestsIfErr, sem};
 ghost use Rattle.std.specs.List.{All};
@@ -12,7 +12,7 @@ use crate::into_records::IntoRecords;
 use crate::records::CellText;
 use crate::text::Text;
 use crate::vec_records::{VecRecords, first_length};
-use std::alloc::Global;
+use std::alloc::{AllocError, Global};
 use std::marker::Model;
 
 /// Collects rows of cells. Shorter rows are filled up with empty cells at once, so that all rows
@@ -39,10 +39,8 @@ impl Builder {
     pub fn new(alloc: Global) -> Builder
         ensures { result ≡ [] }
     {
-        Builder {
-            rows: Vec::new(alloc),
-            room: 0,
-        }
+        let rows = Vec::new(alloc);
+        Builder { rows, room: 0 }
     }
 
     /// Makes a builder without rows, with capacity for `rows` rows. Each row that is added starts
@@ -64,7 +62,10 @@ impl Builder {
         ensures unequal { OnErr result (¬ IsRectangular (row_texts rows.items)) }
         ensures only { IfErr result (λ e. e ≡ Memory) }
     {
-        lengthen_all(&mut rows)?;
+        let columns = longest_row(rows.as_slice());
+        let all = rows.as_mut_slice();
+        reserve_rows(all, columns)?;
+        lengthen_rows(all, columns);
         Ok(Builder { rows, room: 0 })
     }
 
@@ -110,7 +111,8 @@ impl Builder {
         I::Item: CellText + Drop,
         requires { IsFiniteIterable I.into_iter_gives I.IntoIter.can_next
             I.IntoIter.remaining cells }
-        ensures* rests { sem 𝓛 (RestsIfErr the_row self.entry (λ t. t.ghost_name) result (λ last. last ≡ self.old)) }
+        ensures* rests { sem 𝓛 (RestsIfErr the_row self.entry (λ t. t.ghost_name) result
+            (λ last. last ≡ self.old)) }
         ensures same_reference { IfOk result (λ t. t.ghost_name ≡ self.entry.ghost_name) }
         ensures ok { IfOk result (λ t. (items : List I.Item)
             × Given I.into_iter_gives I.IntoIter.next_gives cells items
@@ -138,10 +140,8 @@ impl From<VecRecords<Text<String>>> for Builder {
     ghost from_gives = { λ records builder. builder ≡ records };
 
     fn from(records: VecRecords<Text<String>>) -> Builder {
-        Builder {
-            rows: records.into_rows(),
-            room: 0,
-        }
+        let rows = records.into_rows();
+        Builder { rows, room: 0 }
     }
 }
 
@@ -167,20 +167,6 @@ where
     Ok(row)
 }
 
-/// Fills up all rows to the length of the longest.
-fn lengthen_all(rows: &mut Vec<Vec<Text<String>>>) -> Result<(), TableError>
-    ensures ok { OnOk result
-        (row_texts rows.new.items ≡ lengthened_rows (row_texts rows.old.items)) }
-    ensures unequal { OnErr result (¬ IsRectangular (row_texts rows.old.items)) }
-    ensures only { IfErr result (λ e. e ≡ Memory) }
-{
-    let columns = longest_row(rows.as_slice());
-    let all = rows.as_mut_slice();
-    reserve_rows(all, columns)?;
-    lengthen_rows(all, columns);
-    Ok(())
-}
-
 /// Returns the number of cells in the longest row.
 fn longest_row(rows: &[Vec<Text<String>>]) -> usize
     ensures { result ≡ longest (row_texts rows.now) }
@@ -200,35 +186,25 @@ fn push_row(rows: &mut Vec<Vec<Text<String>>>, mut row: Vec<Text<String>>) -> Re
     ensures err { OnErr result (row_texts rows.new.items ≡ row_texts rows.old.items) }
     ensures only { IfErr result (λ e. e ≡ Memory) }
 {
-    let columns = first_length(rows.as_slice()).max(row.len());
+    let before = first_length(rows.as_slice());
+    let columns = before.max(row.len());
     row.reserve(columns.saturating_sub(row.len()))?;
     rows.reserve(1)?;
-    widen_rows(rows.as_mut_slice(), columns)?;
+    if before < columns {
+        let all = rows.as_mut_slice();
+        reserve_rows(all, columns)?;
+        lengthen_rows(all, columns);
+    }
     lengthen_row(&mut row, columns);
     rows.push_reserved(row);
     Ok(())
 }
 
-/// Fills up rows of equal length to `columns` cells. If it fails, the rows are unchanged.
-fn widen_rows(rows: &mut [Vec<Text<String>>], columns: usize) -> Result<(), TableError>
-    requires { IsRectangular (row_texts rows.old) }
-    ensures ok { OnOk result (row_texts rows.new ≡ map (lengthened columns) (row_texts rows.old)) }
-    ensures err { OnErr result (row_texts rows.new ≡ row_texts rows.old) }
-    ensures only { IfErr result (λ e. e ≡ Memory) }
-{
-    if first_length(rows) < columns {
-        reserve_rows(rows, columns)?;
-        lengthen_rows(rows, columns);
-    }
-    Ok(())
-}
-
 /// Reserves capacity for `columns` cells in each row.
-fn reserve_rows(rows: &mut [Vec<Text<String>>], columns: usize) -> Result<(), TableError>
+fn reserve_rows(rows: &mut [Vec<Text<String>>], columns: usize) -> Result<(), AllocError>
     ensures items { row_texts rows.new ≡ row_texts rows.old }
     ensures ok { OnOk result (All (λ row. columns ≤ vec_capacity row) rows.new) }
     ensures short { OnErr result (¬ All (λ row. columns ≤ length row) (row_texts rows.old)) }
-    ensures only { IfErr result (λ e. e ≡ Memory) }
 {
     for row in rows.iter_mut() {
         row.reserve(columns.saturating_sub(row.len()))?;

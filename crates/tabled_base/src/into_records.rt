@@ -34,12 +34,14 @@ pub trait IntoRecords {
         ensures gives { (cells : List (List Self.Cell)) → RowsGiven Self.IterRows.into_iter_gives
             Self.IterRows.IntoIter.next_gives Self.IterColumns.into_iter_gives
             Self.IterColumns.IntoIter.next_gives result cells → gives self cells }
-        ensures begins { (cells : List (List Self.Cell)) (whole : Bool) → RowsBegin Self.IterRows.into_iter_gives
-            Self.IterRows.IntoIter.next_gives Self.IterColumns.into_iter_gives
-            Self.IterColumns.IntoIter.next_gives result cells whole → begins self cells whole };
+        ensures begins { (cells : List (List Self.Cell)) (whole : Bool)
+            → RowsBegin Self.IterRows.into_iter_gives Self.IterRows.IntoIter.next_gives
+            Self.IterColumns.into_iter_gives Self.IterColumns.IntoIter.next_gives result cells whole
+            → begins self cells whole };
 
     // If the cells that are yielded first are all, they are what the source yields.
-    ghost whole_rows: { (source : Self) (cells : List (List Self.Cell)) → begins source cells true → gives source cells };
+    ghost whole_rows: { (source : Self) (cells : List (List Self.Cell))
+        → begins source cells true → gives source cells };
 }
 
 impl<I: IntoIterator> IntoRecords for I

@@ -22,12 +22,13 @@ pub trait Object<R: ExactRecords> {
     fn cells(&self, alloc: Global, records: &R) -> Result<Vec<Entity>, TableError>
         ensures picked { IfOk result (λ all. all.items
             ≡ picks self.now (length (R.cells records.now)) (columns (R.cells records.now))) }
-        ensures some { OnErr result
-            (0 < length (picks self.now (length (R.cells records.now)) (columns (R.cells records.now)))) }
+        ensures some { OnErr result (0 < length
+            (picks self.now (length (R.cells records.now)) (columns (R.cells records.now)))) }
         ensures only { IfErr result (λ e. e ≡ Memory) };
 
     // Every selected entity lies inside the records.
-    ghost inside: { (s : Self) (rows columns : ℕ) → All (IsPart rows columns) (picks s rows columns) };
+    ghost inside: { (s : Self) (rows columns : ℕ)
+        → All (IsPart rows columns) (picks s rows columns) };
 }
 
 /// The index of a row or column, or the last one.

@@ -125,7 +125,8 @@ pub trait PeekableRecords: ExactRecords {
         requires { IsInside (Self.cells self.now) at.row at.column }
         ensures text { result.0.now ≡ cell_at (Self.cells self.now) at.row at.column }
         ensures columns { result.1 ≡ text_columns (cell_at (Self.cells self.now) at.row at.column) }
-        ensures lines { result.2 ≡ length (lines_of (cell_at (Self.cells self.now) at.row at.column)) }
+        ensures lines { result.2
+            ≡ length (lines_of (cell_at (Self.cells self.now) at.row at.column)) }
     {
         (self.get_text(at), self.get_width(at), self.count_lines(at))
     }

@@ -1,14 +1,13 @@
 //! `Segment`, a selection of a block of cells or of the entire table.
-ghost use Rattle.std.specs.Prelude.{◌≡◌, ◌++◌, ◌<◌, ◌^◌, ℕ, IfErr, None, OnErr, OnOk, length, map};
+ghost use Rattle.std.specs.Prelude.{◌≡◌, ◌++◌, ◌<◌, ◌^◌, ℕ, None, OnErr, OnOk, length, map};
 ghost use Rattle.tabled_base.specs.Picks.{between, block, segment, stretch, within};
-ghost use Rattle.tabled_base.specs.declared.error.TableError.TheVariants.{Memory};
 ghost use Rattle.tabled_base.specs.declared.position.Entity.TheVariants.{Cell, Global};
 
 use crate::error::TableError;
 use crate::objects::Object;
 use crate::position::Entity;
 use crate::records::ExactRecords;
-use std::alloc::Global;
+use std::alloc::{AllocError, Global};
 use std::ops::{Bound, RangeBounds};
 
 /// A range of rows or columns: from `start` on, and before `end` if there is one.
@@ -47,12 +46,10 @@ impl Segment {
             → segment result.block m n ≡ block (within (R.start_bound rows) (R.end_bound rows) m)
             (within (C.start_bound columns) (C.end_bound columns) n) }
     {
-        Segment {
-            block: Some(Block {
-                rows: Stretch::new(&rows),
-                columns: Stretch::new(&columns),
-            }),
-        }
+        let rows = Stretch::new(&rows);
+        let columns = Stretch::new(&columns);
+        let block = Some(Block { rows, columns });
+        Segment { block }
     }
 }
 
@@ -60,7 +57,8 @@ impl Stretch {
     /// Stores the bounds of a range.
     fn new<R: RangeBounds<usize>>(range: &R) -> Stretch
         ensures { R.has_bounds range.now → (count : ℕ) → count < 2 ^ 64
-            → stretch result count ≡ within (R.start_bound range.now) (R.end_bound range.now) count }
+            → stretch result count
+            ≡ within (R.start_bound range.now) (R.end_bound range.now) count }
     {
         let start = match range.start_bound() {
             Bound::Included(start) => *start,
@@ -109,12 +107,11 @@ fn push_block(
     all: &mut Vec<Entity>,
     rows: (usize, usize),
     columns: (usize, usize),
-) -> Result<(), TableError>
+) -> Result<(), AllocError>
     ensures ok { OnOk result (all.new.items
         ≡ all.old.items ++ block (between rows.0 rows.1) (between columns.0 columns.1)) }
     ensures some { OnErr result
         (0 < length (block (between rows.0 rows.1) (between columns.0 columns.1))) }
-    ensures only { IfErr result (λ e. e ≡ Memory) }
 {
     for row in rows.0..rows.1 {
         push_row(all, row, columns)?;
@@ -123,11 +120,10 @@ fn push_block(
 }
 
 /// Adds the cells of a row in a range of columns.
-fn push_row(all: &mut Vec<Entity>, row: usize, columns: (usize, usize)) -> Result<(), TableError>
+fn push_row(all: &mut Vec<Entity>, row: usize, columns: (usize, usize)) -> Result<(), AllocError>
     ensures ok { OnOk result
         (all.new.items ≡ all.old.items ++ map (Cell row) (between columns.0 columns.1)) }
     ensures some { OnErr result (columns.0 < columns.1) }
-    ensures only { IfErr result (λ e. e ≡ Memory) }
 {
     for column in columns.0..columns.1 {
         all.push(Entity::Cell(row, column))?;

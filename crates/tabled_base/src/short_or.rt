@@ -2,11 +2,9 @@
 ghost use Rattle.std.specs.Prelude.{◌≡◌, ◌+◌, ◌++◌, ◌<◌, ◌≤◌, IfErr, IfOk, length, string_bytes, take};
 ghost use Rattle.std.specs.Str.{IsCharBoundary};
 ghost use Rattle.tabled_base.specs.ShortOr.{bytes_of};
-ghost use Rattle.tabled_base.specs.declared.error.TableError.TheVariants.{Memory};
 
-use crate::error::TableError;
 use arrayvec::ArrayString;
-use std::alloc::Global;
+use std::alloc::{AllocError, Global};
 use std::borrow::CowStr;
 use std::convert::AsStr;
 use std::fmt;
@@ -112,9 +110,8 @@ impl<S: AsStr + Drop> ShortOr<S> {
 
 impl ShortOr<String> {
     /// Copies a text. Allocates only if it has more than 16 bytes, and may then fail with `Memory`.
-    pub fn copied(alloc: Global, text: &str) -> Result<ShortOr<String>, TableError>
+    pub fn copied(alloc: Global, text: &str) -> Result<ShortOr<String>, AllocError>
         ensures ok { IfOk result (λ copy. bytes_of string_bytes copy ≡ text.now) }
-        ensures only { IfErr result (λ e. e ≡ Memory) }
         ensures long { IfErr result (λ _. SHORT_TEXT < length text.now) }
     {
         match ArrayString::from(text) {
@@ -125,9 +122,9 @@ impl ShortOr<String> {
 
     /// Returns a copy. Allocates only if the text has more than 16 bytes, and may then fail with
     /// `Memory`.
-    pub fn clone(&self) -> Result<ShortOr<String>, TableError>
-        ensures ok { IfOk result (λ copy. bytes_of string_bytes copy ≡ bytes_of string_bytes self.now) }
-        ensures only { IfErr result (λ e. e ≡ Memory) }
+    pub fn clone(&self) -> Result<ShortOr<String>, AllocError>
+        ensures ok { IfOk result (λ copy.
+            bytes_of string_bytes copy ≡ bytes_of string_bytes self.now) }
         ensures long { IfErr result (λ _. SHORT_TEXT < length (bytes_of string_bytes self.now)) }
     {
         match self {

@@ -1,6 +1,6 @@
 //! `VecRecords`, rows of equal length in vectors.
 ghost use Rattle.std.specs.Prelude.{◌≡◌, ℕ, List, IfErr, IfOk, OnErr, OnOk, map, string_bytes, ⊤};
-ghost use Rattle.tabled_base.specs.Cells.{IsInside, IsRectangular, cell_at, columns, row_texts, texts_of, with_cell};
+ghost use Rattle.tabled_base.specs.Cells.{IsInside, IsRectangular, cell_at, columns, texts_of, with_cell};
 ghost use Rattle.tabled_base.specs.declared.error.TableError.TheVariants.{Memory};
 
 use crate::error::TableError;
@@ -71,9 +71,13 @@ impl VecRecords<Text<String>> {
         ensures ok { IfOk result (λ copy. copy ≡ self.now) }
         ensures only { IfErr result (λ e. e ≡ Memory) }
     {
-        Ok(VecRecords {
-            rows: clone_rows(self.allocator(), self.rows.as_slice())?,
-        })
+        let alloc = self.allocator();
+        let rows = self.rows.as_slice();
+        let mut copy = Vec::with_capacity(alloc, rows.len())?;
+        for row in rows {
+            copy.push(clone_row(alloc, row.as_slice())?)?;
+        }
+        Ok(VecRecords { rows: copy })
     }
 }
 
@@ -146,7 +150,8 @@ impl<T: CellText> PeekableRecords for VecRecords<T> {
 impl<S: Shorten + Drop> RecordsMut for VecRecords<Text<S>> {
     fn set(&mut self, at: Position, text: String) -> Result<(), TableError>
         requires { IsInside self.old at.row at.column }
-        ensures ok { OnOk result (self.new ≡ with_cell self.old at.row at.column (string_bytes text)) }
+        ensures ok { OnOk result
+            (self.new ≡ with_cell self.old at.row at.column (string_bytes text)) }
         ensures err { OnErr result (self.new ≡ self.old) }
         ensures only { IfErr result (λ e. e ≡ Memory) }
         ensures never { OnErr result ⊥ }
@@ -175,20 +180,6 @@ pub(crate) fn first_length<T: CellText>(rows: &[Vec<T>]) -> usize
         None => 0,
         Some(row) => row.len(),
     }
-}
-
-fn clone_rows(
-    alloc: Global,
-    rows: &[Vec<Text<String>>],
-) -> Result<Vec<Vec<Text<String>>>, TableError>
-    ensures ok { IfOk result (λ copy. row_texts copy.items ≡ row_texts rows.now) }
-    ensures only { IfErr result (λ e. e ≡ Memory) }
-{
-    let mut copy = Vec::with_capacity(alloc, rows.len())?;
-    for row in rows {
-        copy.push(clone_row(alloc, row.as_slice())?)?;
-    }
-    Ok(copy)
 }
 
 fn clone_row(alloc: Global, row: &[Text<String>]) -> Result<Vec<Text<String>>, TableError>
