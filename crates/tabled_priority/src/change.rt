@@ -60,11 +60,8 @@ fn find_span(ramps: &Ramps, reached: Reached, steps: &mut Steps) -> Span
     let open = ramps.count_open(count, level, steps);
     if ramps.schedule.is_from_right() {
         let first = ramps.nth_open(level, open - rest + 1, steps);
-        return Span {
-            level,
-            first,
-            last: count - 1,
-        };
+        let last = count - 1;
+        return Span { level, first, last };
     }
     let first = ramps.schedule.start(count);
     let before = ramps.count_open(first, level, steps);
@@ -74,11 +71,8 @@ fn find_span(ramps: &Ramps, reached: Reached, steps: &mut Steps) -> Span
     } else {
         rest - ahead
     };
-    Span {
-        level,
-        first,
-        last: ramps.nth_open(level, nth, steps),
-    }
+    let last = ramps.nth_open(level, nth, steps);
+    Span { level, first, last }
 }
 
 /// Changes each column by its amount up to the level at its index.
@@ -133,10 +127,8 @@ pub(crate) fn change_columns(
 {
     let amount = amount_by(schedule, mins, values, by, steps);
     if amount == 0 {
-        return Change {
-            amount,
-            kept: schedule.kept(),
-        };
+        let kept = schedule.kept();
+        return Change { amount, kept };
     }
     let ramps = Ramps {
         schedule,
@@ -146,8 +138,6 @@ pub(crate) fn change_columns(
     let reached = reach(&ramps, amount, steps);
     let span = find_span(&ramps, reached, steps);
     change_to(schedule, mins, values, span, steps);
-    Change {
-        amount,
-        kept: place_after(values.len(), span.last),
-    }
+    let kept = place_after(values.len(), span.last);
+    Change { amount, kept }
 }

@@ -54,11 +54,7 @@ fn greatest(right: bool, mins: &[usize], values: &[usize], steps: &mut Steps) ->
     let mut most: usize = 0;
     for place in 0..values.len() {
         let column = visit(mins, values, place, steps);
-        let beats = if right {
-            most <= column.value
-        } else {
-            most < column.value
-        };
+        let beats = most < column.value || (right && most == column.value);
         if column.value > column.least && beats {
             best = Some(place);
             most = column.value;

@@ -4,7 +4,7 @@ ghost use Rattle.tabled_priority.specs.Permitted.{HasOneBetween, at, spare};
 ghost use Rattle.tabled_priority.specs.Shrunk.{IsSideShrunk, IsMinShrunk};
 ghost use Rattle.std.specs.Prelude.{◌≡◌, ℕ, ◌+◌, ◌*◌, ◌<◌, ◌≤◌, length};
 ghost use Rattle.tabled_priority.specs.Laws.Shrunk.{before};
-ghost use Rattle.tabled_priority.specs.Spares.{IsLastGiver, given, has_size, spare_up_to, spare_where, stands_beside};
+ghost use Rattle.tabled_priority.specs.Spares.{given, has_size, spare_up_to, spare_where, stands_beside};
 ghost use Rattle.tabled_priority.specs.Visits.{counted};
 
 use crate::choice::place_at;
@@ -143,22 +143,6 @@ fn find_giver(spares: &Spares, right: bool, size: usize, rest: usize, steps: &mu
     unreachable!()
 }
 
-/// Returns the last column that gives, for a wanted amount.
-fn last_giver(spares: &Spares, right: bool, wanted: usize, steps: &mut Steps) -> Giver
-    requires some { 0 < wanted }
-    requires enough { wanted ≤ spare_up_to spares.now.values.now spares.now.mins.now usize.MAX }
-    ensures giver { IsLastGiver right spares.now.values.now spares.now.mins.now wanted
-        result.place result.amount }
-    ensures size { result.size ≡ at spares.now.values.now result.place }
-    ensures fewest { steps.old.count ≤ steps.new.count }
-    ensures most { let n = length spares.now.values.now in
-        steps.new.count ≤ counted steps.old.count (n * (2 * n + 1) + 2 * n) }
-{
-    let sizes = find_sizes(spares, wanted, steps);
-    let rest = wanted - spares.total(sizes.base, steps);
-    find_giver(spares, right, sizes.ceiling, rest, steps)
-}
-
 /// Takes all they can give from the columns before the last giver, and its amount from that one.
 fn take(right: bool, mins: &[usize], values: &mut [usize], giver: Giver, steps: &mut Steps)
     requires size { giver.size ≡ at values.old giver.place }
@@ -197,7 +181,10 @@ pub(crate) fn shrink_smallest(
     if wanted == 0 {
         return 0;
     }
-    let giver = last_giver(&Spares { mins, values }, right, wanted, steps);
+    let spares = Spares { mins, values };
+    let sizes = find_sizes(&spares, wanted, steps);
+    let rest = wanted - spares.total(sizes.base, steps);
+    let giver = find_giver(&spares, right, sizes.ceiling, rest, steps);
     take(right, mins, values, giver, steps);
     wanted
 }

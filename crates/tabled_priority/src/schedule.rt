@@ -245,7 +245,7 @@ pub(crate) struct Bracket {
 fn narrowed<L: Levels>(
     levels: &L,
     wanted: usize,
-    bracket: Bracket,
+    mut bracket: Bracket,
     level: usize,
     steps: &mut Steps,
 ) -> Bracket
@@ -263,16 +263,11 @@ fn narrowed<L: Levels>(
         return bracket;
     }
     if levels.total(level, steps) < wanted {
-        Bracket {
-            base: level,
-            ceiling: bracket.ceiling,
-        }
+        bracket.base = level;
     } else {
-        Bracket {
-            base: bracket.base,
-            ceiling: level,
-        }
+        bracket.ceiling = level;
     }
+    bracket
 }
 
 /// Replaces the base or the ceiling of a bracket by a level between them. The bracket is halved

@@ -11,7 +11,7 @@ returns-then-amount-eq0-clause-changed c =
     let k = c.args.schedule in
     let old = c.args.values.now in
     let mins = c.args.mins.now in
-    subst (λ n. IsScheduled k old mins c.args.by old n) (sym c.kept.ensures)
+    subst (λ n. IsScheduled k old mins c.args.by old n) (sym c.kept-kept.ensures)
     (still_by k old mins c.args.by (sym c.amount_by-amount.ensures.amount ∙ c.if-amount-eq0.true))
 
 pub returns-then-amount-eq0-clause-visits : goal.returns-then-amount-eq0-clause-visits
@@ -74,7 +74,7 @@ returns-clause-changed c =
     let new = c.change_to.new.values in
     let len = c.change_to.ensures.same_length in
     subst (λ x. IsScheduled k old mins c.args.by new x)
-    (sym (c.place_after.ensures ∙ ap (λ x. place_after x last) len))
+    (sym (c.place_after-kept.ensures ∙ ap (λ x. place_after x last) len))
     (scheduled_by k old mins c.args.by level rest first last new plan len
     (λ i inside. subst (λ l. IsChanged k (at old i) (share from to l first last i) (at new i)) c.find_span-span.ensures.level
     (c.change_to.ensures.each i inside)))

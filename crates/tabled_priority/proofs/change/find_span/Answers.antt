@@ -49,15 +49,15 @@ returns-clause-span c =
     let to = last_of ramps in
     let n = columns_of ramps in
     let level = c.args.reached.level in
-    let inside = c.nth_open.ensures.inside in
+    let inside = c.nth_open-last.ensures.inside in
     let first = c.start-first.result in
     let s = start-le (start_of ramps.schedule) n (omega arith) in
     let within : first < n = (let e = c.start-first.ensures in omega arith) in
     let p = sum_below-prefix (λ i. one_if (is_open from to level i)) first n (omega arith) in
     let a = c.count_open-before.ensures.count in
     let b = c.count_open-open.ensures.count in
-    span_round from to n level c.args.reached.rest first c.nth_open.result c.if-rest-ahead.nth
-    within inside c.nth_open.ensures.opened c.nth_open.ensures.nth c.requires.some c.requires.enough p
+    span_round from to n level c.args.reached.rest first c.nth_open-last.result c.if-rest-ahead.nth
+    within inside c.nth_open-last.ensures.opened c.nth_open-last.ensures.nth c.requires.some c.requires.enough p
     (elim c.if-rest-ahead.branch [
       | then-rest-ahead w ↦ inl (omega arith, omega arith)
       | else-rest-ahead w ↦ inr (omega arith, omega arith)
@@ -67,6 +67,6 @@ pub returns-clause-side : goal.returns-clause-side
 returns-clause-side c =
     let ramps = c.args.ramps.now in
     let n = columns_of ramps in
-    subst (λ b. MatchBool b (c.nth_open.result + 1 ≡ n) ((c.start-first.result ≡ start (start_of ramps.schedule) n)
-    × (is_open (first_of ramps) (last_of ramps) c.args.reached.level c.nth_open.result ≡ true)))
-    (sym c.if-is_from_right.false ∙ c.is_from_right.ensures) (c.start-first.ensures, c.nth_open.ensures.opened)
+    subst (λ b. MatchBool b (c.nth_open-last.result + 1 ≡ n) ((c.start-first.result ≡ start (start_of ramps.schedule) n)
+    × (is_open (first_of ramps) (last_of ramps) c.args.reached.level c.nth_open-last.result ≡ true)))
+    (sym c.if-is_from_right.false ∙ c.is_from_right.ensures) (c.start-first.ensures, c.nth_open-last.ensures.opened)
