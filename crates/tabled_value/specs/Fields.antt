@@ -1,5 +1,5 @@
 -- The fields of values that are made of other values.
-use Rattle.std.specs.Prelude.{◌≡◌, ℕ, List, [], ◌∷◌, ◌++◌, IfSome}
+use Rattle.std.specs.Prelude.{◌≡◌, ℕ, List, ◌++◌, IfSome}
 use Rattle.std.specs.declared.option.Option.{Option}
 
 -- a row is two lists of fields, one after the other, with P for the first and Q for the second
@@ -19,9 +19,3 @@ pub record CellsAdded (P : List (List ℕ) → Type 0) (before after : List (Lis
   pub texts : List (List ℕ)
   pub whole : after ≡ before ++ texts
   pub shown : P texts
-
--- there is one string, which is what `Display` writes, where that is known
-pub record OneSays (known : Option (List ℕ)) (texts : List (List ℕ)) : Type 0 where
-  pub text : List ℕ
-  pub lone : texts ≡ text ∷ []
-  pub said : Says known text

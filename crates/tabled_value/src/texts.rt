@@ -2,9 +2,9 @@
 ghost use Rattle.std.specs.Cow.{cow_str_bytes};
 ghost use Rattle.std.specs.Prelude.{◌≡◌, ◌∷◌, ◌++◌, ◌+◌, [], IfErr, IfOk, OnOk, map, replicate, vec_len};
 ghost use Rattle.tabled_base.specs.declared.error.TableError.TheVariants.{Memory};
-ghost use Rattle.tabled_value.specs.Fields.{CellsAdded, OneSays, Says};
+ghost use Rattle.tabled_value.specs.Fields.{CellsAdded, Says};
 
-use std::alloc::Global;
+use std::alloc::{AllocError, Global};
 use std::borrow::CowStr;
 use std::fmt::Display;
 use std::string::ToString;
@@ -21,17 +21,15 @@ pub(crate) fn one_text<'a>(alloc: Global, text: CowStr<'a>) -> Result<Vec<CowStr
 }
 
 /// Returns what `Display` writes of a value. A `Display` that fails is reported as `Memory`.
-pub(crate) fn displayed<'a, T: Display>(alloc: Global, value: &T) -> Result<CowStr<'a>, TableError>
+pub(crate) fn displayed<'a, T: Display>(alloc: Global, value: &T) -> Result<CowStr<'a>, AllocError>
     ensures text { IfOk result (λ text. Says (T.output value.now) (cow_str_bytes text)) }
-    ensures only { IfErr result (λ e. e ≡ Memory) }
 {
     Ok(CowStr::Owned(value.to_string(alloc)?))
 }
 
-pub(crate) fn empty_texts<'a>(alloc: Global, count: usize) -> Result<Vec<CowStr<'a>>, TableError>
+pub(crate) fn empty_texts<'a>(alloc: Global, count: usize) -> Result<Vec<CowStr<'a>>, AllocError>
     ensures ok { IfOk result (λ v. map cow_str_bytes v.items ≡ replicate count []) }
     ensures length { IfOk result (λ v. vec_len v ≡ count) }
-    ensures only { IfErr result (λ e. e ≡ Memory) }
 {
     let mut texts = Vec::with_capacity(alloc, count)?;
     'empty: for _field in 0..count {
@@ -64,27 +62,10 @@ pub(crate) fn push_text(row: &mut Vec<Text<String>>, text: &str) -> Result<(), T
     Ok(())
 }
 
-/// Appends what `Display` writes of a value to a row. A `Display` that fails is reported as
-/// `Memory`.
-pub(crate) fn push_displayed<T: Display>(
-    row: &mut Vec<Text<String>>,
-    value: &T,
-) -> Result<(), TableError>
-    ensures texts { OnOk result
-        (CellsAdded (OneSays (T.output value.now)) row.old.items row.new.items) }
-    ensures length { OnOk result (vec_len row.new ≡ vec_len row.old + 1) }
-    ensures only { IfErr result (λ e. e ≡ Memory) }
-{
-    let text = value.to_string(*row.allocator())?;
-    row.push(Text::new(text))?;
-    Ok(())
-}
-
-pub(crate) fn push_empty(row: &mut Vec<Text<String>>, count: usize) -> Result<(), TableError>
+pub(crate) fn push_empty(row: &mut Vec<Text<String>>, count: usize) -> Result<(), AllocError>
     ensures texts { OnOk result
         (CellsAdded (λ texts. texts ≡ replicate count []) row.old.items row.new.items) }
     ensures length { OnOk result (vec_len row.new ≡ vec_len row.old + count) }
-    ensures only { IfErr result (λ e. e ≡ Memory) }
 {
     let alloc = *row.allocator();
     'empty: for _field in 0..count {
@@ -96,11 +77,10 @@ pub(crate) fn push_empty(row: &mut Vec<Text<String>>, count: usize) -> Result<()
 pub(crate) fn push_texts(
     row: &mut Vec<Text<String>>,
     texts: Vec<CowStr<'_>>,
-) -> Result<(), TableError>
+) -> Result<(), AllocError>
     ensures texts { OnOk result
         (row.new.items ≡ row.old.items ++ map cow_str_bytes texts.entry.items) }
     ensures length { OnOk result (vec_len row.new ≡ vec_len row.old + vec_len texts.entry) }
-    ensures only { IfErr result (λ e. e ≡ Memory) }
 {
     let alloc = *row.allocator();
     'texts: for text in texts {

@@ -48,6 +48,6 @@ pub trait Tabled {
         ensures only { IfErr result (λ e. e ≡ Memory) }
     {
         let texts = self.fields(*row.allocator())?;
-        push_texts(row, texts)
+        Ok(push_texts(row, texts)?)
     }
 }

@@ -59,7 +59,8 @@ impl<T: Tabled> Tabled for Box<T> {
 impl<T: Tabled> Tabled for Option<T> {
     ghost LENGTH = { T.LENGTH };
 
-    ghost shows = { λ value row. MatchOption value (row ≡ replicate T.LENGTH []) (λ some. T.shows some row) };
+    ghost shows = { λ value row. MatchOption value (row ≡ replicate T.LENGTH [])
+        (λ some. T.shows some row) };
 
     ghost names = { T.names };
 
@@ -69,7 +70,7 @@ impl<T: Tabled> Tabled for Option<T> {
 
     fn fields(&self, alloc: Global) -> Result<Vec<CowStr<'_>>, TableError> {
         match self {
-            None => empty_texts(alloc, T::length()),
+            None => Ok(empty_texts(alloc, T::length())?),
             Some(value) => value.fields(alloc),
         }
     }
@@ -80,7 +81,7 @@ impl<T: Tabled> Tabled for Option<T> {
 
     fn push_cells(&self, row: &mut Vec<Text<String>>) -> Result<(), TableError> {
         match self {
-            None => push_empty(row, T::length()),
+            None => Ok(push_empty(row, T::length())?),
             Some(value) => value.push_cells(row),
         }
     }

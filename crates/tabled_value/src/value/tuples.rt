@@ -5,10 +5,11 @@ ghost use Rattle.std.specs.Prelude.{◌+◌, ◌++◌, ◌-◌, ◌^◌, List, d
 ghost use Rattle.tabled_value.specs.Fields.{Joined, Says};
 
 use super::Tabled;
-use crate::texts::{displayed, joined, push_displayed};
+use crate::texts::{displayed, joined};
 use std::alloc::Global;
 use std::borrow::CowStr;
 use std::fmt::Display;
+use std::string::ToString;
 use tabled_base::{TableError, Text};
 
 impl<A: Tabled> Tabled for (A,) {
@@ -88,7 +89,8 @@ impl<A: Tabled, B: Tabled, C: Tabled> Tabled for (A, B, C) {
 impl<A: Tabled, B: Tabled, C: Tabled, D: Tabled> Tabled for (A, B, C, D) {
     ghost LENGTH = { min (A.LENGTH + B.LENGTH + C.LENGTH + D.LENGTH) (2 ^ 64 - 1) };
 
-    ghost shows = { λ t row. Joined (A.shows t.0) (Joined (B.shows t.1) (Joined (C.shows t.2) (D.shows t.3))) row };
+    ghost shows = { λ t row. Joined (A.shows t.0) (Joined (B.shows t.1)
+        (Joined (C.shows t.2) (D.shows t.3))) row };
 
     ghost names = { A.names ++ (B.names ++ (C.names ++ D.names)) };
 
@@ -114,7 +116,8 @@ impl<A: Tabled, B: Tabled, C: Tabled, D: Tabled> Tabled for (A, B, C, D) {
 impl<A: Tabled, B: Tabled, C: Tabled, D: Tabled, E: Tabled> Tabled for (A, B, C, D, E) {
     ghost LENGTH = { min (A.LENGTH + B.LENGTH + C.LENGTH + D.LENGTH + E.LENGTH) (2 ^ 64 - 1) };
 
-    ghost shows = { λ t row. Joined (A.shows t.0) (Joined (B.shows t.1) (Joined (C.shows t.2) (Joined (D.shows t.3) (E.shows t.4)))) row };
+    ghost shows = { λ t row. Joined (A.shows t.0) (Joined (B.shows t.1)
+        (Joined (C.shows t.2) (Joined (D.shows t.3) (E.shows t.4)))) row };
 
     ghost names = { A.names ++ (B.names ++ (C.names ++ (D.names ++ E.names))) };
 
@@ -140,7 +143,8 @@ impl<A: Tabled, B: Tabled, C: Tabled, D: Tabled, E: Tabled> Tabled for (A, B, C,
 
 impl<A: Tabled, B: Tabled, C: Tabled, D: Tabled, E: Tabled, F: Tabled> Tabled
     for (A, B, C, D, E, F) {
-    ghost LENGTH = { min (A.LENGTH + B.LENGTH + C.LENGTH + D.LENGTH + E.LENGTH + F.LENGTH) (2 ^ 64 - 1) };
+    ghost LENGTH = { min (A.LENGTH + B.LENGTH + C.LENGTH + D.LENGTH + E.LENGTH + F.LENGTH)
+        (2 ^ 64 - 1) };
 
     ghost shows = { λ t row. Joined (A.shows t.0) (Joined (B.shows t.1)
         (Joined (C.shows t.2) (Joined (D.shows t.3) (Joined (E.shows t.4) (F.shows t.5))))) row };
@@ -197,7 +201,8 @@ impl<T: Display, const N: usize> Tabled for [T; N] {
 
     fn push_cells(&self, row: &mut Vec<Text<String>>) -> Result<(), TableError> {
         'items: for item in self {
-            push_displayed(row, item)?;
+            let text = item.to_string(*row.allocator())?;
+            row.push(Text::new(text))?;
         }
         Ok(())
     }
