@@ -9,7 +9,7 @@ ghost use Rattle.std.specs.Iterator.{IsFiniteIterable};
 ghost use Rattle.tabled_base.specs.Given.{Given};
 
 use crate::row_ranges::{Pairs, RowRanges};
-use std::alloc::Global;
+use std::alloc::{AllocError, Global};
 use std::marker::Model;
 use tabled_base::{CellText, ExactRecords, PeekableRecords, Position, TableError};
 use tabled_text::tail_measures;
@@ -43,14 +43,14 @@ fn lines_at(lines: &[usize], place: usize) -> usize
     lines.get(place).copied().unwrap_or(1)
 }
 
-/// Stores the end, the columns and the lines of a text. Error: `Memory`; those of the texts before
-/// it are unchanged then.
+/// Stores the end, the columns and the lines of a text. If it fails, those of the texts before it are
+/// unchanged.
 fn push_ends(
     ends: &mut Pairs,
     lines: &mut Vec<usize>,
     place: (usize, usize),
     count: usize,
-) -> Result<(), TableError>
+) -> Result<(), AllocError>
     requires { length lines.old.items ≤ length ends.old }
     ensures ok { OnOk result (ends.new ≡ ends.old ++ place ∷ []) }
     ensures same { (k : ℕ) → k < length ends.old
@@ -58,7 +58,6 @@ fn push_ends(
     ensures noted { OnOk result (slice_index_or lines.new.items (length ends.old) 1 ≡ count) }
     ensures few { OnOk result (length lines.new.items ≤ length ends.old + 1) }
     ensures err { OnErr result (ends.new ≡ ends.old) }
-    ensures only { IfErr result (λ e. e ≡ Memory) }
 {
     if count == 1 {
         return ends.push(place);
@@ -104,11 +103,10 @@ impl JoinedTexts {
         }
     }
 
-    /// Adds a text. Error: `Memory`; the texts are unchanged then.
-    pub fn push(&mut self, text: &str) -> Result<(), TableError>
+    /// Adds a text. If it fails, the texts are unchanged.
+    pub fn push(&mut self, text: &str) -> Result<(), AllocError>
         ensures ok { OnOk result (self.new ≡ self.old ++ text.now ∷ []) }
         ensures err { OnErr result (self.new ≡ self.old) }
-        ensures only { IfErr result (λ e. e ≡ Memory) }
     {
         let start = self.whole.as_str().len();
         self.whole.push_str(text)?;
@@ -145,7 +143,7 @@ impl Model for JoinedRecords {
 }
 
 /// Adds the texts of a row. Some of them may be there after an allocation failed.
-fn push_texts<I: IntoIterator>(texts: &mut JoinedTexts, cells: I) -> Result<(), TableError>
+fn push_texts<I: IntoIterator>(texts: &mut JoinedTexts, cells: I) -> Result<(), AllocError>
 where
     I::Item: CellText + Drop,
     requires { IsFiniteIterable I.into_iter_gives I.IntoIter.can_next I.IntoIter.remaining cells }
@@ -153,7 +151,6 @@ where
     ensures ok { OnOk result ((items : List I.Item)
         × Given I.into_iter_gives I.IntoIter.next_gives cells items
         × (texts.new ≡ texts.old ++ map I.Item.text items)) }
-    ensures only { IfErr result (λ e. e ≡ Memory) }
 {
     let cells = cells.into_iter();
     for cell in cells {

@@ -12,7 +12,7 @@ ghost use Rattle.tabled_base.specs.declared.error.TableError.TheVariants.{Memory
 ghost use Rattle.tabled_text.specs.Measure.{lines_of};
 
 use crate::row_ranges::{Pairs, RowRanges};
-use std::alloc::Global;
+use std::alloc::{AllocError, Global};
 use std::borrow::CowStr;
 use std::marker::Model;
 use tabled_base::{ExactRecords, PeekableRecords, Position, TableError, Text, VecRecords};
@@ -93,18 +93,9 @@ pub fn text_rows(alloc: Global, text: &str) -> Result<LentRows<'_>, TableError>
     if text.is_empty() {
         return Ok(LentRows::new(text, Pairs::new(alloc), RowRanges::new(alloc)));
     }
-    split_rows(alloc, without_last_feed(text))
-}
-
-fn without_last_feed(text: &str) -> &str
-    ensures { result.now ≡ without_last_feed text.now }
-{
-    let bytes = text.as_bytes();
-    if !bytes.is_empty() && bytes[bytes.len() - 1] == b'\n' {
-        &text[..text.len() - 1]
-    } else {
-        text
-    }
+    let last = text.len() - 1;
+    let ends_line = text.as_bytes()[last] == b'\n';
+    split_rows(alloc, if ends_line { &text[..last] } else { text })
 }
 
 fn split_rows(alloc: Global, text: &str) -> Result<LentRows<'_>, TableError>
@@ -188,12 +179,11 @@ fn lend_row<R: PeekableRecords>(
     records: &R,
     row: usize,
     count: usize,
-) -> Result<Vec<Text<CowStr<'_, Global>>>, TableError>
+) -> Result<Vec<Text<CowStr<'_, Global>>>, AllocError>
     requires row { row < length (R.cells records.now) }
     requires columns { count ≡ columns (R.cells records.now) }
     requires long { length (slice_index_or (R.cells records.now) row []) ≡ count }
     ensures ok { IfOk result (λ lent. lent.items ≡ slice_index_or (R.cells records.now) row []) }
-    ensures only { IfErr result (λ e. e ≡ Memory) }
 {
     let mut cells = Vec::with_capacity(alloc, count)?;
     'cells: for column in 0..count {

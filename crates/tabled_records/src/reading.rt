@@ -7,20 +7,19 @@ ghost use Rattle.tabled_base.specs.Given.{Given};
 ghost use Rattle.tabled_records.specs.Buffered.{cells_ahead};
 ghost use Rattle.tabled_records.specs.Reading.{MayGive, Reads, ReadsSome, ReadsTo, Walked};
 
-use std::alloc::Global;
+use std::alloc::{AllocError, Global};
 use tabled_base::TableError;
 
-/// Appends cells to a row. Error: `Memory`; the cells after the failed one aren't read then.
+/// Appends cells to a row. If it fails, the cells after the failed one aren't read.
 fn keep_cells<I: Iterator<Item = C>, C: Drop>(
     row: &mut Vec<C>,
     cells: &mut I,
-) -> Result<(), TableError>
+) -> Result<(), AllocError>
     requires can { I.can_next cells.old }
     requires finite { IsFinite (I.remaining cells.old) }
     ensures ok { OnOk result ((items : List C) × YieldsThen I.next_gives cells.old items None cells.new
         × (row.new.items ≡ row.old.items ++ items)) }
     ensures err { OnErr result (Walked I.can_next I.next_gives I.remaining cells.old cells.new) }
-    ensures only { IfErr result (λ e. e ≡ Memory) }
 {
     'cells: while let Some(cell) = cells.next() {
         row.push(cell)?;
@@ -28,17 +27,17 @@ fn keep_cells<I: Iterator<Item = C>, C: Drop>(
     Ok(())
 }
 
-/// Reads the cells of a row. Error: `Memory`; the other cells are read and dropped then, so that a
-/// source whose rows share their input goes on with its next row.
+/// Reads the cells of a row. If it fails, the other cells are read and dropped, so that a source
+/// whose rows share their input goes on with its next row.
 fn collect_cells<I: IntoIterator<Item = C>, C: Drop>(
     alloc: Global,
     cells: I,
-) -> Result<Vec<C>, TableError>
+) -> Result<Vec<C>, AllocError>
     requires { IsFiniteIterable I.into_iter_gives I.IntoIter.can_next I.IntoIter.remaining cells }
-    ensures ok { IfOk result (λ row. Given I.into_iter_gives I.IntoIter.next_gives cells row.items) }
+    ensures ok { IfOk result (λ row.
+        Given I.into_iter_gives I.IntoIter.next_gives cells row.items) }
     ensures err { OnErr result ((items : List C)
         × Given I.into_iter_gives I.IntoIter.next_gives cells items) }
-    ensures only { IfErr result (λ e. e ≡ Memory) }
 {
     let mut cells = cells.into_iter();
     let mut row = Vec::new(alloc);

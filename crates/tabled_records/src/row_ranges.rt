@@ -6,7 +6,7 @@ ghost use Rattle.tabled_base.specs.Cells.{IsInside, cell_at};
 ghost use Rattle.tabled_records.specs.Joined.{AreJoined, begin, texts_from};
 ghost use Rattle.tabled_records.specs.JoinedRows.{AreRanges, IsCell, longest_range, rows_in};
 
-use std::alloc::Global;
+use std::alloc::{AllocError, Global};
 use std::marker::Model;
 use tabled_base::{Position, TableError};
 
@@ -67,12 +67,11 @@ impl Pairs {
         }
     }
 
-    /// Adds a pair. Error: `Memory`; the list is unchanged then.
+    /// Adds a pair. If it fails, the list is unchanged.
     #[inline(always)]
-    pub fn push(&mut self, pair: (usize, usize)) -> Result<(), TableError>
+    pub fn push(&mut self, pair: (usize, usize)) -> Result<(), AllocError>
         ensures ok { OnOk result (self.new ≡ self.old ++ pair ∷ []) }
         ensures err { OnErr result (self.new ≡ self.old) }
-        ensures only { IfErr result (λ e. e ≡ Memory) }
     {
         match small(pair) {
             Some(small) if self.great.is_empty() => self.small.push(small)?,
