@@ -57,9 +57,8 @@ impl Iterator for EmptyRows {
 
     fn next(&mut self) -> Option<EmptyCells> {
         self.count = self.count.checked_sub(1)?;
-        Some(EmptyCells {
-            count: self.columns,
-        })
+        let count = self.columns;
+        Some(EmptyCells { count })
     }
 }
 

@@ -164,10 +164,9 @@ impl JoinedRecords {
     pub fn new(alloc: Global) -> JoinedRecords
         ensures { result ≡ [] }
     {
-        JoinedRecords {
-            texts: JoinedTexts::new(alloc),
-            rows: RowRanges::new(alloc),
-        }
+        let texts = JoinedTexts::new(alloc);
+        let rows = RowRanges::new(alloc);
+        JoinedRecords { texts, rows }
     }
 
     /// Adds a row. Error: `Memory`; the records are unchanged then.

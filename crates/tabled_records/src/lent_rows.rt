@@ -7,7 +7,7 @@ ghost use Rattle.std.specs.List.{slice_range};
 ghost use Rattle.std.specs.Str.{IsCharBoundary};
 ghost use Rattle.tabled_base.specs.Cells.{lengthened, columns};
 ghost use Rattle.tabled_records.specs.LentRows.{HasNo, IsLent, IsPrintable};
-ghost use Rattle.tabled_records.specs.TextRows.{cells_of, most_cells, text_rows, without_last_feed};
+ghost use Rattle.tabled_records.specs.TextRows.{cells_of, most_cells, text_rows};
 ghost use Rattle.tabled_base.specs.declared.error.TableError.TheVariants.{Memory};
 ghost use Rattle.tabled_text.specs.Measure.{lines_of};
 

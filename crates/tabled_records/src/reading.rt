@@ -102,17 +102,13 @@ pub fn take_rows<I: Iterator<Item = W>, W: IntoIterator<Item = C>, C: Drop>(
         match next_cells(alloc, rows)? {
             Some(cells) => taken.push(cells)?,
             None => {
-                return Ok(Taken {
-                    rows: taken,
-                    whole: true,
-                });
+                let whole = true;
+                return Ok(Taken { rows: taken, whole });
             }
         }
     }
-    Ok(Taken {
-        rows: taken,
-        whole: false,
-    })
+    let whole = false;
+    Ok(Taken { rows: taken, whole })
 }
 
 /// Reads the remaining cells and drops them.

@@ -118,10 +118,8 @@ impl RowRanges {
     pub fn new(alloc: Global) -> RowRanges
         ensures { result ≡ [] }
     {
-        RowRanges {
-            ranges: Pairs::new(alloc),
-            columns: 0,
-        }
+        let ranges = Pairs::new(alloc);
+        RowRanges { ranges, columns: 0 }
     }
 
     /// Returns the number of rows.

@@ -79,10 +79,8 @@ impl<'a, I: Iterator> Iterator for CutCells<'a, I> {
             return Some(CutCell { cell, width: None });
         };
         self.widths = others;
-        Some(CutCell {
-            cell,
-            width: Some(*width),
-        })
+        let width = Some(*width);
+        Some(CutCell { cell, width })
     }
 }
 
