@@ -10,11 +10,6 @@ pub on_err : {T E P Q : Type 0} (r : Result T E) → (P → Q) → OnErr r P →
 on_err (Ok x) f h = h
 on_err (Err e) f h = f h
 
-pub err_in_some : {T E : Type 0} (r : Result T E) (room : Option ℕ) (n : ℕ) (stops : ℕ → Type 0) → room ≡ Some n → OnErr r (stops n)
-    → OnErr r ((m : ℕ) × (room ≡ Some m) × stops m)
-err_in_some (Ok x) room n stops e h = h
-err_in_some (Err d) room n stops e h = (n, e, h)
-
 pub ok_both : {T E : Type 0} (r : Result T E) (suffix : List ℕ) (text_widths : TextWidths) (fields : List (List ℕ)) (records : List (List (List ℕ)))
     (fields' : List (List ℕ)) (records' : List (List (List ℕ))) → AllZip (in_room (IsTruncated suffix) text_widths.fields) fields fields'
     → OnOk r (AllZip (AllZip (IsTruncated suffix text_widths.values)) records records') → OnOk r (AreTruncated suffix text_widths fields records fields' records')
@@ -31,11 +26,16 @@ each_itself : (R : List ℕ → List ℕ → Type 0) → ((x : List ℕ) → R x
 each_itself R f [] = tt
 each_itself R f (x ∷ xs) = (f x, each_itself R f xs)
 
-pub ok_in_some : {T E : Type 0} (r : Result T E) (change : ℕ → List ℕ → List ℕ → Type 0) (room : Option ℕ) (n : ℕ) → room ≡ Some n → (old new : List (List ℕ))
-    → OnOk r (AllZip (change n) old new) → OnOk r (AllZip (in_room change room) old new)
-ok_in_some (Ok x) change room n e old new h =
+pub in_some : (change : ℕ → List ℕ → List ℕ → Type 0) (room : Option ℕ) (n : ℕ) → room ≡ Some n → (old new : List (List ℕ))
+    → AllZip (change n) old new → AllZip (in_room change room) old new
+in_some change room n e old new h =
     each_as (change n) (in_room change room) (λ x y r. subst (λ (o : Option ℕ). in_room change o x y) (sym e) r) old new h
-ok_in_some (Err d) change room n e old new h = h
 
-pub in_none : (change : ℕ → List ℕ → List ℕ → Type 0) (room : Option ℕ) → room ≡ None → (old : List (List ℕ)) → AllZip (in_room change room) old old
-in_none change room e old = each_itself (in_room change room) (λ x. subst (λ (o : Option ℕ). in_room change o x x) (sym e) refl) old
+none_of : (room : Option ℕ) → ((n : ℕ) → room ≡ Some n → ⊥) → room ≡ None
+none_of None h = refl
+none_of (Some n) h = absurd (h n refl)
+
+pub in_none : (change : ℕ → List ℕ → List ℕ → Type 0) (room : Option ℕ) → ((n : ℕ) → room ≡ Some n → ⊥) → (old : List (List ℕ))
+    → AllZip (in_room change room) old old
+in_none change room none old =
+    each_itself (in_room change room) (λ x. subst (λ (o : Option ℕ). in_room change o x x) (sym (none_of room none)) refl) old

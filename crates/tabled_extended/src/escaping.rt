@@ -1,12 +1,11 @@
 //! Escaping of control characters, quotes and backslashes.
-ghost use Rattle.std.specs.Prelude.{◌≡◌, ◌++◌, map, length, vec_len, IfErr, IfOk, OnOk, string_bytes};
+ghost use Rattle.std.specs.Prelude.{◌≡◌, ◌++◌, map, IfOk, OnOk, string_bytes};
 ghost use Rattle.std.specs.Cow.{cow_str_bytes};
-ghost use Rattle.tabled_base.specs.declared.error.TableError.TheVariants.{Memory};
 ghost use Rattle.tabled_extended.specs.Escaped.{escape, escaped, is_control};
 
 use std::alloc::{AllocError, Global};
 use std::borrow::CowStr;
-use tabled_base::{TableError, Text};
+use tabled_base::Text;
 
 fn is_control(c: char) -> bool
     ensures { result ≡ is_control c }
@@ -48,9 +47,8 @@ pub(crate) fn escaped(alloc: Global, text: &str) -> Result<String, AllocError>
 pub(crate) fn escaped_texts(
     alloc: Global,
     texts: Vec<CowStr<'_>>,
-) -> Result<Vec<Text<String>>, TableError>
-    ensures texts { IfOk result (λ row. row.items ≡ map escaped (map cow_str_bytes texts.entry.items)) }
-    ensures only { IfErr result (λ e. e ≡ Memory) }
+) -> Result<Vec<Text<String>>, AllocError>
+    ensures { IfOk result (λ row. row.items ≡ map escaped (map cow_str_bytes texts.entry.items)) }
 {
     let mut row = Vec::with_capacity(alloc, texts.len())?;
     'texts: for text in texts {

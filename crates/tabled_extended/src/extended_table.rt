@@ -56,26 +56,17 @@ impl<F: Copy> ExtendedTable<F> {
         ensures only { IfErr result (λ e. e ≡ Memory) }
     {
         let alloc = *self.fields.allocator();
+        let all = self.records.as_slice();
+        let mut records = Vec::with_capacity(alloc, all.len())?;
+        for record in all {
+            records.push(copied_texts(alloc, record.as_slice())?)?;
+        }
         Ok(ExtendedTable {
             fields: copied_texts(alloc, self.fields.as_slice())?,
-            records: copied_records(alloc, self.records.as_slice())?,
+            records,
             template: self.template,
         })
     }
-}
-
-fn copied_records(
-    alloc: Global,
-    records: &[Vec<Text<String>>],
-) -> Result<Vec<Vec<Text<String>>>, TableError>
-    ensures ok { IfOk result (λ copy. row_texts copy.items ≡ row_texts records.now) }
-    ensures only { IfErr result (λ e. e ≡ Memory) }
-{
-    let mut copy = Vec::with_capacity(alloc, records.len())?;
-    for record in records {
-        copy.push(copied_texts(alloc, record.as_slice())?)?;
-    }
-    Ok(copy)
 }
 
 fn copied_texts(alloc: Global, texts: &[Text<String>]) -> Result<Vec<Text<String>>, TableError>

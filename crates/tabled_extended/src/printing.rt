@@ -1,6 +1,6 @@
 //! Printing the lines of records.
 ghost use Rattle.std.specs.Prelude.{◌≡◌, ◌⊎◌, ◌≤◌, ◌<◌, ◌+◌, ◌-◌, ◌^◌, ◌∷◌, ◌++◌, [], ℕ, List};
-ghost use Rattle.std.specs.Prelude.{IfErr, IfOk, IfNone, IfSome, OnOk, codes, false, length, map};
+ghost use Rattle.std.specs.Prelude.{IfErr, IfOk, IfNone, IfSome, OnOk, false, length, map};
 ghost use Rattle.std.specs.Prelude.{min, slice_index_or, string_bytes, true};
 ghost use Rattle.std.specs.List.{zip};
 ghost use Rattle.tabled_base.specs.Cells.{row_texts};
@@ -109,21 +109,6 @@ fn write_header<S: TextSink>(
     write_title_rule(sink, widths, title_width(label))
 }
 
-fn write_field<S: TextSink>(
-    sink: &mut S,
-    field: &str,
-    spaces: usize,
-    value: &str,
-) -> Result<(), TableError>
-    ensures { Writes (S.sent sink.old) result (S.sent sink.new)
-        (field.now ++ (fill 32 spaces ++ (codes " | " ++ value.now))) }
-{
-    sink.write_text(field)?;
-    write_fill(sink, ' ', spaces)?;
-    sink.write_text(" | ")?;
-    sink.write_text(value)
-}
-
 fn write_value_line<S: TextSink>(
     sink: &mut S,
     begun: &mut bool,
@@ -136,7 +121,10 @@ fn write_value_line<S: TextSink>(
 {
     let spaces = columns.saturating_sub(field.width());
     write_break(sink, begun)?;
-    write_field(sink, field.text(), spaces, value.text())
+    sink.write_text(field.text())?;
+    write_fill(sink, ' ', spaces)?;
+    sink.write_text(" | ")?;
+    sink.write_text(value.text())
 }
 
 fn write_value_lines<S: TextSink>(

@@ -1,11 +1,8 @@
 //! Truncating the fields and values of records, and the widths to which they are truncated.
-ghost use Rattle.std.specs.Prelude.{◌≡◌, ◌-◌, ◌≤◌, ℕ, IfErr, IfOk, MatchOption, None, OnErr};
-ghost use Rattle.std.specs.Prelude.{OnOk, Some, decimal, if◌then◌else◌, length, nat_lt};
-ghost use Rattle.std.specs.Prelude.{string_bytes};
+ghost use Rattle.std.specs.Prelude.{◌≡◌, ◌-◌, IfOk, MatchOption, None, OnErr, OnOk, Some};
+ghost use Rattle.std.specs.Prelude.{if◌then◌else◌, nat_lt, string_bytes};
 ghost use Rattle.std.specs.List.{AllZip};
 ghost use Rattle.tabled_base.specs.Cells.{row_texts};
-ghost use Rattle.tabled_base.specs.declared.error.TableError.TheVariants.{Memory};
-ghost use Rattle.tabled_set.specs.CellChanges.{in_room};
 ghost use Rattle.tabled_set.specs.Truncated.{suffix_columns};
 ghost use Rattle.tabled_extended.specs.Truncated.{AreTruncated, IsRefused, IsTruncated};
 ghost use Rattle.tabled_extended.specs.Truncated.{StopsInRecord, StopsInRecords, StopsTruncating};
@@ -58,10 +55,8 @@ fn text_widths_in(max: usize, count: usize, field: usize, suffix: &str) -> Optio
     }
     let texts = left.checked_sub(3)?.checked_sub(max - left)?;
     if left - 3 < field {
-        return Some(TextWidths {
-            fields: Some(texts),
-            values: 0,
-        });
+        let fields = Some(texts);
+        return Some(TextWidths { fields, values: 0 });
     }
     Some(TextWidths {
         fields: None,
@@ -96,10 +91,9 @@ fn truncate_text(
     text: &mut Text<String>,
     width_limit: usize,
     suffix: &str,
-) -> Result<(), TableError>
+) -> Result<(), AllocError>
     ensures ok { OnOk result (IsTruncated suffix.now width_limit text.old text.new) }
     ensures err { OnErr result (IsRefused suffix.now width_limit text.old text.new) }
-    ensures only { IfErr result (λ e. e ≡ Memory) }
 {
     if let Some(answer) = truncated(alloc, text.text(), width_limit, suffix)? {
         *text = Text::new(answer);
@@ -112,10 +106,10 @@ fn truncate_row(
     row: &mut Vec<Text<String>>,
     width_limit: usize,
     suffix: &str,
-) -> Result<(), TableError>
-    ensures ok { OnOk result (AllZip (IsTruncated suffix.now width_limit) row.old.items row.new.items) }
+) -> Result<(), AllocError>
+    ensures ok { OnOk result
+        (AllZip (IsTruncated suffix.now width_limit) row.old.items row.new.items) }
     ensures err { OnErr result (StopsInRecord suffix.now width_limit row.old.items row.new.items) }
-    ensures only { IfErr result (λ e. e ≡ Memory) }
 {
     'texts: for index in 0..row.len() {
         truncate_text(alloc, &mut row[index], width_limit, suffix)?;
@@ -123,35 +117,16 @@ fn truncate_row(
     Ok(())
 }
 
-fn truncate_if_limited(
-    alloc: Global,
-    row: &mut Vec<Text<String>>,
-    width_limit: Option<usize>,
-    suffix: &str,
-) -> Result<(), TableError>
-    ensures ok { OnOk result
-        (AllZip (in_room (IsTruncated suffix.now) width_limit) row.old.items row.new.items) }
-    ensures err { OnErr result ((n : ℕ) × (width_limit ≡ Some n)
-        × StopsInRecord suffix.now n row.old.items row.new.items) }
-    ensures only { IfErr result (λ e. e ≡ Memory) }
-{
-    match width_limit {
-        Some(columns) => truncate_row(alloc, row, columns, suffix),
-        None => Ok(()),
-    }
-}
-
 fn truncate_rows(
     alloc: Global,
     rows: &mut Vec<Vec<Text<String>>>,
     width_limit: usize,
     suffix: &str,
-) -> Result<(), TableError>
+) -> Result<(), AllocError>
     ensures ok { OnOk result (AllZip (AllZip (IsTruncated suffix.now width_limit))
         (row_texts rows.old.items) (row_texts rows.new.items)) }
     ensures err { OnErr result (StopsInRecords suffix.now width_limit
         (row_texts rows.old.items) (row_texts rows.new.items)) }
-    ensures only { IfErr result (λ e. e ≡ Memory) }
 {
     'rows: for index in 0..rows.len() {
         truncate_row(alloc, &mut rows[index], width_limit, suffix)?;
@@ -160,18 +135,19 @@ fn truncate_rows(
 }
 
 impl<F> ExtendedTable<F> {
-    fn truncate_to(&mut self, text_widths: TextWidths, suffix: &str) -> Result<(), TableError>
+    fn truncate_to(&mut self, text_widths: TextWidths, suffix: &str) -> Result<(), AllocError>
         ensures ok { OnOk result (AreTruncated suffix.now text_widths
             self.old.fields.items (row_texts self.old.records.items)
             self.new.fields.items (row_texts self.new.records.items)) }
         ensures err { OnErr result (StopsTruncating suffix.now text_widths
             self.old.fields.items (row_texts self.old.records.items)
             self.new.fields.items (row_texts self.new.records.items)) }
-        ensures only { IfErr result (λ e. e ≡ Memory) }
         ensures template { self.new.template ≡ self.old.template }
     {
         let alloc = *self.fields.allocator();
-        truncate_if_limited(alloc, &mut self.fields, text_widths.fields, suffix)?;
+        if let Some(columns) = text_widths.fields {
+            truncate_row(alloc, &mut self.fields, columns, suffix)?;
+        }
         truncate_rows(alloc, &mut self.records, text_widths.values, suffix)
     }
 

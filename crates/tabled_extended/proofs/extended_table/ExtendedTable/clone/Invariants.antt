@@ -1,0 +1,6 @@
+use Rattle.std.proofs.Common.{◌≡◌, take}
+use Rattle.tabled_base.specs.Cells.{row_texts}
+use Rattle.tabled_extended.proofs.extended_table.ExtendedTable.clone.Given as goal
+
+abbrev pub invariant-loop-record : goal.invariant-loop-record
+invariant-loop-record g l = row_texts l.records.items ≡ take l.record-index (row_texts l.all)
