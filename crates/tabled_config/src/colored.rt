@@ -41,8 +41,7 @@ impl ColoredConfig {
         ensures equal { IfOk result (λ copy. copy ≡ self.now) }
         ensures only { IfErr result (λ e. e ≡ Memory) }
     {
-        Ok(ColoredConfig {
-            config: self.config.clone()?,
-        })
+        let config = self.config.clone()?;
+        Ok(ColoredConfig { config })
     }
 }

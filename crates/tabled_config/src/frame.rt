@@ -18,10 +18,8 @@ impl VerticalLine {
     fn new(there: bool, main: Option<char>) -> VerticalLine
         ensures { result ≡ vertical_line there main }
     {
-        VerticalLine {
-            there,
-            main: main.unwrap_or(' '),
-        }
+        let main = main.unwrap_or(' ');
+        VerticalLine { there, main }
     }
 }
 

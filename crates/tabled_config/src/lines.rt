@@ -26,17 +26,15 @@ impl HorizontalLines {
     pub fn new(alloc: Global) -> HorizontalLines
         ensures { result ≡ [] }
     {
-        HorizontalLines {
-            lines: BTreeMap::new(alloc),
-        }
+        let lines = BTreeMap::new(alloc);
+        HorizontalLines { lines }
     }
 
     pub fn clone(&self) -> Result<HorizontalLines, AllocError>
         ensures { IfOk result (λ copy. copy ≡ self.now) }
     {
-        Ok(HorizontalLines {
-            lines: self.lines.clone()?,
-        })
+        let lines = self.lines.clone()?;
+        Ok(HorizontalLines { lines })
     }
 
     /// Sets the line at an index. Replacing a line doesn't allocate. On failure nothing changes.

@@ -68,24 +68,20 @@ impl Style {
     pub fn modern() -> Style
         ensures { result ≡ modern }
     {
-        frame(
-            line('┌', '─', '┬', '┐'),
-            line('├', '─', '┼', '┤'),
-            line('└', '─', '┴', '┘'),
-            '│',
-        )
+        let top = line('┌', '─', '┬', '┐');
+        let inner = line('├', '─', '┼', '┤');
+        let bottom = line('└', '─', '┴', '┘');
+        frame(top, inner, bottom, '│')
     }
 
     /// Double lines of box characters.
     pub fn extended() -> Style
         ensures { result ≡ extended }
     {
-        frame(
-            line('╔', '═', '╦', '╗'),
-            line('╠', '═', '╬', '╣'),
-            line('╚', '═', '╩', '╝'),
-            '║',
-        )
+        let top = line('╔', '═', '╦', '╗');
+        let inner = line('╠', '═', '╬', '╣');
+        let bottom = line('╚', '═', '╩', '╝');
+        frame(top, inner, bottom, '║')
     }
 
     /// Vertical lines of `|`, and one line below the first row.
