@@ -11,7 +11,7 @@ ghost use Rattle.tabled_set.specs.Extremes.{StoresSizes};
 ghost use Rattle.tabled_set.specs.Narrowed.{IsShrunkBy};
 
 use crate::measurement::{Direction, Height, TextMeasure, Width};
-use std::alloc::Global;
+use std::alloc::{AllocError, Global};
 use std::marker::PhantomData;
 use tabled_base::{Entity, ExactRecords, PeekableRecords, TableError, TableOption};
 use tabled_config::SpannedConfig;
@@ -38,10 +38,8 @@ impl<A> SizeList<A> {
     pub fn new(list: Vec<usize>) -> SizeList<A>
         ensures { result.list ≡ list }
     {
-        SizeList {
-            list,
-            direction: PhantomData,
-        }
+        let direction = PhantomData;
+        SizeList { list, direction }
     }
 
     /// Creates an option that stores the sizes that an iterator yields. Fails only with `Memory`.
@@ -104,18 +102,16 @@ impl<A: Direction + Drop, R: ExactRecords, C> TableOption<R, C, CompleteDimensio
 /// Returns a copy of the sizes, shrunk by the priority by an amount.
 pub(crate) fn shrunk<P: Peaker + Drop>(
     alloc: Global,
-    priority: P,
+    mut priority: P,
     sizes: &[usize],
     mins: &[usize],
     by: usize,
-) -> Result<Vec<usize>, TableError>
+) -> Result<Vec<usize>, AllocError>
     requires { FitsMinimums sizes.now mins.now }
     ensures shrunk { IfOk result (λ list.
         IsShrunkBy P.shrinks priority sizes.now mins.now by list.items) }
     ensures long { IfOk result (λ list. length list.items ≡ length sizes.now) }
-    ensures only { IfErr result (λ e. e ≡ Memory) }
 {
-    let mut priority = priority;
     let mut list = Vec::from_slice(alloc, sizes)?;
     let _taken = priority.shrink(mins, &mut list, by, &mut Steps::new());
     Ok(list)
@@ -124,15 +120,13 @@ pub(crate) fn shrunk<P: Peaker + Drop>(
 /// Returns a copy of the sizes, grown by the priority by an amount.
 pub(crate) fn grown<P: Peaker + Drop>(
     alloc: Global,
-    priority: P,
+    mut priority: P,
     sizes: &[usize],
     by: usize,
-) -> Result<Vec<usize>, TableError>
+) -> Result<Vec<usize>, AllocError>
     requires { sum sizes.now + by < 2 ^ 64 }
     ensures grown { IfOk result (λ list. IsGrownBy P.grows priority sizes.now by list.items) }
-    ensures only { IfErr result (λ e. e ≡ Memory) }
 {
-    let mut priority = priority;
     let mut list = Vec::from_slice(alloc, sizes)?;
     let _added = priority.grow(&mut list, by, &mut Steps::new());
     Ok(list)
