@@ -15,9 +15,7 @@ pub(crate) fn one_text<'a>(alloc: Global, text: CowStr<'a>) -> Result<Vec<CowStr
     ensures length { IfOk result (λ v. vec_len v ≡ 1) }
     ensures only { IfErr result (λ e. e ≡ Memory) }
 {
-    let mut texts = Vec::new(alloc);
-    texts.push(text)?;
-    Ok(texts)
+    Ok(vec![in alloc; text]?)
 }
 
 /// Returns what `Display` writes of a value. A `Display` that fails is reported as `Memory`.
@@ -58,8 +56,7 @@ pub(crate) fn push_text(row: &mut Vec<Text<String>>, text: &str) -> Result<(), T
     ensures only { IfErr result (λ e. e ≡ Memory) }
 {
     let text = Text::copied(*row.allocator(), text)?;
-    row.push(text)?;
-    Ok(())
+    Ok(row.push(text)?)
 }
 
 pub(crate) fn push_empty(row: &mut Vec<Text<String>>, count: usize) -> Result<(), AllocError>
