@@ -1,11 +1,11 @@
 //! Sizes that are stored or not (`CompleteDimension`).
-ghost use Rattle.std.specs.Prelude.{◌≡◌, ◌&&◌, ◌⊎◌, IfErr, IfOk, IsSome, None, OnErr, Some, is_none, is_some, option_map, true};
+ghost use Rattle.std.specs.Prelude.{◌≡◌, ◌&&◌, ◌⊎◌, IfErr, IfOk, IsSome, None, OnErr, Some, is_none, is_some, option_map};
 ghost use Rattle.tabled_base.specs.declared.error.TableError.TheVariants.{Memory};
 ghost use Rattle.tabled_size.specs.Entries.{clears_heights, clears_widths, stored_at, unless_cleared};
 ghost use Rattle.tabled_size.specs.Stored.{heights_of, is_stored, widths_of};
 
 use crate::dimension::Dimension;
-use std::alloc::Global;
+use std::alloc::{AllocError, Global};
 use tabled_base::{Entity, TableError};
 
 /// The widths and the heights of a table, each stored or not. What isn't stored is estimated when
@@ -136,10 +136,10 @@ impl CompleteDimension {
     }
 }
 
-fn clone_sizes(sizes: &Option<Vec<usize>>) -> Result<Option<Vec<usize>>, TableError>
-    ensures ok { IfOk result (λ copy. option_map (λ v. v.items) copy ≡ option_map (λ v. v.items) sizes.now) }
+fn clone_sizes(sizes: &Option<Vec<usize>>) -> Result<Option<Vec<usize>>, AllocError>
+    ensures ok { IfOk result (λ copy. option_map (λ v. v.items) copy
+        ≡ option_map (λ v. v.items) sizes.now) }
     ensures stored { OnErr result (IsSome (option_map (λ v. v.items) sizes.now)) }
-    ensures only { IfErr result (λ e. e ≡ Memory) }
 {
     match sizes {
         None => Ok(None),
@@ -156,17 +156,6 @@ fn has_entry(sizes: &Option<Vec<usize>>, place: usize) -> bool
     }
 }
 
-// A lookup through an `Option` costs a printed cell 17 instructions more.
-fn get_entry(sizes: &Option<Vec<usize>>, place: usize) -> usize
-    requires { is_some (stored_at (option_map (λ v. v.items) sizes.now) place) ≡ true }
-    ensures { Some result ≡ stored_at (option_map (λ v. v.items) sizes.now) place }
-{
-    match sizes {
-        None => unreachable!(),
-        Some(sizes) => sizes[place],
-    }
-}
-
 impl Dimension for CompleteDimension {
     ghost width_at = { λ s column. stored_at (widths_of s) column };
 
@@ -180,11 +169,18 @@ impl Dimension for CompleteDimension {
         has_entry(&self.height, row)
     }
 
+    // A lookup through an `Option` costs a printed cell 17 instructions more.
     fn get_width(&self, column: usize) -> usize {
-        get_entry(&self.width, column)
+        match &self.width {
+            None => unreachable!(),
+            Some(widths) => widths[column],
+        }
     }
 
     fn get_height(&self, row: usize) -> usize {
-        get_entry(&self.height, row)
+        match &self.height {
+            None => unreachable!(),
+            Some(heights) => heights[row],
+        }
     }
 }

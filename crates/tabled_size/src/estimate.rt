@@ -12,7 +12,7 @@ ghost use Rattle.tabled_size.specs.Stored.{is_stored};
 
 use crate::complete_dimension::CompleteDimension;
 use crate::dimension::Estimate;
-use crate::padding::{KnownAdded, Listed, RowPadding, row_added};
+use crate::padding::{KnownAdded, RowPadding, row_added};
 use std::alloc::Global;
 use tabled_base::{PeekableRecords, Position, TableError};
 use tabled_config::{ColoredConfig, Indent, Sides, SpannedConfig};
@@ -43,7 +43,8 @@ fn raise_widths<R: PeekableRecords>(
 ) -> Result<(), TableError>
     requires row_in { row < length (R.cells records.now) }
     requires columns { length widths.old ≡ columns (R.cells records.now) }
-    ensures ok { IfOk result (λ _. widths.new ≡ raised widths.old (R.cells records.now) config.now row) }
+    ensures ok { IfOk result (λ _. widths.new
+        ≡ raised widths.old (R.cells records.now) config.now row) }
     ensures err { IfErr result (λ e. (e ≡ Range) × IsTooWide (R.cells records.now) config.now) }
 {
     let paddings = config.paddings_in(row);
@@ -166,8 +167,7 @@ fn measure_known<R: PeekableRecords>(
     match known {
         KnownAdded::Alike(extent) => measure_row(records, config, row, widths, *extent),
         KnownAdded::Unlike(Some(listed)) if listed.is_padded_in(config, row) => {
-            let extents = Listed(listed.extents.as_slice());
-            measure_row(records, config, row, widths, extents)
+            measure_row(records, config, row, widths, listed.extents.as_slice())
         }
         _ => match row_added(config, row) {
             Some(extent) => measure_row(records, config, row, widths, extent),
@@ -183,8 +183,10 @@ pub fn estimate_sizes<R: PeekableRecords>(
     records: &R,
     config: &SpannedConfig,
 ) -> Result<(Vec<usize>, Vec<usize>), TableError>
-    ensures widths { IfOk result (λ sizes. sizes.0.items ≡ estimated_widths (R.cells records.now) config.now) }
-    ensures heights { IfOk result (λ sizes. sizes.1.items ≡ estimated_heights (R.cells records.now) config.now) }
+    ensures widths { IfOk result (λ sizes. sizes.0.items
+        ≡ estimated_widths (R.cells records.now) config.now) }
+    ensures heights { IfOk result (λ sizes. sizes.1.items
+        ≡ estimated_heights (R.cells records.now) config.now) }
     ensures err { IfErr result (λ e. (e ≡ Memory) ⊎ ((e ≡ Range)
         × IsTooLarge (R.cells records.now) config.now)) }
 {

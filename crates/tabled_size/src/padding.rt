@@ -1,6 +1,6 @@
 //! What padding adds to the width and height of each cell.
-ghost use Rattle.std.specs.Prelude.{◌≡◌, ℕ, IfNone, IfSome, map, true};
-ghost use Rattle.std.specs.List.{range_with_len, slice_index_or};
+ghost use Rattle.std.specs.Prelude.{◌≡◌, ℕ, IfNone, IfSome, true};
+ghost use Rattle.std.specs.List.{slice_index_or};
 ghost use Rattle.tabled_config.specs.Settings.{style_at};
 ghost use Rattle.tabled_entity.specs.RowValues.{value_at};
 ghost use Rattle.tabled_size.specs.Added.{IsListed, KnowsAdded, PassesRange, added_at, added_by, nothing};
@@ -33,10 +33,6 @@ pub(crate) trait RowPadding {
         ensures none { IfNone result (PassesRange (known self.now column)) };
 }
 
-/// What padding adds, as a list with one entry for each column, and 0 after its end.
-#[derive(Drop)]
-pub(crate) struct Listed<'a>(pub(crate) &'a [Extent]);
-
 /// What padding adds in each column of one row, and of every row with the same padding.
 #[derive(Drop)]
 pub(crate) struct ListedRow {
@@ -67,13 +63,6 @@ fn added_by(padding: Sides<Indent>) -> Option<Extent>
     })
 }
 
-fn shared_added(config: &SpannedConfig) -> Option<Extent>
-    ensures { IfSome result (λ extent. (row column : ℕ) → extent ≡ added_at config.now row column) }
-{
-    let padding = config.shared_padding()?;
-    added_by(padding)
-}
-
 #[inline(always)]
 pub(crate) fn row_added(config: &SpannedConfig, row: usize) -> Option<Extent>
     ensures { IfSome result (λ extent. (column : ℕ) → extent ≡ added_at config.now row column) }
@@ -84,20 +73,19 @@ pub(crate) fn row_added(config: &SpannedConfig, row: usize) -> Option<Extent>
 
 /// Lists what padding adds in the first `columns` columns of a row. `None` if a sum exceeds
 /// `usize::MAX` or an allocation failed.
-fn listed_in(
-    alloc: Global,
-    config: &SpannedConfig,
-    row: usize,
-    columns: usize,
-) -> Option<Vec<Extent>>
-    ensures { IfSome result (λ extents. extents.items ≡ map (added_at config.now row) (range_with_len 0 columns)) }
+fn list_row(alloc: Global, config: &SpannedConfig, row: usize, columns: usize) -> Option<ListedRow>
+    ensures { IfSome result (IsListed config.now columns) }
 {
     let mut extents = Vec::with_capacity(alloc, columns).ok()?;
     'columns: for column in 0..columns {
         let extent = added_by(config.get_padding(Position { row, column }))?;
         extents.push(extent).ok()?;
     }
-    Some(extents)
+    Some(ListedRow {
+        reference: row,
+        everywhere: config.are_all_padded_alike(),
+        extents,
+    })
 }
 
 /// The same in all columns.
@@ -110,17 +98,19 @@ impl RowPadding for Extent {
     }
 }
 
-impl<'a> RowPadding for Listed<'a> {
-    ghost known = { λ listed column. slice_index_or listed.0.now column nothing };
+/// One entry for each column, and 0 after the last one.
+impl<'a> RowPadding for &'a [Extent] {
+    ghost known = { λ extents column. slice_index_or extents.now column nothing };
 
     #[inline(always)]
     fn at(&self, column: usize) -> Option<Extent> {
-        Some(
-            self.0.get(column).copied().unwrap_or(Extent {
+        match self.get(column) {
+            Some(extent) => Some(*extent),
+            None => Some(Extent {
                 columns: 0,
                 lines: 0,
             }),
-        )
+        }
     }
 }
 
@@ -138,8 +128,9 @@ impl ListedRow {
     /// Whether a row is known to have the same paddings as the listed one.
     #[inline(always)]
     pub(crate) fn is_padded_in(&self, config: &SpannedConfig, row: usize) -> bool
-        ensures { (columns : ℕ) → IsListed config.now columns self.now → result ≡ true → (column : ℕ)
-            → (style_at config.now row column).padding ≡ (style_at config.now self.now.reference column).padding }
+        ensures { (columns : ℕ) → IsListed config.now columns self.now → result ≡ true
+            → (column : ℕ) → (style_at config.now row column).padding
+            ≡ (style_at config.now self.now.reference column).padding }
     {
         self.everywhere || config.are_padded_alike(row, self.reference)
     }
@@ -157,24 +148,20 @@ impl KnownAdded {
     ) -> KnownAdded
         ensures { KnowsAdded result config.now columns }
     {
-        if let Some(extent) = shared_added(config) {
+        if let Some(padding) = config.shared_padding()
+            && let Some(extent) = added_by(padding)
+        {
             return KnownAdded::Alike(extent);
         }
-        // If padding was set only for rows and cells, each row looks up its own.
-        if rows < 2 || columns > MOST_COLUMNS || row_added(config, rows).is_some() {
+        // If padding was set only for rows and cells, each row looks up its own. Hardly anything is
+        // set for the row after the last one, so most rows have its padding.
+        if rows < 2
+            || columns > MOST_COLUMNS
+            || config.row_padding(rows).is_some()
+            || !config.are_padded_alike(rows, rows)
+        {
             return KnownAdded::Unlike(None);
         }
-        // Hardly anything is set for the row after the last one, so most rows have its padding.
-        if !config.are_padded_alike(rows, rows) {
-            return KnownAdded::Unlike(None);
-        }
-        match listed_in(alloc, config, rows, columns) {
-            Some(extents) => KnownAdded::Unlike(Some(ListedRow {
-                reference: rows,
-                everywhere: config.are_all_padded_alike(),
-                extents,
-            })),
-            None => KnownAdded::Unlike(None),
-        }
+        KnownAdded::Unlike(list_row(alloc, config, rows, columns))
     }
 }

@@ -79,20 +79,6 @@ fn one_if(there: bool) -> usize
     if there { 1 } else { 0 }
 }
 
-#[tactic(auto, using(tabled_priority::proofs::Sums::sum_step, crate::proofs::Reaching::reached_is))]
-fn sum_widths<D: Dimension>(sizes: &D, columns: usize) -> Option<usize>
-    requires { columns ≤ length (reached (D.width_at sizes.now) columns) }
-    ensures { let widths = reached (D.width_at sizes.now) columns in
-        MatchOption result (2 ^ 64 ≤ sum_below (slice_index widths) columns)
-        (λ n. n ≡ sum_below (slice_index widths) columns) }
-{
-    let mut total: usize = 0;
-    'columns: for column in 0..columns {
-        total = total.checked_add(sizes.get_width(column))?;
-    }
-    Some(total)
-}
-
 #[tactic(auto, unfolding(crate::specs::Totals::framed_width))]
 fn framed_width(config: &SpannedConfig, columns: usize, inside: usize) -> Option<usize>
     ensures { let whole = framed_width config.now columns inside in
@@ -109,7 +95,7 @@ fn framed_width(config: &SpannedConfig, columns: usize, inside: usize) -> Option
 
 /// Returns the total width of a table with `columns` columns, at least one, whose widths are all
 /// known: the widths, the vertical lines and the side margins. `None` if it exceeds `usize::MAX`.
-#[tactic(auto, unfolding(crate::specs::Totals::filled_width, crate::specs::Totals::framed_width))]
+#[tactic(auto, unfolding(crate::specs::Totals::filled_width, crate::specs::Totals::framed_width), using(tabled_priority::proofs::Sums::sum_step, crate::proofs::Reaching::reached_is))]
 pub fn filled_width<D: Dimension>(
     config: &SpannedConfig,
     columns: usize,
@@ -120,22 +106,11 @@ pub fn filled_width<D: Dimension>(
         let whole = filled_width config.now columns widths in
         MatchOption result (2 ^ 64 ≤ whole) (λ n. n ≡ whole) }
 {
-    framed_width(config, columns, sum_widths(sizes, columns)?)
-}
-
-#[tactic(auto, unfolding(crate::specs::Totals::part_height), using(tabled_priority::proofs::Sums::sum_step, crate::proofs::Reaching::reached_is))]
-fn sum_rows<D: Dimension>(config: &SpannedConfig, rows: usize, sizes: &D) -> Option<usize>
-    requires { rows ≤ length (reached (D.height_at sizes.now) rows) }
-    ensures { let part = part_height config.now rows (reached (D.height_at sizes.now) rows) in
-        MatchOption result (2 ^ 64 ≤ sum_below part rows) (λ n. n ≡ sum_below part rows) }
-{
     let mut total: usize = 0;
-    'rows: for row in 0..rows {
-        let line = one_if(config.rule_at(rows, row).is_some());
-        let part = line.checked_add(sizes.get_height(row))?;
-        total = total.checked_add(part)?;
+    'columns: for column in 0..columns {
+        total = total.checked_add(sizes.get_width(column))?;
     }
-    Some(total)
+    framed_width(config, columns, total)
 }
 
 #[tactic(auto, unfolding(crate::specs::Totals::framed_height))]
@@ -151,13 +126,19 @@ fn framed_height(config: &SpannedConfig, rows: usize, inside: usize) -> Option<u
 
 /// Returns the total height of a table with `rows` rows, at least one, whose heights are all known:
 /// the heights, the horizontal lines, top and bottom margin. `None` if it exceeds `usize::MAX`.
-#[tactic(auto, unfolding(crate::specs::Totals::filled_height, crate::specs::Totals::framed_height))]
+#[tactic(auto, unfolding(crate::specs::Totals::filled_height, crate::specs::Totals::framed_height, crate::specs::Totals::part_height), using(tabled_priority::proofs::Sums::sum_step, crate::proofs::Reaching::reached_is))]
 pub fn filled_height<D: Dimension>(config: &SpannedConfig, rows: usize, sizes: &D) -> Option<usize>
     requires { rows ≤ length (reached (D.height_at sizes.now) rows) }
     ensures { let whole = filled_height config.now rows (reached (D.height_at sizes.now) rows) in
         MatchOption result (2 ^ 64 ≤ whole) (λ n. n ≡ whole) }
 {
-    framed_height(config, rows, sum_rows(config, rows, sizes)?)
+    let mut total: usize = 0;
+    'rows: for row in 0..rows {
+        let line = one_if(config.rule_at(rows, row).is_some());
+        let part = line.checked_add(sizes.get_height(row))?;
+        total = total.checked_add(part)?;
+    }
+    framed_height(config, rows, total)
 }
 
 fn reached_width<D: Dimension>(

@@ -2,7 +2,7 @@ use Rattle.std.proofs.Common.{◌++◌, ◌∷◌, [], ◌∙◌, ap, sym, map, 
 use Rattle.std.specs.List.{range_with_len}
 use Rattle.std.proofs.lemmas.List.FromFn.{map-range_with_len_more}
 use Rattle.tabled_size.specs.Added.{added_at, added_by}
-use Rattle.tabled_size.proofs.padding.listed_in.Goals as goal
+use Rattle.tabled_size.proofs.padding.list_row.Goals as goal
 
 pub columns-preserved : goal.columns-preserved
 columns-preserved c =

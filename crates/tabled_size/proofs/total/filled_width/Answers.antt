@@ -3,7 +3,7 @@ use Rattle.std.specs.List.{slice_index}
 use Rattle.tabled_size.specs.Reached.{reached}
 use Rattle.tabled_size.proofs.EstimatedTotals.{sum-more}
 use Rattle.tabled_size.proofs.Reaching.{reached_size, reached_there}
-use Rattle.tabled_size.proofs.total.sum_widths.Goals as goal
+use Rattle.tabled_size.proofs.total.filled_width.Goals as goal
 
 pub get_width-requires : goal.get_width-requires
 get_width-requires g c =

@@ -4,7 +4,7 @@ use Rattle.tabled_size.specs.Reached.{reached}
 use Rattle.tabled_size.specs.Totals.{part_height, rules_at}
 use Rattle.tabled_size.proofs.EstimatedTotals.{sum-more}
 use Rattle.tabled_size.proofs.Reaching.{reached_size, reached_there}
-use Rattle.tabled_size.proofs.total.sum_rows.Goals as goal
+use Rattle.tabled_size.proofs.total.filled_height.Goals as goal
 
 pub get_height-requires : goal.get_height-requires
 get_height-requires g c =

@@ -2,7 +2,7 @@ use Rattle.std.proofs.Common.{◌≡◌}
 use Rattle.std.specs.List.{slice_index}
 use Rattle.tabled_size.specs.Reached.{reached}
 use Rattle.tabled_priority.specs.Sums.{sum_below}
-use Rattle.tabled_size.proofs.total.sum_widths.Given as goal
+use Rattle.tabled_size.proofs.total.filled_width.Given as goal
 
 abbrev pub invariant-columns : goal.invariant-columns
 invariant-columns g l = l.total ≡ sum_below (slice_index (reached (g.D.Dimension.width_at l.sizes) l.columns)) l.column
