@@ -86,7 +86,7 @@ fn narrow_by_lookup<R: PeekableRecords, D: Dimension>(
     ensures { MatchOption result (IsHeldIn grid.now row) (IsNarrowIn grid.now row) }
 {
     let paddings = grid.config.paddings_in(row);
-    'columns: for column in 0..grid.count_columns() {
+    'columns: for column in 0..grid.records.count_columns() {
         if !is_held(grid, row, column, *paddings.at(column)) {
             return Some(column);
         }
@@ -114,7 +114,7 @@ pub(crate) fn check_narrow<R: PeekableRecords, D: Dimension>(
     ensures ok { OnOk result (Holds grid.now) }
     ensures err { IfErr result (IsNarrow grid.now) }
 {
-    'rows: for row in 0..grid.count_rows() {
+    'rows: for row in 0..grid.records.count_rows() {
         if let Some(column) = narrow_in(grid, row) {
             return Err(TableError::Narrow { row, column });
         }
@@ -144,13 +144,12 @@ pub(crate) fn check_totals<R: PeekableRecords, D: Dimension>(
     ensures in_range { OnOk result (IsInRange grid.now) }
     ensures err { IfErr result (IsRefused grid.now) }
 {
-    let Some(width) = filled_width(grid.config, grid.records.count_columns(), grid.dimension) else {
-        return Err(TableError::Range);
-    };
-    if filled_height(grid.config, grid.records.count_rows(), grid.dimension).is_none() {
-        return Err(TableError::Range);
+    let width = filled_width(grid.config, grid.records.count_columns(), grid.dimension);
+    let height = filled_height(grid.config, grid.records.count_rows(), grid.dimension);
+    match (width, height) {
+        (Some(width), Some(_)) => Ok(width),
+        _ => Err(TableError::Range),
     }
-    Ok(width)
 }
 
 /// Checks the widths or heights that are stored, before the others are estimated. Estimates are

@@ -1,6 +1,6 @@
 //! The placements of all columns in rows of one line, computed once for rows with the same
 //! settings.
-ghost use Rattle.std.specs.Prelude.{◌≡◌, ◌≤◌, IfSome, length, true};
+ghost use Rattle.std.specs.Prelude.{◌≡◌, ◌≤◌, IfSome, length};
 ghost use Rattle.tabled_config.specs.Settings.{style_at};
 ghost use Rattle.tabled_grid.specs.ColumnStyles.{columns_by, placements_of};
 ghost use Rattle.tabled_line.specs.Placements.{ArePlacements};
@@ -24,36 +24,32 @@ const NO_PLACEMENT: CellPlacement = CellPlacement {
     },
 };
 
-/// Computes the placements of a row. Returns `false` if a text has no placement or an offset
-/// overflows.
+/// Computes the placements of a row. `None` if a text has no placement or an offset overflows.
 fn list_placements<D: Dimension>(
     placements: &mut [CellPlacement],
     config: &SpannedConfig,
     dimension: &D,
     row: usize,
-) -> bool
+) -> Option<()>
     requires { length placements.old
         ≤ length (reached (D.width_at dimension.now) (length placements.old)) }
-    ensures { result ≡ true → ArePlacements (style_at config.now row)
-        (columns_by config.now (D.width_at dimension.now) (length placements.old)) placements.new }
+    ensures { IfSome result (λ _. ArePlacements (style_at config.now row)
+        (columns_by config.now (D.width_at dimension.now) (length placements.old))
+        placements.new) }
 {
     let bar = bar_length(config.frame().inner);
     let mut place = 0;
     'columns: for column in 0..placements.len() {
         let width = dimension.get_width(column);
-        let Some(placement) = Placement::new(&config.style_at(row, column), width) else {
-            return false;
-        };
-        let Some(next) = next_offset(place, width, bar) else {
-            return false;
-        };
+        let placement = Placement::new(&config.style_at(row, column), width)?;
+        let next = next_offset(place, width, bar)?;
         placements[column] = CellPlacement {
             place: place + placement.before,
             placement,
         };
         place = next;
     }
-    true
+    Some(())
 }
 
 /// The placements of all columns.
@@ -78,20 +74,14 @@ impl ColumnPlacements {
         ensures { IfSome result (λ kept. ArePlacements (style_at config.now row)
             (columns_by config.now (D.width_at dimension.now) columns) (placements_of kept)) }
     {
-        if check_widths(dimension, columns).is_err() {
-            return None;
-        }
+        check_widths(dimension, columns).ok()?;
         if columns <= FEW_COLUMNS {
             let mut placements = [NO_PLACEMENT; FEW_COLUMNS];
-            if !list_placements(&mut placements[..columns], config, dimension, row) {
-                return None;
-            }
+            list_placements(&mut placements[..columns], config, dimension, row)?;
             return Some(ColumnPlacements::Few(placements, columns));
         }
         let mut placements = vec![in memory?; NO_PLACEMENT; columns].ok()?;
-        if !list_placements(&mut placements, config, dimension, row) {
-            return None;
-        }
+        list_placements(&mut placements, config, dimension, row)?;
         Some(ColumnPlacements::Each(placements))
     }
 

@@ -4,17 +4,17 @@ ghost use Rattle.tabled_base.specs.declared.error.TableError.TheVariants.{Memory
 ghost use Rattle.tabled_size.specs.Sheet.{estimated};
 ghost use Rattle.tabled_size.specs.Effective.{effective};
 ghost use Rattle.tabled_size.specs.Stored.{is_stored};
-ghost use Rattle.tabled_grid.specs.Printed.{IsChecked, Prints};
+ghost use Rattle.tabled_grid.specs.Printed.{Prints};
 ghost use Rattle.tabled_line.specs.Sent.{Sent};
 
 use crate::checks::check_stored;
 use crate::grid::Grid;
-use crate::print::{print_checked, print_grid, print_with_cursors};
+use crate::print::{print_checked, print_grid};
 use std::alloc::Global;
 use tabled_base::{PeekableRecords, TableError};
 use tabled_config::SpannedConfig;
-use tabled_line::{Cursor, MANY_CURSORS, TextSink};
-use tabled_size::{CompleteDimension, Dimension, Estimate, is_empty};
+use tabled_line::TextSink;
+use tabled_size::{CompleteDimension, Estimate, is_empty};
 
 /// Prints records with their effective sizes: the stored ones, or else those that the cells need. A
 /// table with no row or no column prints nothing.
@@ -43,41 +43,11 @@ pub fn print_standing<R: PeekableRecords, S: TextSink>(
         return print_grid(sink, records, config, stored);
     }
     check_stored(records, config, stored)?;
-    let copy = stored.clone()?;
-    print_filled_in(sink, records, config, copy)
-}
-
-/// Prints a table whose sizes hold its cells, with a cursor for each column. Only cursors for more
-/// than `MANY_CURSORS` columns are allocated.
-fn print_in_memory<'a, R: PeekableRecords, D: Dimension, S: TextSink>(
-    alloc: Global,
-    sink: &mut S,
-    grid: &'a Grid<'a, R, D>,
-) -> Result<(), TableError>
-    requires { IsChecked grid.now }
-    ensures { Prints true grid.now (S.sent sink.old) result (S.sent sink.new) }
-{
-    if grid.count_columns() <= MANY_CURSORS {
-        return print_checked(sink, grid);
-    }
-    let mut cursors = vec![in alloc; Cursor::nowhere(); grid.count_columns()]?;
-    print_with_cursors(sink, grid, &mut cursors)
-}
-
-fn print_filled_in<R: PeekableRecords, S: TextSink>(
-    sink: &mut S,
-    records: &R,
-    config: &SpannedConfig,
-    mut sizes: CompleteDimension,
-) -> Result<(), TableError>
-    requires { IsChecked (effective (R.cells records.now) config.now sizes) }
-    ensures { Prints true (effective (R.cells records.now) config.now sizes)
-        (S.sent sink.old) result (S.sent sink.new) }
-{
+    let mut sizes = stored.clone()?;
     sizes.estimate(records, config)?;
-    let alloc = sizes.allocator();
-    let grid = Grid::new(records, config, &sizes, Some(alloc));
-    print_in_memory(alloc, sink, &grid)
+    let memory = Some(sizes.allocator());
+    let grid = Grid::new(records, config, &sizes, memory);
+    print_checked(memory, sink, &grid)
 }
 
 /// Prints records with the sizes that their cells need. A table with no row or no column prints
@@ -98,5 +68,8 @@ pub fn print_estimated<R: PeekableRecords, S: TextSink>(
     if is_empty(records) {
         return Ok(());
     }
-    print_filled_in(sink, records, config, CompleteDimension::new(alloc))
+    let mut sizes = CompleteDimension::new(alloc);
+    sizes.estimate(records, config)?;
+    let grid = Grid::new(records, config, &sizes, Some(alloc));
+    print_checked(Some(alloc), sink, &grid)
 }

@@ -30,13 +30,14 @@ pub(crate) struct Grid<'a, R: PeekableRecords, D: Dimension> {
     pub dimension: &'a D,
     /// The allocator for caches, if there is one.
     pub memory: Option<Global>,
-    around: Frame,
+    /// The vertical lines and the margin.
+    pub around: Frame,
     // The horizontal line between two rows, by the borders.
     between: Option<HorizontalLine>,
     /// The separator between the texts of two columns.
     pub separator: ColumnSeparator,
-    // The placement of all texts, if they share one.
-    uniform: Option<UniformPlacement>,
+    /// The placement of all texts, if nothing was set for a part of the table.
+    pub uniform: Option<UniformPlacement>,
     by_column: Option<ColumnStyles>,
 }
 
@@ -76,46 +77,18 @@ impl<'a, R: PeekableRecords, D: Dimension> Grid<'a, R, D> {
             (D.height_at dimension.now) }
     {
         let around = config.frame();
-        let between = config.borders.line_at(2, 1);
-        let uniform = uniform_of_table(config);
-        let rows = records.count_rows();
-        // Without settings for columns, most rows have one style that is looked up directly.
-        let by_column = match config.row_style(rows) {
-            Some(_) => None,
-            None => ColumnStyles::if_kept(memory, config, dimension, rows, records.count_columns()),
-        };
+        let (rows, columns) = (records.count_rows(), records.count_columns());
         Grid {
             records,
             config,
             dimension,
             memory,
             around,
-            between,
+            between: config.borders.line_at(2, 1),
             separator: ColumnSeparator::new(around.inner),
-            uniform,
-            by_column,
+            uniform: uniform_of_table(config),
+            by_column: ColumnStyles::if_kept(memory, config, dimension, rows, columns),
         }
-    }
-
-    pub fn frame(&self) -> &Frame
-        ensures { result.now ≡ frame self.now.config }
-    {
-        &self.around
-    }
-
-    /// Returns the placement that all texts of a row share, if one is known: that of the table, or
-    /// that of the row if no padding or horizontal alignment was set for a column or for one of its
-    /// cells.
-    #[inline(always)]
-    pub fn uniform(&self, row: usize) -> Option<UniformPlacement>
-        ensures { IfSome result (λ uniform. (column : ℕ)
-            → IsUniform (style_at self.now.config row column) uniform) }
-    {
-        if let Some(uniform) = self.uniform {
-            return Some(uniform);
-        }
-        let (padding, horizontal) = self.config.row_sides(row)?;
-        UniformPlacement::of(padding, horizontal)
     }
 
     pub fn styles(&self, row: usize) -> RowStyles<'_>
@@ -138,33 +111,14 @@ impl<'a, R: PeekableRecords, D: Dimension> Grid<'a, R, D> {
         self.by_column.as_ref()?.placements_in_row(self.config, row)
     }
 
-    pub fn count_rows(&self) -> usize
-        ensures { result ≡ length self.now.cells }
-    {
-        self.records.count_rows()
-    }
-
-    pub fn count_columns(&self) -> usize
-        ensures { result ≡ columns self.now.cells }
-    {
-        self.records.count_columns()
-    }
-
-    /// Returns the horizontal line above the first row or below the last one, if there is one.
-    #[inline(never)]
-    fn outer_rule(&self, index: usize) -> Option<HorizontalLine>
-        ensures { result ≡ rule_at self.now.config (length self.now.cells) index }
-    {
-        self.config.rule_at(self.records.count_rows(), index)
-    }
-
+    /// Returns the horizontal line above a row, or below the last one, if there is one.
     #[inline(always)]
     #[tactic(auto, unfolding(tabled_config::specs::Settings::rule_at))]
     pub fn rule_at(&self, index: usize) -> Option<HorizontalLine>
         ensures { result ≡ rule_at self.now.config (length self.now.cells) index }
     {
         if index == 0 || index == self.records.count_rows() {
-            return self.outer_rule(index);
+            return self.config.rule_at(self.records.count_rows(), index);
         }
         match self.config.get_horizontal_line(index) {
             Some(line) => Some(line),

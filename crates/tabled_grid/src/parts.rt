@@ -6,7 +6,7 @@ ghost use Rattle.tabled_size.specs.Holds.{IsSized};
 use crate::grid::Grid;
 use tabled_base::{PeekableRecords, Position};
 use tabled_config::{Frame, RowStyles};
-use tabled_line::{ColumnSeparator, Content, KnownPlacements, Row, TableColumns};
+use tabled_line::{ColumnSeparator, Content, KnownPlacements, Row, TableColumns, UniformPlacement};
 use tabled_size::Dimension;
 
 /// The columns of a grid whose sizes are complete.
@@ -21,7 +21,8 @@ impl<'a, R: PeekableRecords, D: Dimension> TableColumns for GridColumns<'a, R, D
     ghost sheet = { λ c. columns_of c.grid.now };
 
     fn count_columns(&self) -> usize {
-        self.grid.count_columns()
+        let grid = self.grid;
+        grid.records.count_columns()
     }
 
     fn width(&self, column: usize) -> usize {
@@ -29,7 +30,8 @@ impl<'a, R: PeekableRecords, D: Dimension> TableColumns for GridColumns<'a, R, D
     }
 
     fn frame(&self) -> &Frame {
-        self.grid.frame()
+        let grid = self.grid;
+        &grid.around
     }
 }
 
@@ -48,7 +50,8 @@ impl<'a, R: PeekableRecords, D: Dimension> Row<'a> for GridRow<'a, R, D> {
     ghost sheet = { λ r. row_of r.grid.now r.row };
 
     fn count_columns(&self) -> usize {
-        self.grid.count_columns()
+        let grid = self.grid;
+        grid.records.count_columns()
     }
 
     fn height(&self) -> usize {
@@ -57,7 +60,8 @@ impl<'a, R: PeekableRecords, D: Dimension> Row<'a> for GridRow<'a, R, D> {
     }
 
     fn frame(&self) -> &Frame {
-        self.grid.frame()
+        let grid = self.grid;
+        &grid.around
     }
 
     fn separator(&self) -> &ColumnSeparator {
@@ -67,13 +71,19 @@ impl<'a, R: PeekableRecords, D: Dimension> Row<'a> for GridRow<'a, R, D> {
 
     #[inline(always)]
     fn placements(&self) -> KnownPlacements<'_> {
-        if let Some(cells) = self.grid.placements(self.row) {
+        let grid = self.grid;
+        if let Some(uniform) = grid.uniform {
+            return KnownPlacements::Uniform(uniform);
+        }
+        if let Some(cells) = grid.placements(self.row) {
             return KnownPlacements::Cached(cells);
         }
-        match self.grid.uniform(self.row) {
-            Some(uniform) => KnownPlacements::Uniform(uniform),
-            None => KnownPlacements::Styled,
+        if let Some((padding, horizontal)) = grid.config.row_sides(self.row)
+            && let Some(uniform) = UniformPlacement::of(padding, horizontal)
+        {
+            return KnownPlacements::Uniform(uniform);
         }
+        KnownPlacements::Styled
     }
 
     fn styles(&self) -> RowStyles<'_> {
@@ -100,6 +110,6 @@ impl<'a, R: PeekableRecords, D: Dimension> Row<'a> for GridRow<'a, R, D> {
     }
 
     fn count_drawn(&self) -> usize {
-        self.grid.count_columns()
+        self.count_columns()
     }
 }

@@ -102,12 +102,7 @@ fn is_plain_row<R: PeekableRecords>(records: &R, row: usize) -> bool
     requires { row < length (R.cells records.now) }
     ensures { IsTrue result ↔ All IsPlain (slice_index_or (R.cells records.now) row []) }
 {
-    'columns: for column in 0..records.count_columns() {
-        if !is_plain(records.get_text(Position { row, column })) {
-            return false;
-        }
-    }
-    true
+    (0..records.count_columns()).all(|column| is_plain(records.get_text(Position { row, column })))
 }
 
 /// Whether all cells are plain (`tabled_text::is_plain`).

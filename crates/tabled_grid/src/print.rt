@@ -1,58 +1,65 @@
 //! Checks the sizes of a table and then prints it.
-ghost use Rattle.std.specs.Prelude.{false};
+ghost use Rattle.std.specs.Prelude.{false, is_some};
+ghost use Rattle.std.specs.List.{join_with_byte};
 ghost use Rattle.tabled_grid.specs.Grid.{sheet_by};
+ghost use Rattle.tabled_grid.specs.Picture.{filled_picture};
 ghost use Rattle.tabled_grid.specs.Printed.{IsChecked, Prints};
-ghost use Rattle.tabled_line.specs.Sent.{Sent};
+ghost use Rattle.tabled_line.specs.Sent.{Sent, Writes};
+ghost use Rattle.tabled_size.specs.Holds.{IsSized};
 
 use crate::checks::{check_narrow, check_sizes, check_totals};
 use crate::grid::Grid;
 use crate::picture::write_picture;
+use std::alloc::Global;
 use tabled_base::{PeekableRecords, TableError};
 use tabled_config::SpannedConfig;
 use tabled_line::{Cursor, FEW_CURSORS, MANY_CURSORS, TextSink};
 use tabled_size::{Dimension, is_empty};
 
-/// Prints a table whose sizes hold its cells. The cursors are for the first columns. `Range`: a
-/// total passes `usize::MAX`; nothing is written.
-#[tactic(auto, unfolding(crate::specs::Picture::picture))]
-pub(crate) fn print_with_cursors<'a, R: PeekableRecords, D: Dimension, S: TextSink>(
+/// Writes a picture with cursors for many columns. They take 24 KiB of stack, which other calls
+/// don't need, so this is a separate function.
+#[inline(never)]
+fn write_with_many_cursors<'a, R: PeekableRecords, D: Dimension, S: TextSink>(
     sink: &mut S,
     grid: &'a Grid<'a, R, D>,
-    cursors: &mut [Cursor<'a>],
+    whole: usize,
+) -> Result<(), TableError>
+    requires { IsSized grid.now }
+    ensures { Writes (S.sent sink.old) result (S.sent sink.new)
+        (join_with_byte 10 (filled_picture grid.now whole)) }
+{
+    write_picture(sink, grid, &mut [Cursor::nowhere(); MANY_CURSORS], whole)
+}
+
+/// Prints a table whose sizes hold its cells. With an allocator, each column has a cursor: they are
+/// allocated for more than `MANY_CURSORS` columns. `Range`: a total passes `usize::MAX`; nothing is
+/// written.
+#[tactic(auto, unfolding(crate::specs::Picture::picture))]
+pub(crate) fn print_checked<'a, R: PeekableRecords, D: Dimension, S: TextSink>(
+    memory: Option<Global>,
+    sink: &mut S,
+    grid: &'a Grid<'a, R, D>,
 ) -> Result<(), TableError>
     requires { IsChecked grid.now }
-    ensures { Prints false grid.now (S.sent sink.old) result (S.sent sink.new) }
+    ensures { Prints (is_some memory) grid.now (S.sent sink.old) result (S.sent sink.new) }
 {
     let total_width = check_totals(grid)?;
-    write_picture(sink, grid, cursors, total_width)
-}
-
-/// Prints with cursors for many columns. They take 24 KiB of stack, which other calls don't need,
-/// so this is a separate function.
-#[inline(never)]
-fn print_with_many_cursors<'a, R: PeekableRecords, D: Dimension, S: TextSink>(
-    sink: &mut S,
-    grid: &'a Grid<'a, R, D>,
-) -> Result<(), TableError>
-    requires { IsChecked grid.now }
-    ensures { Prints false grid.now (S.sent sink.old) result (S.sent sink.new) }
-{
-    print_with_cursors(sink, grid, &mut [Cursor::nowhere(); MANY_CURSORS])
-}
-
-/// Prints a table whose sizes hold its cells, with cursors on the stack. `Range`: a total passes
-/// `usize::MAX`; nothing is written.
-pub(crate) fn print_checked<'a, R: PeekableRecords, D: Dimension, S: TextSink>(
-    sink: &mut S,
-    grid: &'a Grid<'a, R, D>,
-) -> Result<(), TableError>
-    requires { IsChecked grid.now }
-    ensures { Prints false grid.now (S.sent sink.old) result (S.sent sink.new) }
-{
-    if grid.count_columns() > FEW_CURSORS {
-        return print_with_many_cursors(sink, grid);
+    let columns = grid.records.count_columns();
+    if columns <= FEW_CURSORS {
+        return write_picture(
+            sink,
+            grid,
+            &mut [Cursor::nowhere(); FEW_CURSORS],
+            total_width,
+        );
     }
-    print_with_cursors(sink, grid, &mut [Cursor::nowhere(); FEW_CURSORS])
+    match memory {
+        Some(alloc) if columns > MANY_CURSORS => {
+            let mut cursors = vec![in alloc; Cursor::nowhere(); columns]?;
+            write_picture(sink, grid, &mut cursors, total_width)
+        }
+        _ => write_with_many_cursors(sink, grid, total_width),
+    }
 }
 
 /// Prints a table piece by piece, without allocation. A table with no row or no column prints
@@ -80,5 +87,5 @@ pub fn print_grid<R: PeekableRecords, D: Dimension, S: TextSink>(
     let grid = Grid::new(records, config, dimension, None);
     check_sizes(&grid)?;
     check_narrow(&grid)?;
-    print_checked(sink, &grid)
+    print_checked(None, sink, &grid)
 }

@@ -22,8 +22,8 @@ get_width-width-requires g c =
 
 pub overflow_add-placements : goal.overflow_add-placements
 overflow_add-placements g c =
-    let found = c.in-Some.ensures in
-    omega (arith, ap (λ a. a.before) found.0, found.1.fits, c.in-Some-next_offset.ensures)
+    let found = c.in_ok-placement.ensures in
+    omega (arith, ap (λ a. a.before) found.0, found.1.fits, c.in_ok-next.ensures)
 
 pub columns-preserved : goal.columns-preserved
 columns-preserved g c =
@@ -38,29 +38,29 @@ columns-preserved g c =
     let inside : column < length c.columns.placements = omega (arith, c.columns.invariant.same, c.columns-test.true) in
     let width : c.get_width-width.result ≡ slice_index widths column =
     reached_size (g.D.Dimension.width_at c.args.dimension.now) count column c.get_width-width.result (omega (arith, reaches, c.columns-test.true)) c.get_width-width.ensures in
-    let found = c.in-Some.ensures in
-    let placement : c.in-Some.placement ≡ placement_of (style column) (slice_index widths column) =
+    let found = c.in_ok-placement.ensures in
+    let placement : c.in_ok-placement.placement ≡ placement_of (style column) (slice_index widths column) =
     found.0 ∙ ap (λ s. placement_of s c.get_width-width.result) c.style_at.ensures ∙ ap (placement_of (style column)) width in
     let own : IsPlaceable (style column) (slice_index widths column) =
     subst (IsPlaceable (style column)) width (subst (λ s. IsPlaceable s c.get_width-width.result) c.style_at.ensures found.1) in
-    let content_width : ℕ = c.columns.place + c.in-Some.placement.before in
-    let padding : c.in-Some.placement.before ≡ (style column).padding.left.size = ap (λ a. a.before) placement in
+    let content_width : ℕ = c.columns.place + c.in_ok-placement.placement.before in
+    let padding : c.in_ok-placement.placement.before ≡ (style column).padding.left.size = ap (λ a. a.before) placement in
     let begins : content_width ≡ offset_from 0 sheet column + (style column).padding.left.size = omega (arith, c.columns.invariant.next, padding) in
-    let cell : at content_width c.in-Some.placement ≡ f column =
-    ap (λ place. at place c.in-Some.placement) begins ∙ ap (at (offset_from 0 sheet column + (style column).padding.left.size)) placement in
+    let cell : at content_width c.in_ok-placement.placement ≡ f column =
+    ap (λ place. at place c.in_ok-placement.placement) begins ∙ ap (at (offset_from 0 sheet column + (style column).padding.left.size)) placement in
     let bar : c.bar_length-bar.result ≡ length (piece sheet.frame.inner.there sheet.frame.inner.main) =
     c.bar_length-bar.ensures ∙ ap (λ f. length (piece f.inner.there f.inner.main)) c.frame.ensures in
     let further : column + 1 ≡ suc column = omega arith in
     let more : offset_from 0 sheet (column + 1) ≡ offset_from 0 sheet column + sheet.width column + length (piece sheet.frame.inner.there sheet.frame.inner.main) =
     ap (offset_from 0 sheet) further in
     record {
-      same = length-set c.columns.placements column (at content_width c.in-Some.placement) ∙ c.columns.invariant.same;
-      listed = take_more_set c.columns.placements column (at content_width c.in-Some.placement) inside
-          ∙ ap (λ xs. xs ++ at content_width c.in-Some.placement ∷ []) c.columns.invariant.listed
+      same = length-set c.columns.placements column (at content_width c.in_ok-placement.placement) ∙ c.columns.invariant.same;
+      listed = take_more_set c.columns.placements column (at content_width c.in_ok-placement.placement) inside
+          ∙ ap (λ xs. xs ++ at content_width c.in_ok-placement.placement ∷ []) c.columns.invariant.listed
           ∙ ap (λ a. map f (range_with_len 0 column) ++ a ∷ []) cell ∙ sym (map-range_with_len_more f 0 column column (omega arith));
       placeable = λ k l. elim (cases_lt k column) [
         | inl lt ↦ c.columns.invariant.placeable k lt
         | inr ge ↦ (let here : column ≡ k = omega (arith, ge, l) in subst (λ i. IsPlaceable (style i) (slice_index widths i)) here own)
       ];
-      next = omega (arith, c.in-Some-next_offset.ensures, c.columns.invariant.next, width, bar, more);
+      next = omega (arith, c.in_ok-next.ensures, c.columns.invariant.next, width, bar, more);
     }

@@ -1,0 +1,18 @@
+use Rattle.std.proofs.Common.{◌≡◌, ◌++◌, false, replicate}
+use Rattle.std.specs.List.{flat_map, range_with_len}
+use Rattle.tabled_config.specs.Settings.{frame}
+use Rattle.tabled_line.specs.Fill.{fill}
+use Rattle.tabled_line.specs.Leading.{LineSends}
+use Rattle.tabled_line.specs.LineCache.{IsCacheOf}
+use Rattle.tabled_grid.specs.Picture.{columns_of, row_part}
+use Rattle.tabled_grid.proofs.picture.write_picture.Given as goal
+
+abbrev pub invariant-rows : goal.invariant-rows
+invariant-rows g l =
+    let top = (frame l.grid.config).margin.top in
+    record {
+      printed : LineSends (g.S.TextSink.sent l.fn.sink) false (g.S.TextSink.sent l.sink) l.lines.begun
+          (replicate top.size (fill top.fill l.whole) ++ flat_map (row_part l.grid) (range_with_len 0 l.row));
+      same : l.lines.columns.grid.now ≡ l.grid;
+      kept : IsCacheOf (columns_of l.lines.columns.grid.now) l.lines.kept;
+    }
