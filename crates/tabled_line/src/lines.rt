@@ -1,6 +1,6 @@
 //! Writes rows, horizontal lines and margins below each other, with line feeds between them. What
 //! later lines can share is cached: the last horizontal line and a row template.
-ghost use Rattle.std.specs.Prelude.{◌≡◌, [], ◌∷◌, IfSome, None, Some, drop, false, replicate, true};
+ghost use Rattle.std.specs.Prelude.{◌≡◌, [], ◌∷◌, None, Some, drop, false, replicate, true};
 ghost use Rattle.tabled_line.specs.Buffers.{buffer_text};
 ghost use Rattle.tabled_line.specs.Fill.{fill};
 ghost use Rattle.tabled_line.specs.LineCache.{IsCacheOf, IsCachedRule};
@@ -107,22 +107,6 @@ impl CachedRule {
         }
     }
 
-    fn is(&self, line: &HorizontalLine) -> bool
-        ensures { result ≡ true → self.now.line ≡ Some line.now }
-    {
-        match &self.line {
-            Some(cached) => *cached == *line,
-            None => false,
-        }
-    }
-
-    pub fn text(&self) -> Option<&str>
-        ensures text { IfSome result (λ text. text.now ≡ buffer_text self.now.buffer) }
-        ensures whole { IfSome result (λ _. self.now.whole ≡ true) }
-    {
-        if self.whole { self.buffer.text() } else { None }
-    }
-
     #[inline(never)]
     fn lay_out<C: TableColumns>(&mut self, columns: &C, line: HorizontalLine)
         ensures line { self.new.line ≡ Some line }
@@ -137,16 +121,21 @@ impl CachedRule {
         self.whole = write_rule_line(&mut self.buffer, columns, &line).is_ok();
     }
 
-    /// Replaces the cached line, unless it is the same.
+    /// Replaces the cached line, unless it is the same. Returns whether its text is cached.
     #[inline(always)]
-    pub fn update<C: TableColumns>(&mut self, columns: &C, line: HorizontalLine)
+    pub fn update<C: TableColumns>(&mut self, columns: &C, line: HorizontalLine) -> bool
         requires known { IsCachedRule (C.sheet columns.now) self.old }
-        ensures line { self.new.line ≡ Some line }
         ensures known { IsCachedRule (C.sheet columns.now) self.new }
+        ensures text { result ≡ true
+            → buffer_text self.new.buffer ≡ 10 ∷ rule_line (C.sheet columns.now) line }
     {
-        if !self.is(&line) {
-            self.lay_out(columns, line);
+        if let Some(cached) = &self.line
+            && *cached == line
+        {
+            return self.whole;
         }
+        self.lay_out(columns, line);
+        self.whole
     }
 }
 
@@ -251,11 +240,12 @@ impl<C: TableColumns> LinePrinter<C> {
         let Some(line) = rule else {
             return Ok(());
         };
-        self.kept.rule.update(&self.columns, line);
-        match self.kept.rule.text() {
-            Some(text) => write_feed_and_line(sink, &mut self.begun, text),
-            None => write_uncached_rule(sink, &mut self.begun, &self.columns, line),
+        if self.kept.rule.update(&self.columns, line)
+            && let Some(text) = self.kept.rule.buffer.text()
+        {
+            return write_feed_and_line(sink, &mut self.begun, text);
         }
+        write_uncached_rule(sink, &mut self.begun, &self.columns, line)
     }
 
     /// Writes the lines of a row over these columns. A text with a cursor isn't searched from its
