@@ -7,7 +7,7 @@ ghost use Rattle.tabled_text.specs.Measure.{line_columns, lines_of, text_columns
 ghost use Rattle.tabled_line.specs.Block.{first_line};
 ghost use Rattle.tabled_line.specs.Cursors.{AreCursors, IsCursor, nowhere};
 
-use tabled_text::{count_lines, line_width, split_line, text_width};
+use tabled_text::{count_lines, line_width, split_line, text_measures, text_width};
 
 /// The number of cursors on the stack for rows of at most this many cells.
 pub const FEW_CURSORS: usize = 64;
@@ -93,6 +93,18 @@ pub fn forget_cursors(cursors: &mut [Cursor<'_>])
     }
 }
 
+/// Returns the columns of a line. Printable ASCII is measured fastest.
+fn measure_line(line: &str) -> usize
+    ensures { result ≡ line_columns line.now }
+{
+    let (columns, lines) = text_measures(line);
+    if lines == 1 {
+        columns
+    } else {
+        line_width(line)
+    }
+}
+
 /// A text, its width in columns, and its number of lines.
 #[derive(Clone, Copy)]
 pub struct Content<'a> {
@@ -125,7 +137,7 @@ impl<'a> Content<'a> {
             return (self.text, self.columns);
         }
         let (line, _) = split_line(self.text);
-        (line, line_width(line))
+        (line, measure_line(line))
     }
 
     /// Returns the line at `index` and its width in columns. The search starts at `cursor`, or at
@@ -152,6 +164,6 @@ impl<'a> Content<'a> {
             cursor.next()?;
         }
         let line = cursor.next()?;
-        Some((line, line_width(line)))
+        Some((line, measure_line(line)))
     }
 }
