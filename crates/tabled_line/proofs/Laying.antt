@@ -1,5 +1,5 @@
 -- Rows that are laid over a blank one.
-use Rattle.std.proofs.Common.{◌≡◌, ℕ, suc, ◌+◌, ◌-◌, ◌<◌, ◌≤◌, List, [], ◌∷◌, ◌++◌, length, get_or, take, drop, map, refl, sym, ◌∙◌, ap, subst, append-nil, append_assoc, arith, lit<}
+use Rattle.std.proofs.Common.{◌≡◌, ℕ, suc, ◌+◌, ◌-◌, ◌<◌, ◌≤◌, List, [], ◌∷◌, ◌++◌, length, get_or, take, drop, refl, sym, ◌∙◌, ap, subst, append-nil, append_assoc, arith, lit<}
 use Rattle.std.specs.List.{flat_map, range_with_len}
 use Rattle.std.proofs.Math.Seq.{take-append_seam, drop-append-add, drop-append_seam}
 use Rattle.std.specs.Str.{IsCharBoundary, IsUtf8}
@@ -8,7 +8,7 @@ use Rattle.std.proofs.lemmas.Str.{IsCharBoundary-after_ascii, IsCharBoundary-bef
 use Rattle.tabled_config.specs.Frame.{has_bar}
 use Rattle.tabled_line.specs.Fill.{fill}
 use Rattle.tabled_line.specs.BlankRow.{StandsAt, blank_line, blank_row, first_offset}
-use Rattle.tabled_line.specs.Row.{ColumnSheet, RowSheet, cell_piece, first_of_block, left_edge, piece, right_edge, row_line, row_lines, rule_line, rule_piece}
+use Rattle.tabled_line.specs.Row.{ColumnSheet, RowSheet, cell_piece, block_line, left_edge, piece, right_edge, row_line, rule_line, rule_piece}
 use Rattle.tabled_line.proofs.Bars.{later-bar}
 use Rattle.tabled_line.proofs.Each.{each-more}
 use Rattle.tabled_line.proofs.Fills.{fill-first_bytes, fill-length, fill-parts}
@@ -88,9 +88,6 @@ pub laid-length : (l r : ℕ) (text : List ℕ) → length (fill 32 l ++ (text +
 laid-length l r text =
     omega (arith, length-append (fill 32 l) (text ++ fill 32 r), length-append text (fill 32 r), fill-length 32 l (lit< tt), fill-length 32 r (lit< tt))
 
-pub written-back : (n : ℕ) (new old : List ℕ) → length new ≡ n → take n (new ++ drop (length new) old) ≡ new
-written-back n new old e = ap (λ k. take k (new ++ drop (length new) old)) (sym e) ∙ take-append_seam new (drop (length new) old)
-
 pub blank-parts : (e f l p r n a b c : List ℕ) → e ≡ [] → n ≡ e ++ f → a ≡ n ++ l → b ≡ a ++ p → c ≡ b ++ r → c ≡ f ++ (l ++ (p ++ r))
 blank-parts e f l p r n a b c none first one two three =
     three ∙ ap (λ u. u ++ r) (two ∙ ap (λ u. u ++ p) (one ∙ ap (λ u. u ++ l) (first ∙ ap (λ u. u ++ f) none))) ∙ regroup f l p r
@@ -98,29 +95,29 @@ blank-parts e f l p r n a b c none first one two three =
     regroup : (f l p r : List ℕ) → ((f ++ l) ++ p) ++ r ≡ f ++ (l ++ (p ++ r))
     regroup f l p r = simp append_assoc
 
--- ---- a row while its texts are laid, up to a column
+-- ---- a line of a row while its texts are laid, up to a column
 
 -- the edge and the cells before the column
-abbrev pub laid_part : RowSheet → ℕ → List ℕ
-laid_part rs column = left_edge rs.columns.frame rs.columns.frame.left.main ++ flat_map (cell_piece rs 0) (range_with_len 0 column)
+abbrev pub laid_part : RowSheet → ℕ → ℕ → List ℕ
+laid_part rs index column = left_edge rs.columns.frame rs.columns.frame.left.main ++ flat_map (cell_piece rs index) (range_with_len 0 column)
 
 -- and the vertical line before it
-abbrev pub front : RowSheet → ℕ → List ℕ
-front rs column = laid_part rs column ++ piece (has_bar rs.columns.frame column) rs.columns.frame.inner.main
+abbrev pub front : RowSheet → ℕ → ℕ → List ℕ
+front rs index column = laid_part rs index column ++ piece (has_bar rs.columns.frame column) rs.columns.frame.inner.main
 
 -- the blank cells from a column on, and the edge
 abbrev pub blank_from : ColumnSheet → ℕ → ℕ → List ℕ
 blank_from cs column count = flat_map (rule_piece cs (blank_line cs.frame)) (range_with_len column count) ++ right_edge cs.frame cs.frame.right.main
 
 -- the cells before the column are laid, those from it on are blank
-pub record IsLaid (rs : RowSheet) (line : List ℕ) (place before column : ℕ) : Type 0 where
-  pub whole : line ≡ laid_part rs column ++ blank_from rs.columns column (rs.columns.count - column)
-  pub begins : place ≡ length (laid_part rs column)
+pub record IsLaid (rs : RowSheet) (index : ℕ) (line : List ℕ) (place before column : ℕ) : Type 0 where
+  pub whole : line ≡ laid_part rs index column ++ blank_from rs.columns column (rs.columns.count - column)
+  pub begins : place ≡ length (laid_part rs index column)
   pub bar : before ≡ length (piece (has_bar rs.columns.frame column) rs.columns.frame.inner.main)
 
-pub laid-none : (rs : RowSheet) (line : List ℕ) (place : ℕ) → line ≡ blank_row rs.columns → place ≡ first_offset rs.columns → IsLaid rs line place 0 0
+pub laid-none : (rs : RowSheet) (index : ℕ) (line : List ℕ) (place : ℕ) → line ≡ blank_row rs.columns → place ≡ first_offset rs.columns → IsLaid rs index line place 0 0
 unfolding rule_line
-laid-none rs line place blank start =
+laid-none rs index line place blank start =
     let cs = rs.columns in
     let edge = left_edge cs.frame cs.frame.left.main in
     let e : cs.count ≡ cs.count - 0 = omega arith in
@@ -131,52 +128,52 @@ laid-none rs line place blank start =
     }
 
 -- the blank columns of the next cell
-pub laid-next : {rs : RowSheet} {line : List ℕ} {place before column : ℕ} → IsLaid rs line place before column → column < rs.columns.count
-    → line ≡ front rs column ++ (fill 32 (rs.columns.width column) ++ blank_from rs.columns (column + 1) (rs.columns.count - column - 1))
+pub laid-next : {rs : RowSheet} {index : ℕ} {line : List ℕ} {place before column : ℕ} → IsLaid rs index line place before column → column < rs.columns.count
+    → line ≡ front rs index column ++ (fill 32 (rs.columns.width column) ++ blank_from rs.columns (column + 1) (rs.columns.count - column - 1))
 unfolding rule_piece
-laid-next {rs} {line} {place} {before} {column} h l =
+laid-next {rs} {index} {line} {place} {before} {column} h l =
     let cs = rs.columns in
     let e : cs.count - column ≡ suc (cs.count - column - 1) = omega arith in
-    h.whole ∙ ap (λ n. laid_part rs column ++ blank_from cs column n) e
-    ∙ regroup (laid_part rs column) (piece (has_bar cs.frame column) cs.frame.inner.main) (fill 32 (cs.width column))
+    h.whole ∙ ap (λ n. laid_part rs index column ++ blank_from cs column n) e
+    ∙ regroup (laid_part rs index column) (piece (has_bar cs.frame column) cs.frame.inner.main) (fill 32 (cs.width column))
     (flat_map (rule_piece cs (blank_line cs.frame)) (range_with_len (column + 1) (cs.count - column - 1))) (right_edge cs.frame cs.frame.right.main)
   where
     regroup : (a b c d e : List ℕ) → a ++ (((b ++ c) ++ d) ++ e) ≡ (a ++ b) ++ (c ++ (d ++ e))
     regroup a b c d e = simp append_assoc
 
-pub laid-begins : {rs : RowSheet} {line : List ℕ} {place before column : ℕ} → IsLaid rs line place before column → place + before ≡ length (front rs column)
-laid-begins {rs} {line} {place} {before} {column} h =
+pub laid-begins : {rs : RowSheet} {index : ℕ} {line : List ℕ} {place before column : ℕ} → IsLaid rs index line place before column → place + before ≡ length (front rs index column)
+laid-begins {rs} {index} {line} {place} {before} {column} h =
     let b = h.begins in
     let p = h.bar in
-    omega (arith, b, p, length-append (laid_part rs column) (piece (has_bar rs.columns.frame column) rs.columns.frame.inner.main))
+    omega (arith, b, p, length-append (laid_part rs index column) (piece (has_bar rs.columns.frame column) rs.columns.frame.inner.main))
 
-pub laid-stands : {rs : RowSheet} {line : List ℕ} {place before column : ℕ} → IsLaid rs line place before column → column < rs.columns.count
+pub laid-stands : {rs : RowSheet} {index : ℕ} {line : List ℕ} {place before column : ℕ} → IsLaid rs index line place before column → column < rs.columns.count
     → StandsAt line (place + before) (fill 32 (rs.columns.width column))
-laid-stands {rs} {line} {place} {before} {column} h l =
-    record { front = front rs column; back = blank_from rs.columns (column + 1) (rs.columns.count - column - 1); whole = laid-next h l; begins = laid-begins h }
+laid-stands {rs} {index} {line} {place} {before} {column} h l =
+    record { front = front rs index column; back = blank_from rs.columns (column + 1) (rs.columns.count - column - 1); whole = laid-next h l; begins = laid-begins h }
 
 -- a cell was laid
-laid-one : {rs : RowSheet} {line : List ℕ} {place before column : ℕ} (laid next : List ℕ) (stop bar : ℕ)
-    → cell_piece rs 0 column ≡ piece (has_bar rs.columns.frame column) rs.columns.frame.inner.main ++ laid
-    → IsLaid rs line place before column → column < rs.columns.count
-    → next ≡ front rs column ++ (laid ++ blank_from rs.columns (column + 1) (rs.columns.count - column - 1))
-    → stop ≡ length (front rs column) + length laid
-    → bar ≡ length (piece rs.columns.frame.inner.there rs.columns.frame.inner.main) → IsLaid rs next stop bar (column + 1)
-laid-one {rs} {line} {place} {before} {column} laid next stop bar cell h l whole stops same =
+laid-one : {rs : RowSheet} {index : ℕ} {line : List ℕ} {place before column : ℕ} (laid next : List ℕ) (stop bar : ℕ)
+    → cell_piece rs index column ≡ piece (has_bar rs.columns.frame column) rs.columns.frame.inner.main ++ laid
+    → IsLaid rs index line place before column → column < rs.columns.count
+    → next ≡ front rs index column ++ (laid ++ blank_from rs.columns (column + 1) (rs.columns.count - column - 1))
+    → stop ≡ length (front rs index column) + length laid
+    → bar ≡ length (piece rs.columns.frame.inner.there rs.columns.frame.inner.main) → IsLaid rs index next stop bar (column + 1)
+laid-one {rs} {index} {line} {place} {before} {column} laid next stop bar cell h l whole stops same =
     let cs = rs.columns in
     let f = cs.frame in
-    let cells = flat_map (cell_piece rs 0) (range_with_len 0 column) in
+    let cells = flat_map (cell_piece rs index) (range_with_len 0 column) in
     let edge = left_edge f f.left.main in
-    let more : laid_part rs (column + 1) ≡ front rs column ++ laid =
-    ap (λ u. edge ++ u) (each-more (cell_piece rs 0) column) ∙ ap (λ u. edge ++ (cells ++ u)) cell
+    let more : laid_part rs index (column + 1) ≡ front rs index column ++ laid =
+    ap (λ u. edge ++ u) (each-more (cell_piece rs index) column) ∙ ap (λ u. edge ++ (cells ++ u)) cell
     ∙ regroup edge cells (piece (has_bar f column) f.inner.main) laid in
     let e : cs.count - column - 1 ≡ cs.count - (column + 1) = omega arith in
     let later : has_bar f (column + 1) ≡ f.inner.there = (let P : ℕ → Type 0 = λ k. has_bar f k ≡ f.inner.there in let g : suc column ≡ column + 1 = omega arith in subst P g (later-bar column f.inner.there)) in
     record {
-      whole = whole ∙ sym (append_assoc (front rs column) laid (blank_from cs (column + 1) (cs.count - column - 1)))
+      whole = whole ∙ sym (append_assoc (front rs index column) laid (blank_from cs (column + 1) (cs.count - column - 1)))
           ∙ ap (λ u. u ++ blank_from cs (column + 1) (cs.count - column - 1)) (sym more)
-          ∙ ap (λ n. laid_part rs (column + 1) ++ blank_from cs (column + 1) n) e;
-      begins = stops ∙ sym (length-append (front rs column) laid) ∙ ap length (sym more);
+          ∙ ap (λ n. laid_part rs index (column + 1) ++ blank_from cs (column + 1) n) e;
+      begins = stops ∙ sym (length-append (front rs index column) laid) ∙ ap length (sym more);
       bar = same ∙ ap (λ b. length (piece b f.inner.main)) (sym later);
     }
   where
@@ -184,28 +181,23 @@ laid-one {rs} {line} {place} {before} {column} laid next stop bar cell h l whole
     regroup a b c d = simp append_assoc
 
 -- the text of a column was laid
-pub laid-more : {rs : RowSheet} {line : List ℕ} {place before column : ℕ} (laid next : List ℕ) (stop bar : ℕ)
-    → first_of_block rs column ≡ laid → IsLaid rs line place before column → column < rs.columns.count
-    → next ≡ front rs column ++ (laid ++ blank_from rs.columns (column + 1) (rs.columns.count - column - 1))
-    → stop ≡ length (front rs column) + length laid
-    → bar ≡ length (piece rs.columns.frame.inner.there rs.columns.frame.inner.main) → IsLaid rs next stop bar (column + 1)
+pub laid-more : {rs : RowSheet} {index : ℕ} {line : List ℕ} {place before column : ℕ} (laid next : List ℕ) (stop bar : ℕ)
+    → block_line rs index column ≡ laid → IsLaid rs index line place before column → column < rs.columns.count
+    → next ≡ front rs index column ++ (laid ++ blank_from rs.columns (column + 1) (rs.columns.count - column - 1))
+    → stop ≡ length (front rs index column) + length laid
+    → bar ≡ length (piece rs.columns.frame.inner.there rs.columns.frame.inner.main) → IsLaid rs index next stop bar (column + 1)
 unfolding cell_piece
-laid-more {rs} {line} {place} {before} {column} laid next stop bar first h l whole stops same =
+laid-more {rs} {index} {line} {place} {before} {column} laid next stop bar first h l whole stops same =
     laid-one laid next stop bar (ap (λ u. piece (has_bar rs.columns.frame column) rs.columns.frame.inner.main ++ u) first) h l whole stops same
 
 -- all texts were laid
-pub laid-all : {rs : RowSheet} {line : List ℕ} {place before column : ℕ} → IsLaid rs line place before column → column ≡ rs.columns.count → line ≡ row_line rs 0
+pub laid-all : {rs : RowSheet} {index : ℕ} {line : List ℕ} {place before column : ℕ} → IsLaid rs index line place before column → column ≡ rs.columns.count → line ≡ row_line rs index
 unfolding row_line
-laid-all {rs} {line} {place} {before} {column} h all =
+laid-all {rs} {index} {line} {place} {before} {column} h all =
     let cs = rs.columns in
     let f = cs.frame in
-    let cells = flat_map (cell_piece rs 0) (range_with_len 0 column) in
+    let cells = flat_map (cell_piece rs index) (range_with_len 0 column) in
     let none : cs.count - column ≡ 0 = omega arith in
-    h.whole ∙ ap (λ n. laid_part rs column ++ blank_from cs column n) none
+    h.whole ∙ ap (λ n. laid_part rs index column ++ blank_from cs column n) none
     ∙ append_assoc (left_edge f f.left.main) cells (right_edge f f.right.main)
-    ∙ ap (λ n. left_edge f f.left.main ++ (flat_map (cell_piece rs 0) (range_with_len 0 n) ++ right_edge f f.right.main)) all
-
--- a row of one line has that line alone
-pub one-row_line : (rs : RowSheet) → rs.height ≡ 1 → row_lines rs ≡ row_line rs 0 ∷ []
-unfolding row_lines
-one-row_line rs h = ap (λ n. map (row_line rs) (range_with_len 0 n)) h
+    ∙ ap (λ n. left_edge f f.left.main ++ (flat_map (cell_piece rs index) (range_with_len 0 n) ++ right_edge f f.right.main)) all

@@ -1,6 +1,6 @@
 -- Lines that go out in one piece with the line feed before them.
 use Rattle.std.proofs.Common.{◌≡◌, ℕ, ◌-◌, ◌<◌, Bool, true, List, [], ◌∷◌, ◌++◌, Result, Ok, Err, length, suc, drop, get_or, refl, sym, ◌∙◌, ap, subst, append-nil, arith, lit<}
-use borrow.Rule.Slice.PartMut.{mid_of, put_mid}
+use borrow.Rule.Slice.PartMut.{mid_of}
 use Rattle.std.proofs.lemmas.Grind.{common_steps}
 use Rattle.std.specs.Str.{IsCharBoundary, IsUtf8}
 use Rattle.std.proofs.lemmas.Str.{IsCharBoundary-after_ascii, IsUtf8-append, IsUtf8-drop}
@@ -38,9 +38,6 @@ lines_after-parts text line e = e ∙ ap (λ u. 10 ∷ drop 1 u) (sym e)
 pub lines_after-length : (e l n a : List ℕ) → e ≡ [] → n ≡ e ++ (10 ∷ []) → a ≡ n ++ l → length a ≡ suc (length l)
 lines_after-length e l n a none first one = ap length (one ∙ ap (λ u. u ++ l) (first ∙ ap (λ u. u ++ (10 ∷ [])) none))
 
--- what stands behind the line feed, and what is written there
+-- what stands behind the line feed
 pub lines_after-mid : (old line : List ℕ) → old ≡ 10 ∷ line → mid_of 1 (length old - 1) old ≡ line
 lines_after-mid old line e = grind (arith, common_steps)
-
-pub lines_after-over : (old line new : List ℕ) → old ≡ 10 ∷ line → put_mid 1 (length old - 1) old new ≡ 10 ∷ new
-lines_after-over old line new e = grind (arith, common_steps)

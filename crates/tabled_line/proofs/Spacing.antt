@@ -12,7 +12,7 @@ use Rattle.tabled_config.specs.declared.spanned.CellStyle.{CellStyle}
 use Rattle.tabled_line.specs.Placements.{IsSpaced}
 use Rattle.tabled_line.specs.Block.{above_text, before_text, block, cell_line, columns_before, fill_above, first_line, inner_width}
 use Rattle.tabled_line.specs.Fill.{fill, indent}
-use Rattle.tabled_line.specs.Row.{RowSheet, first_of_block}
+use Rattle.tabled_line.specs.Row.{RowSheet, block_line}
 use Rattle.tabled_line.proofs.Blocks.{block-text}
 use Rattle.tabled_line.proofs.Fills.{fill-add}
 
@@ -43,24 +43,31 @@ either-way false x y e = e
 indent-spaces : (side : Indent) → side.fill ≡ 32 → indent side ≡ fill 32 side.size
 indent-spaces side e = ap (λ f. fill f side.size) e
 
--- a line of a text that takes no more columns than it stands between spaces
-cell_line-spaced : (s : CellStyle) (w : ℕ) (text line : List ℕ) → IsSpaced s.padding → text_columns text ≡ line_columns line
-    → cell_line s w text line ≡ fill 32 (left_of s w line) ++ (line ++ fill 32 (right_of s w line))
+-- a line of a text stands between spaces, where its side padding is spaces
+pub cell_line-between : (s : CellStyle) (w : ℕ) (text line : List ℕ) (shift before behind : ℕ)
+    → s.padding.left.fill ≡ 32 → s.padding.right.fill ≡ 32 → shift ≡ columns_before s (inner_width s w) text line
+    → before ≡ s.padding.left.size + shift → behind ≡ inner_width s w - shift - line_columns line + s.padding.right.size
+    → cell_line s w text line ≡ fill 32 before ++ (line ++ fill 32 behind)
 unfolding cell_line
-cell_line-spaced s w text line h widest =
+cell_line-between s w text line shift before behind spaced_left spaced_right own front back =
     let room = inner_width s w in
     let cols = line_columns line in
     let left = s.padding.left in
     let right = s.padding.right in
-    let before = before_text s.horizontal (room - cols) in
-    let own : columns_before s room text line ≡ before = ap (λ u. before_text s.horizontal (room - u)) (either-way s.line_alignment cols (text_columns text) widest) in
-    let behind : room - before - cols + right.size ≡ right_of s w line = omega arith in
-    ap (λ k. indent left ++ (fill 32 k ++ (line ++ (fill 32 (room - k - cols) ++ indent right)))) own
-    ∙ ap (λ u. u ++ (fill 32 before ++ (line ++ (fill 32 (room - before - cols) ++ indent right)))) (indent-spaces left h.left)
-    ∙ ap (λ u. fill 32 left.size ++ (fill 32 before ++ (line ++ (fill 32 (room - before - cols) ++ u)))) (indent-spaces right h.right)
-    ∙ ap (λ u. fill 32 left.size ++ (fill 32 before ++ (line ++ u))) (sym (fill-add 32 (room - before - cols) right.size (right_of s w line) behind))
-    ∙ sym (append_assoc (fill 32 left.size) (fill 32 before) (line ++ fill 32 (right_of s w line)))
-    ∙ ap (λ u. u ++ (line ++ fill 32 (right_of s w line))) (sym (fill-add 32 left.size before (left_of s w line) refl))
+    ap (λ k. indent left ++ (fill 32 k ++ (line ++ (fill 32 (room - k - cols) ++ indent right)))) (sym own)
+    ∙ ap (λ u. u ++ (fill 32 shift ++ (line ++ (fill 32 (room - shift - cols) ++ indent right)))) (indent-spaces left spaced_left)
+    ∙ ap (λ u. fill 32 left.size ++ (fill 32 shift ++ (line ++ (fill 32 (room - shift - cols) ++ u)))) (indent-spaces right spaced_right)
+    ∙ ap (λ u. fill 32 left.size ++ (fill 32 shift ++ (line ++ u))) (sym (fill-add 32 (room - shift - cols) right.size behind (sym back)))
+    ∙ sym (append_assoc (fill 32 left.size) (fill 32 shift) (line ++ fill 32 behind))
+    ∙ ap (λ u. u ++ (line ++ fill 32 behind)) (sym (fill-add 32 left.size shift before (sym front)))
+
+-- likewise one of a text that takes no more columns
+cell_line-spaced : (s : CellStyle) (w : ℕ) (text line : List ℕ) → IsSpaced s.padding → text_columns text ≡ line_columns line
+    → cell_line s w text line ≡ fill 32 (left_of s w line) ++ (line ++ fill 32 (right_of s w line))
+cell_line-spaced s w text line h widest =
+    let own : columns_before s (inner_width s w) text line ≡ before_text s.horizontal (free_of s w line) =
+    ap (λ u. before_text s.horizontal (inner_width s w - u)) (either-way s.line_alignment (line_columns line) (text_columns text) widest) in
+    cell_line-between s w text line _ _ _ h.left h.right (sym own) refl (omega arith)
 
 -- the only line of its block
 block-spaced : (s : CellStyle) (w : ℕ) (text : List ℕ) → IsSpaced s.padding → text_columns text ≡ line_columns (first_line text)
@@ -76,7 +83,7 @@ block-spaced s w text h widest =
 
 pub first-spaced : (row : RowSheet) (column : ℕ) → row.height ≡ 1 → IsSpaced (row.style column).padding
     → text_columns (row.text column) ≡ line_columns (first_line (row.text column))
-    → first_of_block row column ≡ fill 32 (left_of (row.style column) (row.columns.width column) (first_line (row.text column)))
+    → block_line row 0 column ≡ fill 32 (left_of (row.style column) (row.columns.width column) (first_line (row.text column)))
     ++ (first_line (row.text column) ++ fill 32 (right_of (row.style column) (row.columns.width column) (first_line (row.text column))))
 first-spaced row column height h widest =
     let w = row.columns.width column in

@@ -42,15 +42,15 @@ right_edge frame c = piece frame.right.there c ++ indent frame.margin.right
 abbrev pub cell_block : RowSheet → ℕ → List (List ℕ)
 cell_block row column = block (row.style column) (row.columns.width column) row.height (row.text column)
 
--- the first line of a cell's block
-abbrev pub first_of_block : RowSheet → ℕ → List ℕ
-first_of_block row column = slice_index_or (cell_block row column) 0 []
+-- a line of a cell's block
+abbrev pub block_line : RowSheet → ℕ → ℕ → List ℕ
+block_line row index column = slice_index_or (cell_block row column) index []
 
 -- a line of a cell's block, after the vertical line before it
 unfoldable pub cell_piece : RowSheet → ℕ → ℕ → List ℕ
 cell_piece row index column =
     let f = row.columns.frame in
-    piece (has_bar f column) f.inner.main ++ slice_index_or (cell_block row column) index []
+    piece (has_bar f column) f.inner.main ++ block_line row index column
 
 -- the cells in a line of a row
 abbrev pub row_cells : RowSheet → ℕ → List ℕ

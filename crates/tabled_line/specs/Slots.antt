@@ -1,5 +1,5 @@
--- Row templates, and their slots: where the cells of a row of one line begin.
-use Rattle.std.specs.Prelude.{◌≡◌, ◌∷◌, ℕ, ◌<◌, List, map, string_bytes, true}
+-- Row templates, and their slots: where the cells of a row begin.
+use Rattle.std.specs.Prelude.{◌≡◌, ◌∷◌, ℕ, ◌<◌, List, length, map, string_bytes}
 use Rattle.std.specs.List.{range_with_len}
 use Rattle.tabled_line.specs.BlankRow.{blank_row, first_offset}
 use Rattle.tabled_line.specs.declared.placement.PlacedText.{PlacedText}
@@ -20,10 +20,12 @@ slot_at columns column = record { place = offset_at columns column; width = colu
 abbrev pub AreSlots : ColumnSheet → List Slot → Type 0
 AreSlots columns slots = slots ≡ map (slot_at columns) (range_with_len 0 columns.count)
 
--- if the template is complete, it holds the blank row of the columns, with a line feed before it,
--- and their slots
-abbrev pub IsTemplateOf : ColumnSheet → RowTemplate → Type 0
-IsTemplateOf columns laid = laid.whole ≡ true → (string_bytes laid.blank ≡ 10 ∷ blank_row columns) × AreSlots columns laid.slots.items
+-- the template holds the blank row of the columns, with a line feed before it, and their slots; its
+-- line is as long
+pub record IsTemplateOf (columns : ColumnSheet) (template : RowTemplate) : Type 0 where
+  pub blank : string_bytes template.blank ≡ 10 ∷ blank_row columns
+  pub slots : AreSlots columns template.slots.items
+  pub size : length template.line.items ≡ length (string_bytes template.blank)
 
 -- a text of a row that `describes` is true of, with the slot of its cell and the offset of the
 -- first cell

@@ -1,12 +1,12 @@
 //! Writes rows, horizontal lines and margins below each other, with line feeds between them. What
 //! later lines can share is cached: the last horizontal line and a row template.
-ghost use Rattle.std.specs.Prelude.{◌≡◌, [], ◌∷◌, None, Some, drop, false, replicate, true};
+ghost use Rattle.std.specs.Prelude.{◌≡◌, ◌<◌, [], ◌∷◌, None, Some, drop, false, replicate, true};
 ghost use Rattle.tabled_line.specs.Buffers.{buffer_text};
 ghost use Rattle.tabled_line.specs.Fill.{fill};
 ghost use Rattle.tabled_line.specs.LineCache.{IsCacheOf, IsCachedRule};
 ghost use Rattle.tabled_line.specs.Leading.{WritesLines, break};
 ghost use Rattle.tabled_line.specs.Cursors.{AreCursors};
-ghost use Rattle.tabled_line.specs.Row.{ColumnSheet, RowSheet, row_lines, rule_if, rule_line};
+ghost use Rattle.tabled_line.specs.Row.{RowSheet, row_line, row_lines, rule_if, rule_line};
 ghost use Rattle.tabled_line.specs.Sent.{Sent, Writes};
 
 use crate::buffer::LineBuffer;
@@ -66,25 +66,6 @@ fn write_uncached_rule<C: TableColumns, S: TextSink>(
 {
     write_break(sink, begun)?;
     write_rule_line(sink, columns, &line)
-}
-
-#[tactic(auto, unfolding(crate::specs::Row::row_lines))]
-fn write_row_lines<'a, R: Row<'a>, S: TextSink>(
-    sink: &mut S,
-    begun: &mut bool,
-    row: &R,
-    cursors: &mut [Cursor<'a>],
-) -> Result<(), TableError>
-    requires cursors { AreCursors (R.sheet row.now).text cursors.old }
-    ensures printed { WritesLines (S.sent sink.old) begun.old result (S.sent sink.new) begun.new
-        (row_lines (R.sheet row.now)) }
-    ensures cursors { AreCursors (R.sheet row.now).text cursors.new }
-{
-    'lines: for index in 0..row.height() {
-        write_break(sink, begun)?;
-        write_row_line(sink, row, cursors, index)?;
-    }
-    Ok(())
 }
 
 /// The last horizontal line, and its text with a line feed before it, if the buffer could hold
@@ -147,13 +128,13 @@ pub(crate) struct LineCache {
 }
 
 impl LineCache {
-    pub fn new(memory: Option<Global>) -> LineCache
-        ensures { (columns : ColumnSheet) → IsCacheOf columns result }
+    pub fn new<C: TableColumns>(columns: &C, memory: Option<Global>) -> LineCache
+        ensures { IsCacheOf (C.sheet columns.now) result }
     {
         LineCache {
             rule: CachedRule::new(memory),
             row: match memory {
-                Some(alloc) => Some(RowTemplate::new(alloc)),
+                Some(alloc) => RowTemplate::new(columns, alloc),
                 None => None,
             },
         }
@@ -178,10 +159,11 @@ impl<C: TableColumns> LinePrinter<C> {
         ensures begun { result.begun ≡ false }
         ensures kept { IsCacheOf (C.sheet result.columns) result.kept }
     {
+        let kept = LineCache::new(&columns, memory);
         LinePrinter {
             columns,
             begun: false,
-            kept: LineCache::new(memory),
+            kept,
         }
     }
 
@@ -248,8 +230,37 @@ impl<C: TableColumns> LinePrinter<C> {
         write_uncached_rule(sink, &mut self.begun, &self.columns, line)
     }
 
+    /// Writes the line of a row at `index`, over the row template if it can be filled in.
+    #[inline(always)]
+    fn write_line<'a, R: Row<'a>, S: TextSink>(
+        &mut self,
+        sink: &mut S,
+        row: &R,
+        cursors: &mut [Cursor<'a>],
+        index: usize,
+    ) -> Result<(), TableError>
+        requires kept { IsCacheOf (C.sheet self.old.columns) self.old.kept }
+        requires over { (R.sheet row.now).columns ≡ C.sheet self.old.columns }
+        requires index_in { index < (R.sheet row.now).height }
+        requires cursors { AreCursors (R.sheet row.now).text cursors.old }
+        ensures printed { WritesLines (S.sent sink.old) self.old.begun result (S.sent sink.new)
+            self.new.begun (row_line (R.sheet row.now) index ∷ []) }
+        ensures same { self.new.columns ≡ self.old.columns }
+        ensures kept { IsCacheOf (C.sheet self.new.columns) self.new.kept }
+        ensures cursors { AreCursors (R.sheet row.now).text cursors.new }
+    {
+        if let Some(template) = &mut self.kept.row
+            && template.fill_line(row, cursors, index)
+        {
+            return write_feed_and_line(sink, &mut self.begun, template.text());
+        }
+        write_break(sink, &mut self.begun)?;
+        write_row_line(sink, row, cursors, index)
+    }
+
     /// Writes the lines of a row over these columns. A text with a cursor isn't searched from its
     /// start for each line. The cursors may be in any state.
+    #[tactic(auto, unfolding(crate::specs::Row::row_lines))]
     pub fn write_row<'a, R: Row<'a>, S: TextSink>(
         &mut self,
         sink: &mut S,
@@ -263,17 +274,17 @@ impl<C: TableColumns> LinePrinter<C> {
         ensures same { self.new.columns ≡ self.old.columns }
         ensures kept { IsCacheOf (C.sheet self.new.columns) self.new.kept }
     {
-        if let Some(laid) = &mut self.kept.row
-            && laid.fill_row(&self.columns, row)
-        {
-            return write_feed_and_line(sink, &mut self.begun, laid.text());
-        }
-        if row.height() <= 1 {
-            return write_row_lines(sink, &mut self.begun, row, &mut []);
-        }
-        let count = cursors.len().min(row.count_columns());
+        let height = row.height();
+        let count = if height > 1 {
+            cursors.len().min(row.count_columns())
+        } else {
+            0
+        };
         let cursors = &mut cursors[..count];
         forget_cursors(cursors);
-        write_row_lines(sink, &mut self.begun, row, cursors)
+        'lines: for index in 0..height {
+            self.write_line(sink, row, cursors, index)?;
+        }
+        Ok(())
     }
 }

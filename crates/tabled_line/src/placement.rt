@@ -100,7 +100,7 @@ impl Placement {
     }
 }
 
-/// The first line of a text, with the spaces around it in its cell.
+/// A line of a text, with the spaces around it in its cell.
 #[derive(Clone, Copy)]
 pub(crate) struct PlacedText<'a> {
     /// The spaces before it, padding included.

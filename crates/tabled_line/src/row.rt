@@ -1,16 +1,17 @@
 //! The trait of rows, and writing one line of a row.
-ghost use Rattle.std.specs.Prelude.{◌≡◌, ◌<◌, ◌≤◌, ℕ, []};
+ghost use Rattle.std.specs.Prelude.{◌≡◌, ◌<◌, ◌≤◌, ℕ, [], IfSome};
 ghost use Rattle.tabled_config.specs.RowStyles.{style_in};
 ghost use Rattle.tabled_line.specs.Placements.{AreKnown};
 ghost use Rattle.tabled_line.specs.Cursors.{AreCursors};
-ghost use Rattle.tabled_line.specs.Row.{RowSheet, cell_piece, row_cells, row_line};
+ghost use Rattle.tabled_line.specs.PlacedText.{IsSpacedLine};
+ghost use Rattle.tabled_line.specs.Row.{RowSheet, block_line, cell_piece, row_cells, row_line};
 ghost use Rattle.tabled_line.specs.Sent.{Sent, Writes};
 
 use crate::block::CellBlock;
 use crate::content::{Content, Cursor, cursor_at, keep_cursor};
 use crate::frame::{write_bar, write_left_edge, write_right_edge};
 use crate::one_line_row::{ColumnSeparator, write_spaced_row};
-use crate::placement::KnownPlacements;
+use crate::placement::{KnownPlacements, PlacedText};
 use crate::text_sink::TextSink;
 use tabled_base::TableError;
 use tabled_config::{CellStyle, Frame, RowStyles};
@@ -104,6 +105,41 @@ pub(crate) fn write_cell<'a, R: Row<'a>, S: TextSink>(
     cell.write_line(sink, &mut cursor, line.index)?;
     keep_cursor(cursors, line.column, cursor);
     Ok(())
+}
+
+/// Places a line of a cell in a column of `width` columns. `None` if it has a fill other than
+/// spaces, or the text doesn't fit. If the text has several lines, the cursor of its column moves
+/// to the next one.
+#[inline(always)]
+pub(crate) fn place_cell<'a, R: Row<'a>>(
+    row: &R,
+    cursors: &mut [Cursor<'a>],
+    line: &CellLine,
+    width: usize,
+) -> Option<PlacedText<'a>>
+    requires column_in { line.now.column < (R.sheet row.now).columns.count }
+    requires style { line.now.style ≡ (R.sheet row.now).style line.now.column }
+    requires index_in { line.now.index < (R.sheet row.now).height }
+    requires width { width ≡ (R.sheet row.now).columns.width line.now.column }
+    requires cursors { AreCursors (R.sheet row.now).text cursors.old }
+    ensures placed { IfSome result (IsSpacedLine (block_line (R.sheet row.now) line.now.index
+        line.now.column) ((R.sheet row.now).columns.width line.now.column)) }
+    ensures cursors { AreCursors (R.sheet row.now).text cursors.new }
+{
+    let content = row.content(line.column);
+    let cell = CellBlock {
+        style: line.style,
+        width,
+        height: row.height(),
+        content,
+    };
+    if content.lines <= 1 {
+        return cell.place_line(&mut Cursor::start(content.text), line.index);
+    }
+    let mut cursor = cursor_at(cursors, line.column, content.text);
+    let placed = cell.place_line(&mut cursor, line.index);
+    keep_cursor(cursors, line.column, cursor);
+    placed
 }
 
 /// Writes the cells of a line. Those of a row of one line mostly need no blocks.

@@ -1,20 +1,22 @@
-//! Row templates for rows of one line: a blank row with its vertical lines and edges is built once,
-//! and the texts of each row are copied into its slots.
-ghost use Rattle.std.specs.Prelude.{◌≡◌, ◌+◌, ◌≤◌, ◌^◌, ◌++◌, [], ◌∷◌, length, take, drop};
-ghost use Rattle.std.specs.Prelude.{IfOk, IsUtf8, MatchOption, false, string_bytes, true};
+//! Row templates: a blank row with its vertical lines and edges is built once, and the texts of each
+//! line of a row are copied into its slots.
+ghost use Rattle.std.specs.Prelude.{◌≡◌, ◌+◌, ◌<◌, ◌≤◌, ◌^◌, ◌++◌, [], ◌∷◌, length, take, drop};
+ghost use Rattle.std.specs.Prelude.{IfOk, IfSome, IsUtf8, MatchOption, string_bytes, true};
 ghost use Rattle.tabled_line.specs.BlankRow.{blank_row, first_offset};
+ghost use Rattle.tabled_line.specs.Cursors.{AreCursors};
 ghost use Rattle.tabled_line.specs.Slots.{AreSlots, IsTemplateOf};
-ghost use Rattle.tabled_line.specs.Row.{piece, row_line, row_lines};
+ghost use Rattle.tabled_line.specs.Row.{piece, row_line};
 
+use crate::content::Cursor;
 use crate::frame::{TableColumns, write_left_edge, write_right_edge, write_rule_pieces};
 use crate::placement::{KnownPlacements, RowPlacements, place_text};
-use crate::row::Row;
+use crate::row::{CellLine, Row, place_cell};
 use crate::text_sink::TextSink;
 use std::alloc::Global;
 use tabled_base::TableError;
 use tabled_config::{HorizontalLine, VerticalLine};
 
-/// After this many rows that couldn't be filled in, the template is given up.
+/// After this many lines that couldn't be filled in, the template is given up.
 const TRIES: usize = 16;
 
 /// The most columns of a template, not counting vertical lines. A longer one isn't worth the
@@ -165,16 +167,63 @@ fn fill_styled_texts<'a, R: Row<'a>>(line: &mut [u8], slots: &[Slot], row: &R) -
     fill_placed_texts(line, slots, row, row.styles())
 }
 
-/// Copies the texts of a row of one line into a blank row with a line feed before it. Returns
-/// whether all texts could be copied.
-fn fill_line<'a, R: Row<'a>>(led: &mut [u8], slots: &[Slot], row: &R) -> bool
-    requires height { (R.sheet row.now).height ≡ 1 }
-    requires blank { led.old ≡ 10 ∷ blank_row (R.sheet row.now).columns }
+/// Copies the line of each cell at `index` into a blank row. Returns `false` if a cell has a fill
+/// other than spaces there, or its line doesn't fit or hasn't as many bytes as columns.
+#[inline(never)]
+fn fill_cell_lines<'a, R: Row<'a>>(
+    line: &mut [u8],
+    slots: &[Slot],
+    row: &R,
+    cursors: &mut [Cursor<'a>],
+    index: usize,
+) -> bool
+    requires index_in { index < (R.sheet row.now).height }
+    requires blank { line.old ≡ blank_row (R.sheet row.now).columns }
     requires slots { AreSlots (R.sheet row.now).columns slots.now }
-    ensures laid { result ≡ true → led.new ≡ 10 ∷ row_line (R.sheet row.now) 0 }
-    ensures utf8 { IsUtf8 led.old → IsUtf8 led.new }
+    requires cursors { AreCursors (R.sheet row.now).text cursors.old }
+    ensures laid { result ≡ true → line.new ≡ row_line (R.sheet row.now) index }
+    ensures utf8 { IsUtf8 line.old → IsUtf8 line.new }
+    ensures cursors { AreCursors (R.sheet row.now).text cursors.new }
 {
-    let line = &mut led[1..];
+    let styles = row.styles();
+    'cells: for column in 0..slots.len() {
+        let slot = slots[column];
+        let cell = CellLine {
+            column,
+            style: styles.at(column),
+            index,
+        };
+        let Some(placed) = place_cell(row, cursors, &cell, slot.width) else {
+            return false;
+        };
+        if placed.text.len() != placed.columns {
+            return false;
+        }
+        let start = slot.place + placed.before;
+        copy_at(line, start, placed.text);
+    }
+    true
+}
+
+/// Copies the line of each cell at `index` into a blank row. Returns whether all could be copied.
+fn fill_cells<'a, R: Row<'a>>(
+    line: &mut [u8],
+    slots: &[Slot],
+    row: &R,
+    cursors: &mut [Cursor<'a>],
+    index: usize,
+) -> bool
+    requires index_in { index < (R.sheet row.now).height }
+    requires blank { line.old ≡ blank_row (R.sheet row.now).columns }
+    requires slots { AreSlots (R.sheet row.now).columns slots.now }
+    requires cursors { AreCursors (R.sheet row.now).text cursors.old }
+    ensures laid { result ≡ true → line.new ≡ row_line (R.sheet row.now) index }
+    ensures utf8 { IsUtf8 line.old → IsUtf8 line.new }
+    ensures cursors { AreCursors (R.sheet row.now).text cursors.new }
+{
+    if row.height() != 1 {
+        return fill_cell_lines(line, slots, row, cursors, index);
+    }
     match row.placements() {
         KnownPlacements::Cached(cells) => fill_placed_texts(line, slots, row, cells),
         KnownPlacements::Uniform(uniform) => fill_placed_texts(line, slots, row, uniform),
@@ -182,90 +231,61 @@ fn fill_line<'a, R: Row<'a>>(led: &mut [u8], slots: &[Slot], row: &R) -> bool
     }
 }
 
-/// A blank row that is built once, and the last row that was filled in. Both have a line feed
+/// A blank row that is built once, and the last line that was filled in. Both have a line feed
 /// before them.
 #[derive(Drop)]
 pub(crate) struct RowTemplate {
     blank: String,
     /// Where the cells of the blank row begin.
     slots: Vec<Slot>,
-    whole: bool,
     line: Vec<u8>,
-    /// How many more rows may fail before the template is given up.
+    /// How many more lines may fail before the template is given up.
     tries: usize,
 }
 
 impl RowTemplate {
-    pub fn new(alloc: Global) -> RowTemplate
-        ensures { result.whole ≡ false }
-    {
-        RowTemplate {
-            blank: String::new(alloc),
-            slots: Vec::new(alloc),
-            whole: false,
-            line: Vec::new(alloc),
-            tries: TRIES,
-        }
-    }
-
-    /// Builds the blank row, unless it is there. Returns whether it is there now. If it would be
-    /// too long, the template is given up.
-    fn lay_out<C: TableColumns>(&mut self, columns: &C) -> bool
-        requires known { IsTemplateOf (C.sheet columns.now) self.old }
-        ensures known { IsTemplateOf (C.sheet columns.now) self.new }
-        ensures whole { result ≡ self.new.whole }
-    {
-        if self.whole {
-            return true;
-        }
-        if !is_short(columns) {
-            self.tries = 0;
-            return false;
-        }
-        self.blank.clear();
-        self.slots.clear();
-        if let Ok(start) = write_blank(&mut self.blank, columns) {
-            self.whole = list_slots(&mut self.slots, columns, start).is_ok();
-        }
-        self.whole
-    }
-
-    /// Starts a line with a copy of the blank row. Returns `false` if there is none or an
+    /// Builds the template of rows over these columns. `None` if it would be too long or an
     /// allocation failed.
-    fn begin<C: TableColumns>(&mut self, columns: &C) -> bool
-        requires known { IsTemplateOf (C.sheet columns.now) self.old }
-        ensures known { IsTemplateOf (C.sheet columns.now) self.new }
-        ensures begun { result ≡ true → (self.new.whole ≡ true)
-            × (self.new.line.items ≡ 10 ∷ blank_row (C.sheet columns.now)) }
-        ensures utf8 { result ≡ true → IsUtf8 self.new.line.items }
+    pub fn new<C: TableColumns>(columns: &C, alloc: Global) -> Option<RowTemplate>
+        ensures { IfSome result (IsTemplateOf (C.sheet columns.now)) }
     {
-        if !self.lay_out(columns) {
-            return false;
+        if !is_short(columns) {
+            return None;
         }
-        let blank = self.blank.as_bytes();
-        if self.line.len() == blank.len() {
-            self.line.copy_from_slice(blank);
-            return true;
-        }
-        self.line.clear();
-        self.line.extend_from_slice(blank).is_ok()
+        let mut blank = String::new(alloc);
+        let mut slots = Vec::new(alloc);
+        let start = write_blank(&mut blank, columns).ok()?;
+        list_slots(&mut slots, columns, start).ok()?;
+        Some(RowTemplate {
+            line: Vec::from_slice(alloc, blank.as_bytes()).ok()?,
+            blank,
+            slots,
+            tries: TRIES,
+        })
     }
 
-    /// Fills in the texts of a row over these columns. Returns whether this succeeded; if not, the
-    /// row must be written without the template.
-    pub fn fill_row<'a, C: TableColumns, R: Row<'a>>(&mut self, columns: &C, row: &R) -> bool
-        requires known { IsTemplateOf (C.sheet columns.now) self.old }
-        requires over { (R.sheet row.now).columns ≡ C.sheet columns.now }
-        ensures known { IsTemplateOf (C.sheet columns.now) self.new }
+    /// Fills in the line of a row at `index`. Returns whether this succeeded; if not, the line must
+    /// be written without the template.
+    pub fn fill_line<'a, R: Row<'a>>(
+        &mut self,
+        row: &R,
+        cursors: &mut [Cursor<'a>],
+        index: usize,
+    ) -> bool
+        requires known { IsTemplateOf (R.sheet row.now).columns self.old }
+        requires index_in { index < (R.sheet row.now).height }
+        requires cursors { AreCursors (R.sheet row.now).text cursors.old }
+        ensures known { IsTemplateOf (R.sheet row.now).columns self.new }
         ensures laid { result ≡ true
-            → row_lines (R.sheet row.now) ≡ drop 1 self.new.line.items ∷ [] }
-        ensures led { result ≡ true → self.new.line.items ≡ 10 ∷ drop 1 self.new.line.items }
-        ensures utf8 { result ≡ true → IsUtf8 self.new.line.items }
+            → self.new.line.items ≡ 10 ∷ row_line (R.sheet row.now) index }
+        ensures utf8 { result ≡ true → IsUtf8 (row_line (R.sheet row.now) index) }
+        ensures cursors { AreCursors (R.sheet row.now).text cursors.new }
     {
-        if self.tries == 0 || row.height() != 1 || !self.begin(columns) {
+        if self.tries == 0 {
             return false;
         }
-        let laid = fill_line(&mut self.line, &self.slots, row);
+        self.line.copy_from_slice(self.blank.as_bytes());
+        let laid = fill_cells(&mut self.line[1..], &self.slots, row, cursors, index);
         if !laid {
             self.tries = self.tries.saturating_sub(1);
         }

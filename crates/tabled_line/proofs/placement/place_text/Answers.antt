@@ -28,10 +28,12 @@ returns g c =
     let behind : c.args.width - (c.in_ok-placement.placement.before + c.before_text-shift.result) - c.first_line-columns.result.1 ≡ right_of style width line =
     omega (arith, here, within, taken, content_width, fits.0, placement.1.fits, c.requires.width) in
     record {
-      line = first-spaced rs c.args.column c.requires.height placement.1.spaced widest
-          ∙ ap (λ n. fill 32 n ++ (line ++ fill 32 (right_of style width line))) (sym here)
-          ∙ ap (λ n. fill 32 (c.in_ok-placement.placement.before + c.before_text-shift.result) ++ (line ++ fill 32 n)) (sym behind)
-          ∙ ap (λ t. fill 32 (c.in_ok-placement.placement.before + c.before_text-shift.result) ++ (t ++ fill 32 (c.args.width - (c.in_ok-placement.placement.before + c.before_text-shift.result) - c.first_line-columns.result.1))) (sym same);
-      whole = omega (arith, behind, here, within, taken, content_width, fits.0, placement.1.fits, c.requires.width);
+      spaced = record {
+        line_is = first-spaced rs c.args.column c.requires.height placement.1.spaced widest
+            ∙ ap (λ n. fill 32 n ++ (line ++ fill 32 (right_of style width line))) (sym here)
+            ∙ ap (λ n. fill 32 (c.in_ok-placement.placement.before + c.before_text-shift.result) ++ (line ++ fill 32 n)) (sym behind)
+            ∙ ap (λ t. fill 32 (c.in_ok-placement.placement.before + c.before_text-shift.result) ++ (t ++ fill 32 (c.args.width - (c.in_ok-placement.placement.before + c.before_text-shift.result) - c.first_line-columns.result.1))) (sym same);
+        whole = omega (arith, behind, here, within, taken, content_width, fits.0, placement.1.fits, c.requires.width);
+      };
       shifted = ap (λ n. n + c.before_text-shift.result) pad;
     }
