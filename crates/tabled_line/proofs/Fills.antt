@@ -1,6 +1,6 @@
 -- Runs of one character.
 use Rattle.std.proofs.Common.{◌≡◌, ℕ, zero, suc, ◌+◌, ◌-◌, ◌<◌, ◌≤◌, List, ◌∷◌, ◌++◌, length, take, drop, encode_utf8, refl, sym, ◌∙◌, ap, append-nil, append_assoc, zero-add, suc-add, get_or, arith}
-use Rattle.std.proofs.lemmas.List.{get_or_append_left, length-append}
+use Rattle.std.proofs.lemmas.List.{get_or_append_left}
 use Rattle.std.proofs.lemmas.Str.{IsCharBoundary-from_ascii, encode_ascii}
 use Rattle.std.specs.Str.{IsCharBoundary}
 use Rattle.std.specs.List.{slice_range}

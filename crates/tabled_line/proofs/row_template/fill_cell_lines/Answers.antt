@@ -1,4 +1,4 @@
-use Rattle.std.proofs.Common.{◌≡◌, ◌+◌, ◌<◌, ap, refl, ◌∙◌, arith}
+use Rattle.std.proofs.Common.{◌+◌, ◌<◌, ap, refl, ◌∙◌, arith}
 use Rattle.tabled_line.proofs.Laying.{stands-long}
 use Rattle.tabled_line.proofs.LaidSpots.{laid-to-end, none-laid, slot-is, slot-stands, slots-count, text-fits, text-laid, text-utf8}
 use Rattle.tabled_line.proofs.row_template.fill_cell_lines.Goals as goal

@@ -1,4 +1,3 @@
-use Rattle.std.proofs.Common.{sym}
 use Rattle.tabled_line.proofs.Blocks.{block-above, block-text, block-below}
 use Rattle.tabled_line.proofs.block.CellBlock.place_line.Goals as goal
 
