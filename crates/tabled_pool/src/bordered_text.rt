@@ -1,9 +1,8 @@
 //! The lines of one text in a tree with a zero-width text, with the borders that it draws.
-ghost use Rattle.std.specs.Prelude.{◌≡◌, ◌<◌, ◌+◌, ◌++◌, ◌∷◌, [], map, None, if◌then◌else◌, IfErr};
+ghost use Rattle.std.specs.Prelude.{◌≡◌, ◌<◌, ◌+◌, ◌++◌, ◌∷◌, [], map, None, if◌then◌else◌};
 ghost use Rattle.std.specs.Prelude.{IfOk, string_bytes, encode_utf8, unwrap_or};
 ghost use Rattle.std.specs.List.{range_with_len};
 ghost use Rattle.std.specs.Option.{option_map};
-ghost use Rattle.tabled_base.specs.declared.error.TableError.TheVariants.{Memory};
 ghost use Rattle.tabled_priority.specs.Sums.{one_if};
 ghost use Rattle.tabled_pool.specs.declared.pieces.Kind.TheVariants.{Leaf};
 ghost use Rattle.tabled_pool.specs.Boxes.{part_of};
@@ -24,8 +23,8 @@ use crate::flags::{is_bottom, is_left, is_right, is_top, own_borders};
 use crate::inheriting_box::{InheritingBox, is_split};
 use crate::marks::{LineColors, Marks, alone, begun, ended, used_after};
 use crate::pieces::{Drawing, Rectangle};
-use std::alloc::Global;
-use tabled_base::TableError;
+use crate::pool_table::one_if;
+use std::alloc::{AllocError, Global};
 use tabled_config::Borders;
 use tabled_line::{CellBlock, Content};
 
@@ -36,13 +35,12 @@ fn written(there: bool, c: Option<char>) -> Option<char>
     if there { Some(c.unwrap_or(' ')) } else { None }
 }
 
-fn push_marked(line: &mut String, marks: Marks, c: Option<char>) -> Result<(), TableError>
-    ensures ok { IfOk result (λ _. string_bytes line.new
+fn push_marked(line: &mut String, marks: Marks, c: Option<char>) -> Result<(), AllocError>
+    ensures { IfOk result (λ _. string_bytes line.new
         ≡ string_bytes line.old ++ marked_text (around_of marks) c) }
-    ensures only { IfErr result (λ e. e ≡ Memory) }
 {
     match c {
-        Some(c) => draw_marked(line, marks, c),
+        Some(c) => draw_marked(line, marks, c).map_err(|_| AllocError),
         None => Ok(()),
     }
 }
@@ -71,9 +69,8 @@ fn run_text(
     width: usize,
     split: Option<char>,
     main: Option<char>,
-) -> Result<String, TableError>
-    ensures ok { IfOk result (λ run. string_bytes run ≡ run_text sizes.now width split main) }
-    ensures only { IfErr result (λ e. e ≡ Memory) }
+) -> Result<String, AllocError>
+    ensures { IfOk result (λ run. string_bytes run ≡ run_text sizes.now width split main) }
 {
     let mut run = String::new(alloc);
     for x in 0..width {
@@ -82,15 +79,13 @@ fn run_text(
     Ok(run)
 }
 
-fn push_run(line: &mut String, marks: Marks, run: &str) -> Result<(), TableError>
-    ensures ok { IfOk result (λ _. string_bytes line.new ≡ string_bytes line.old ++ within_marks (around_of marks) run.now) }
-    ensures only { IfErr result (λ e. e ≡ Memory) }
+fn push_run(line: &mut String, marks: Marks, run: &str) -> Result<(), AllocError>
+    ensures { IfOk result (λ _. string_bytes line.new ≡ string_bytes line.old ++ within_marks (around_of marks) run.now) }
 {
     line.push_str(marks.close)?;
     line.push_str(marks.start)?;
     line.push_str(run)?;
-    line.push_str(marks.behind)?;
-    Ok(())
+    line.push_str(marks.behind)
 }
 
 /// The border above or below a text: a corner, a run, a corner, each with its colour.
@@ -100,10 +95,9 @@ fn outer_line(
     start: Option<char>,
     run: &str,
     end: Option<char>,
-) -> Result<String, TableError>
-    ensures ok { IfOk result (λ line. string_bytes line ≡ outer_line (option_map mark_of colors.corner)
+) -> Result<String, AllocError>
+    ensures { IfOk result (λ line. string_bytes line ≡ outer_line (option_map mark_of colors.corner)
         (option_map mark_of colors.main) (option_map mark_of colors.right) start run.now end) }
-    ensures only { IfErr result (λ e. e ≡ Memory) }
 {
     let first = if start.is_some() { colors.corner } else { None };
     let used = used_after(first, colors.main);
@@ -127,11 +121,10 @@ fn push_block_line(
     place: Rectangle,
     text: &str,
     y: usize,
-) -> Result<(), TableError>
+) -> Result<(), AllocError>
     requires { y < place.height }
-    ensures ok { IfOk result (λ _. string_bytes line.new
+    ensures { IfOk result (λ _. string_bytes line.new
         ≡ string_bytes line.old ++ leaf_line (plan_of drawing.now) (part_of Leaf place text.now) y) }
-    ensures only { IfErr result (λ e. e ≡ Memory) }
 {
     let cell = CellBlock {
         style: drawing.style,
@@ -139,21 +132,15 @@ fn push_block_line(
         height: place.height,
         content: Content::new(text),
     };
-    draw_block_line(line, &cell, &drawing.padding_colors, y)
+    draw_block_line(line, &cell, &drawing.padding_colors, y).map_err(|_| AllocError)
 }
 
-/// The width of a text with the borders at its sides. Fails with `Memory` if it exceeds
-/// `usize::MAX`.
-fn bordered_width(own: &Borders<char>, width: usize) -> Result<usize, TableError>
-    ensures ok { IfOk result (λ n. n ≡ one_if (is_left own.now) + width + one_if (is_right own.now)) }
-    ensures only { IfErr result (λ e. e ≡ Memory) }
+/// The width of a text with the borders at its sides. Fails if it exceeds `usize::MAX`.
+fn bordered_width(own: &Borders<char>, width: usize) -> Result<usize, AllocError>
+    ensures { IfOk result (λ n. n ≡ one_if (is_left own.now) + width + one_if (is_right own.now)) }
 {
-    let left = if is_left(own) { 1 } else { 0 };
-    let right = if is_right(own) { 1 } else { 0 };
-    match width.checked_add(left + right) {
-        Some(all) => Ok(all),
-        None => Err(TableError::Memory),
-    }
+    let sides = one_if(is_left(own)) + one_if(is_right(own));
+    width.checked_add(sides).ok_or(AllocError)
 }
 
 /// A text and the borders that it draws.
@@ -166,10 +153,9 @@ pub(crate) struct BorderedText<'r, 'd, 'a> {
 }
 
 impl BorderedText<'_, '_, '_> {
-    fn top_text(&self) -> Result<String, TableError>
-        ensures ok { IfOk result (λ line. string_bytes line
+    fn top_text(&self) -> Result<String, AllocError>
+        ensures { IfOk result (λ line. string_bytes line
             ≡ top_text (plan_for self.now) self.now.own (inherited_by self.now)) }
-        ensures only { IfErr result (λ e. e ≡ Memory) }
     {
         let drawing = self.drawing;
         let own = &self.own;
@@ -187,10 +173,9 @@ impl BorderedText<'_, '_, '_> {
         outer_line(drawing.alloc, colors, start, run.as_str(), end)
     }
 
-    fn bottom_text(&self) -> Result<String, TableError>
-        ensures ok { IfOk result (λ line. string_bytes line
+    fn bottom_text(&self) -> Result<String, AllocError>
+        ensures { IfOk result (λ line. string_bytes line
             ≡ bottom_text (plan_for self.now) self.now.own (inherited_by self.now)) }
-        ensures only { IfErr result (λ e. e ≡ Memory) }
     {
         let drawing = self.drawing;
         let own = &self.own;
@@ -217,12 +202,11 @@ impl BorderedText<'_, '_, '_> {
         }
     }
 
-    fn inner_text(&self, y: usize) -> Result<String, TableError>
+    fn inner_text(&self, y: usize) -> Result<String, AllocError>
         requires { y < self.now.inherited.now.place.height }
-        ensures ok { IfOk result (λ line. string_bytes line
+        ensures { IfOk result (λ line. string_bytes line
             ≡ inner_text (plan_for self.now) self.now.own (inherited_by self.now)
             self.now.text.now y) }
-        ensures only { IfErr result (λ e. e ≡ Memory) }
     {
         let drawing = self.drawing;
         let left = written(is_left(&self.own), self.left_char(y));
@@ -234,12 +218,11 @@ impl BorderedText<'_, '_, '_> {
         Ok(line)
     }
 
-    fn push_inner_texts(&self, lines: &mut Vec<String>) -> Result<(), TableError>
-        ensures ok { IfOk result (λ _. map string_bytes lines.new.items
+    fn push_inner_texts(&self, lines: &mut Vec<String>) -> Result<(), AllocError>
+        ensures { IfOk result (λ _. map string_bytes lines.new.items
             ≡ map string_bytes lines.old.items ++ map (inner_text (plan_for self.now) self.now.own
             (inherited_by self.now) self.now.text.now)
             (range_with_len 0 self.now.inherited.now.place.height)) }
-        ensures only { IfErr result (λ e. e ≡ Memory) }
     {
         for y in 0..self.inherited.place.height {
             lines.push(self.inner_text(y)?)?;
@@ -248,11 +231,10 @@ impl BorderedText<'_, '_, '_> {
     }
 
     #[tactic(auto, unfolding(crate::specs::Inherited::bordered_block))]
-    fn block(&self) -> Result<DrawnBlock, TableError>
-        ensures ok { IfOk result (λ block. block_sheet_of block
+    fn block(&self) -> Result<DrawnBlock, AllocError>
+        ensures { IfOk result (λ block. block_sheet_of block
             ≡ bordered_block (plan_for self.now) self.now.own (inherited_by self.now)
             self.now.text.now) }
-        ensures only { IfErr result (λ e. e ≡ Memory) }
     {
         let mut lines = Vec::new(self.drawing.alloc);
         if is_top(&self.own) {
@@ -272,10 +254,9 @@ pub(crate) fn text_block(
     drawing: &Drawing<'_, '_>,
     inherited: &InheritingBox,
     text: &str,
-) -> Result<DrawnBlock, TableError>
-    ensures ok { IfOk result (λ block. block_sheet_of block
+) -> Result<DrawnBlock, AllocError>
+    ensures { IfOk result (λ block. block_sheet_of block
         ≡ text_block (plan_of drawing.now) (inheriting_box inherited.now) text.now) }
-    ensures only { IfErr result (λ e. e ≡ Memory) }
 {
     if inherited.place.width == 0 {
         let mut lines = Vec::new(drawing.alloc);

@@ -6,7 +6,7 @@ ghost use Rattle.tabled_pool.specs.Nodes.{nodes, nodes_in};
 ghost use Rattle.tabled_pool.specs.Levels.{IsBegun, IsCopied, IsUp, left_in, list, within};
 
 use crate::tree::TableValue;
-use std::alloc::Global;
+use std::alloc::{AllocError, Global};
 use tabled_base::TableError;
 
 /// A list that is being copied: the copies so far, and the values after the current one.
@@ -40,10 +40,9 @@ fn begin<'a>(
     is_row: bool,
     children: &'a [TableValue],
     levels: &mut Vec<Level<'a>>,
-) -> Result<Option<&'a TableValue>, TableError>
-    ensures ok { IfOk result (λ first. MatchOption first ((children.now ≡ []) × (levels.new.items ≡ levels.old.items))
+) -> Result<Option<&'a TableValue>, AllocError>
+    ensures { IfOk result (λ first. MatchOption first ((children.now ≡ []) × (levels.new.items ≡ levels.old.items))
         (λ v. IsBegun levels.old.items (list is_row (map tree_of children.now)) (nodes_in children.now) levels.new.items v.now)) }
-    ensures only { IfErr result (λ e. e ≡ Memory) }
 {
     let Some((first, left)) = children.split_first() else {
         return Ok(None);
@@ -61,10 +60,9 @@ fn begin<'a>(
 fn copy_first<'a>(
     value: &'a TableValue,
     levels: &mut Vec<Level<'a>>,
-) -> Result<TableValue, TableError>
+) -> Result<TableValue, AllocError>
     ensures copy { IfOk result (λ copy. within levels.new.items (tree_of copy) ≡ within levels.old.items (tree_of value.now)) }
     ensures left { IfOk result (λ _. left_in levels.new.items < nodes value.now + left_in levels.old.items) }
-    ensures only { IfErr result (λ e. e ≡ Memory) }
 {
     let mut now = value;
     'values: loop {
@@ -89,9 +87,8 @@ fn copy_first<'a>(
 }
 
 impl<'a> Level<'a> {
-    fn add(&mut self, copy: TableValue) -> Result<Option<&'a TableValue>, TableError>
-        ensures ok { IfOk result (λ next. IsCopied self.old (tree_of copy) self.new next) }
-        ensures only { IfErr result (λ e. e ≡ Memory) }
+    fn add(&mut self, copy: TableValue) -> Result<Option<&'a TableValue>, AllocError>
+        ensures { IfOk result (λ next. IsCopied self.old (tree_of copy) self.new next) }
     {
         self.copies.push(copy)?;
         let Some((next, left)) = self.left.split_first() else {
@@ -104,9 +101,8 @@ impl<'a> Level<'a> {
 
 /// Adds a copy to the innermost list. A finished list is added to the list above it.
 #[tactic(auto, using(crate::proofs::Levels::within_push, crate::proofs::Levels::left_in_push))]
-fn put_copy<'a>(copy: TableValue, levels: &mut Vec<Level<'a>>) -> Result<Step<'a>, TableError>
-    ensures ok { IfOk result (λ step. IsUp levels.old.items (tree_of copy) levels.new.items step) }
-    ensures only { IfErr result (λ e. e ≡ Memory) }
+fn put_copy<'a>(copy: TableValue, levels: &mut Vec<Level<'a>>) -> Result<Step<'a>, AllocError>
+    ensures { IfOk result (λ step. IsUp levels.old.items (tree_of copy) levels.new.items step) }
 {
     let mut copy = copy;
     'levels: loop {

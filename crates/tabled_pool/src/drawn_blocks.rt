@@ -1,15 +1,13 @@
 //! `DrawnBlock`: the lines of a drawn box, and how drawn boxes are joined.
-ghost use Rattle.std.specs.Prelude.{◌≡◌, ◌≤◌, ◌^◌, ◌++◌, map, IfErr, IfOk, MatchOption};
+ghost use Rattle.std.specs.Prelude.{◌≡◌, ◌≤◌, ◌^◌, ◌++◌, map, IfOk, MatchOption};
 ghost use Rattle.std.specs.Prelude.{string_bytes};
 ghost use Rattle.std.specs.List.{flat_map};
-ghost use Rattle.tabled_base.specs.declared.error.TableError.TheVariants.{Memory};
 ghost use Rattle.tabled_line.specs.Fill.{fill};
 ghost use Rattle.tabled_pool.specs.DrawnBlocks.{all_columns, most_columns, most_lines};
 ghost use Rattle.tabled_pool.specs.DrawnBlocks.{drawn_block_line, block_sheet_of, side_by_side};
 ghost use Rattle.tabled_pool.specs.DrawnBlocks.{stacked, widened};
 
-use std::alloc::Global;
-use tabled_base::TableError;
+use std::alloc::{AllocError, Global};
 use tabled_line::write_fill;
 
 /// The lines of a drawn box, and their width in columns.
@@ -20,15 +18,13 @@ pub struct DrawnBlock {
 }
 
 /// Appends line `y` of a block, or spaces below its last line.
-fn push_drawn_line(line: &mut String, block: &DrawnBlock, y: usize) -> Result<(), TableError>
-    ensures ok { IfOk result (λ _. string_bytes line.new ≡ string_bytes line.old ++ drawn_block_line y (block_sheet_of block.now)) }
-    ensures only { IfErr result (λ e. e ≡ Memory) }
+fn push_drawn_line(line: &mut String, block: &DrawnBlock, y: usize) -> Result<(), AllocError>
+    ensures { IfOk result (λ _. string_bytes line.new ≡ string_bytes line.old ++ drawn_block_line y (block_sheet_of block.now)) }
 {
     if y >= block.lines.len() {
-        return write_fill(line, ' ', block.width);
+        return write_fill(line, ' ', block.width).map_err(|_| AllocError);
     }
-    line.push_str(block.lines[y].as_str())?;
-    Ok(())
+    line.push_str(block.lines[y].as_str())
 }
 
 fn all_columns(blocks: &[DrawnBlock]) -> Option<usize>
@@ -61,9 +57,8 @@ fn most_lines(blocks: &[DrawnBlock]) -> usize
     lines
 }
 
-fn joined_line(alloc: Global, blocks: &[DrawnBlock], y: usize) -> Result<String, TableError>
-    ensures ok { IfOk result (λ line. string_bytes line ≡ flat_map (drawn_block_line y) (map block_sheet_of blocks.now)) }
-    ensures only { IfErr result (λ e. e ≡ Memory) }
+fn joined_line(alloc: Global, blocks: &[DrawnBlock], y: usize) -> Result<String, AllocError>
+    ensures { IfOk result (λ line. string_bytes line ≡ flat_map (drawn_block_line y) (map block_sheet_of blocks.now)) }
 {
     let mut line = String::new(alloc);
     for block in blocks {
@@ -72,14 +67,13 @@ fn joined_line(alloc: Global, blocks: &[DrawnBlock], y: usize) -> Result<String,
     Ok(line)
 }
 
-/// Joins blocks side by side. Fails with `Memory` if an allocation fails, or if the total width
-/// exceeds `usize::MAX`.
-pub(crate) fn side_by_side(alloc: Global, blocks: &[DrawnBlock]) -> Result<DrawnBlock, TableError>
-    ensures ok { IfOk result (λ joined. block_sheet_of joined ≡ side_by_side (map block_sheet_of blocks.now)) }
-    ensures only { IfErr result (λ e. e ≡ Memory) }
+/// Joins blocks side by side. Fails if an allocation fails, or if the total width exceeds
+/// `usize::MAX`.
+pub(crate) fn side_by_side(alloc: Global, blocks: &[DrawnBlock]) -> Result<DrawnBlock, AllocError>
+    ensures { IfOk result (λ joined. block_sheet_of joined ≡ side_by_side (map block_sheet_of blocks.now)) }
 {
     let Some(width) = all_columns(blocks) else {
-        return Err(TableError::Memory);
+        return Err(AllocError);
     };
     let mut lines = Vec::new(alloc);
     for y in 0..most_lines(blocks) {
@@ -88,12 +82,11 @@ pub(crate) fn side_by_side(alloc: Global, blocks: &[DrawnBlock]) -> Result<Drawn
     Ok(DrawnBlock { width, lines })
 }
 
-fn widened_line(alloc: Global, text: &str, spaces: usize) -> Result<String, TableError>
-    ensures ok { IfOk result (λ line. string_bytes line ≡ text.now ++ fill 32 spaces) }
-    ensures only { IfErr result (λ e. e ≡ Memory) }
+fn widened_line(alloc: Global, text: &str, spaces: usize) -> Result<String, AllocError>
+    ensures { IfOk result (λ line. string_bytes line ≡ text.now ++ fill 32 spaces) }
 {
     let mut line = String::from_str(alloc, text)?;
-    write_fill(&mut line, ' ', spaces)?;
+    write_fill(&mut line, ' ', spaces).map_err(|_| AllocError)?;
     Ok(line)
 }
 
@@ -103,10 +96,9 @@ fn push_widened(
     lines: &mut Vec<String>,
     block: &DrawnBlock,
     width: usize,
-) -> Result<(), TableError>
-    ensures ok { IfOk result (λ _. map string_bytes lines.new.items
+) -> Result<(), AllocError>
+    ensures { IfOk result (λ _. map string_bytes lines.new.items
         ≡ map string_bytes lines.old.items ++ widened width (block_sheet_of block.now)) }
-    ensures only { IfErr result (λ e. e ≡ Memory) }
 {
     let spaces = width.saturating_sub(block.width);
     let texts = block.lines.as_slice();
@@ -117,9 +109,8 @@ fn push_widened(
 }
 
 /// Joins blocks below each other, filled with spaces to the greatest width.
-pub(crate) fn stacked(alloc: Global, blocks: &[DrawnBlock]) -> Result<DrawnBlock, TableError>
-    ensures ok { IfOk result (λ joined. block_sheet_of joined ≡ stacked (map block_sheet_of blocks.now)) }
-    ensures only { IfErr result (λ e. e ≡ Memory) }
+pub(crate) fn stacked(alloc: Global, blocks: &[DrawnBlock]) -> Result<DrawnBlock, AllocError>
+    ensures { IfOk result (λ joined. block_sheet_of joined ≡ stacked (map block_sheet_of blocks.now)) }
 {
     let width = most_columns(blocks);
     let mut lines = Vec::new(alloc);

@@ -1,7 +1,6 @@
 //! What boxes inherit and pass on. No function of a box is inlined, so that the recursive walk has a
 //! small stack frame.
-ghost use Rattle.std.specs.Prelude.{◌++◌, ◌-◌, ◌==◌, ◌∷◌, ◌≡◌, IfErr, IfOk, [], if◌then◌else◌, map};
-ghost use Rattle.tabled_base.specs.declared.error.TableError.TheVariants.{Memory};
+ghost use Rattle.std.specs.Prelude.{◌++◌, ◌-◌, ◌==◌, ◌∷◌, ◌≡◌, IfOk, [], if◌then◌else◌, map};
 ghost use Rattle.tabled_pool.specs.Boxes.{box_along, box_of, pick};
 ghost use Rattle.tabled_pool.specs.Left.{CanSplit, given_in};
 ghost use Rattle.tabled_pool.specs.Shown.{Fits};
@@ -19,9 +18,8 @@ use crate::pieces::{Drawing, Rectangle};
 use crate::places::{BoxesLeft, split};
 use crate::sizes::{BoxSpacing, Direction};
 use crate::tree::TableValue;
-use std::alloc::Global;
+use std::alloc::{AllocError, Global};
 use std::mem;
-use tabled_base::TableError;
 
 /// A list of sizes, split in two, and whether the first part ends where a size does.
 #[derive(Drop)]
@@ -37,13 +35,12 @@ fn ended(
     part: Vec<usize>,
     beyond: usize,
     behind: &[usize],
-) -> Result<TakenSizes, TableError>
-    ensures ok { IfOk result (λ t. taken_of t ≡ record {
+) -> Result<TakenSizes, AllocError>
+    ensures { IfOk result (λ t. taken_of t ≡ record {
       part = part.items;
       rest = (if beyond == 0 then behind.now else (beyond - 1) ∷ behind.now);
       met = (beyond == 0);
     }) }
-    ensures only { IfErr result (λ e. e ≡ Memory) }
 {
     let mut rest = Vec::new(alloc);
     let met = beyond == 0;
@@ -56,9 +53,8 @@ fn ended(
 
 /// Splits a list of sizes, each followed by a border of one column or line, at `size`. A size that
 /// reaches beyond loses what is before that, and one for the border there.
-pub(crate) fn taken(alloc: Global, size: usize, sizes: &[usize]) -> Result<TakenSizes, TableError>
-    ensures ok { IfOk result (λ t. taken_of t ≡ taken size sizes.now) }
-    ensures only { IfErr result (λ e. e ≡ Memory) }
+pub(crate) fn taken(alloc: Global, size: usize, sizes: &[usize]) -> Result<TakenSizes, AllocError>
+    ensures { IfOk result (λ t. taken_of t ≡ taken size sizes.now) }
 {
     let mut part = Vec::new(alloc);
     let mut left = size;
@@ -146,9 +142,8 @@ impl InheritingBox {
         &mut self,
         drawing: &Drawing<'_, '_>,
         text: &str,
-    ) -> Result<(), TableError>
-        ensures ok { IfOk result (λ _. passed_on self.new ≡ text_passes (plan_of drawing.now) text.now (inheriting_box self.old)) }
-        ensures only { IfErr result (λ e. e ≡ Memory) }
+    ) -> Result<(), AllocError>
+        ensures { IfOk result (λ _. passed_on self.new ≡ text_passes (plan_of drawing.now) text.now (inheriting_box self.old)) }
     {
         self.block = text_block(drawing, self, text)?;
         self.above.clear();
@@ -178,7 +173,7 @@ impl InheritingBox {
         child: &TableValue,
         spacing: &BoxSpacing,
         left: BoxesLeft,
-    ) -> Result<usize, TableError>
+    ) -> Result<usize, AllocError>
         requires { CanSplit direction spacing.now child.now left self.old.place }
         ensures own { IfOk result (λ own. own
             ≡ box_along direction (box_of spacing.now child.now)) }
@@ -189,7 +184,6 @@ impl InheritingBox {
             (given_in direction spacing.now child.now left self.old.place) (inheriting_box self.old)
             (pick direction self.new.before.items self.new.above.items)) }
         ensures fits { IfOk result (λ _. Fits (box_of spacing.now child.now) first.new.place) }
-        ensures only { IfErr result (λ e. e ≡ Memory) }
     {
         let cut = split(direction, child, spacing, left, self.place);
         let given = direction.pick(cut.given.width, cut.given.height);
@@ -220,9 +214,8 @@ impl InheritingBox {
         &mut self,
         direction: Direction,
         last: &mut InheritingBox,
-    ) -> Result<(), TableError>
-        ensures ok { IfOk result (λ _. inheriting_box last.new ≡ to_last direction (inheriting_box self.old)) }
-        ensures only { IfErr result (λ e. e ≡ Memory) }
+    ) -> Result<(), AllocError>
+        ensures { IfOk result (λ _. inheriting_box last.new ≡ to_last direction (inheriting_box self.old)) }
     {
         let size = direction.pick(self.place.width, self.place.height);
         let sizes = taken(*self.above.allocator(), size, self.along(direction))?;
@@ -246,10 +239,9 @@ impl DrawnBoxes {
     /// No drawn boxes yet. They are on the heap, so that the recursive walk has a small stack
     /// frame.
     #[inline(never)]
-    pub(crate) fn boxed(alloc: Global, place: Rectangle) -> Result<Box<DrawnBoxes>, TableError>
+    pub(crate) fn boxed(alloc: Global, place: Rectangle) -> Result<Box<DrawnBoxes>, AllocError>
         ensures blocks { IfOk result (λ drawn. drawn.value.blocks.items ≡ []) }
         ensures sizes { IfOk result (λ drawn. drawn.value.sizes.items ≡ []) }
-        ensures only { IfErr result (λ e. e ≡ Memory) }
     {
         let drawn = DrawnBoxes {
             blocks: Vec::new(alloc),
@@ -265,14 +257,13 @@ impl DrawnBoxes {
         &mut self,
         direction: Direction,
         all: &mut InheritingBox,
-    ) -> Result<(), TableError>
+    ) -> Result<(), AllocError>
         ensures blocks { IfOk result (λ _. map block_sheet_of self.new.blocks.items
             ≡ map block_sheet_of self.old.blocks.items ++ (block_sheet_of self.old.next.block ∷ [])) }
         ensures sizes { IfOk result (λ _. self.new.sizes.items
             ≡ self.old.sizes.items ++ passes_along direction (passed_on self.old.next)) }
         ensures others { IfOk result (λ _. inheriting_box all.new
             ≡ with_passed direction (inheriting_box all.old) (passes_across direction (passed_on self.old.next))) }
-        ensures only { IfErr result (λ e. e ≡ Memory) }
     {
         let none = DrawnBlock {
             width: 0,
@@ -294,13 +285,12 @@ impl DrawnBoxes {
         &mut self,
         direction: Direction,
         all: &mut InheritingBox,
-    ) -> Result<(), TableError>
-        ensures ok { IfOk result (λ _. passed_on all.new ≡ joined direction (record {
+    ) -> Result<(), AllocError>
+        ensures { IfOk result (λ _. passed_on all.new ≡ joined direction (record {
           blocks = map block_sheet_of self.old.blocks.items;
           sizes = self.old.sizes.items;
           passed = pick direction all.old.before.items all.old.above.items;
         })) }
-        ensures only { IfErr result (λ e. e ≡ Memory) }
     {
         let alloc = *self.sizes.allocator();
         match direction {

@@ -8,7 +8,7 @@ ghost use Rattle.tabled_pool.specs.NewPool.{IsCopy, IsPoolOfRows};
 
 use crate::pool_table::PoolTable;
 use crate::tree::TableValue;
-use std::alloc::Global;
+use std::alloc::{AllocError, Global};
 use tabled_base::{CellText, IntoRecords, TableError};
 
 impl PoolTable {
@@ -40,13 +40,12 @@ impl PoolTable {
     }
 }
 
-fn collect_rows<I: IntoRecords>(alloc: Global, records: I) -> Result<Vec<TableValue>, TableError>
+fn collect_rows<I: IntoRecords>(alloc: Global, records: I) -> Result<Vec<TableValue>, AllocError>
 where
     I::Cell: CellText + Drop,
     requires { I.ends records }
-    ensures ok { IfOk result (λ rows. (cells : List (List I.Cell)) × I.gives records cells
+    ensures { IfOk result (λ rows. (cells : List (List I.Cell)) × I.gives records cells
         × (map tree_of rows.items ≡ map tree_of_row (map (map I.Cell.text) cells))) }
-    ensures only { IfErr result (λ e. e ≡ Memory) }
 {
     let mut rows = Vec::new(alloc);
     for row in records.iter_rows() {
@@ -62,14 +61,13 @@ fn row_of(children: Vec<TableValue>) -> TableValue
     TableValue::Row(children)
 }
 
-fn collect_row<I: IntoIterator>(alloc: Global, cells: I) -> Result<Vec<TableValue>, TableError>
+fn collect_row<I: IntoIterator>(alloc: Global, cells: I) -> Result<Vec<TableValue>, AllocError>
 where
     I::Item: CellText + Drop,
     requires { IsFiniteIterable I.into_iter_gives I.IntoIter.can_next I.IntoIter.remaining cells }
-    ensures ok { IfOk result (λ row. (items : List I.Item)
+    ensures { IfOk result (λ row. (items : List I.Item)
         × Given I.into_iter_gives I.IntoIter.next_gives cells items
         × (map tree_of row.items ≡ map leaf (map I.Item.text items))) }
-    ensures only { IfErr result (λ e. e ≡ Memory) }
 {
     let mut row = Vec::new(alloc);
     for cell in cells {

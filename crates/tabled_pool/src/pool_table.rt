@@ -30,14 +30,14 @@ use crate::sizes::{BoxSpacing, Size, own_size};
 use crate::table_lines::{ColoredMargin, TableLines, draw_lines};
 use crate::tree::TableValue;
 use crate::tree_walk::{draw_tree, has_zero_width};
-use std::alloc::Global;
+use std::alloc::AllocError;
 use std::fmt;
 use tabled_base::TableError;
 use tabled_config::{ANSIStr, Borders, CellStyle, CompactMultilineConfig, Indent, Sides, Style};
 use tabled_line::TextSink;
 use tabled_size::{DimensionPriority, PoolTableDimension};
 
-fn one_if(there: bool) -> usize
+pub(crate) fn one_if(there: bool) -> usize
     ensures { result ≡ one_if there }
 {
     if there { 1 } else { 0 }
@@ -218,11 +218,10 @@ impl PoolTable {
         Some(size)
     }
 
-    fn pieces(&self, size: Size) -> Result<Vec<Piece<'_>>, TableError>
+    fn pieces(&self, size: Size) -> Result<Vec<Piece<'_>>, AllocError>
         requires width { size.width ≡ framed_width self.now }
         requires height { size.height ≡ framed_height self.now }
-        ensures places { IfOk result (λ pieces. map shown pieces.items ≡ (plan self.now).parts) }
-        ensures only { IfErr result (λ e. e ≡ Memory) }
+        ensures { IfOk result (λ pieces. map shown pieces.items ≡ (plan self.now).parts) }
     {
         let mut pieces = Vec::new(self.value.allocator());
         let frame = frame_of(self.config.get_borders());

@@ -1,7 +1,6 @@
 //! Draws a tree with a zero-width text: boxes are drawn one by one in memory and joined, and each
 //! passes on where borders meet.
-ghost use Rattle.std.specs.Prelude.{◌≡◌, ◌+◌, ◌^◌, ◌<◌, ◌∷◌, [], map, IfErr, IfOk, string_bytes};
-ghost use Rattle.tabled_base.specs.declared.error.TableError.TheVariants.{Memory};
+ghost use Rattle.std.specs.Prelude.{◌≡◌, ◌+◌, ◌^◌, ◌<◌, ◌∷◌, [], map, IfOk, string_bytes};
 ghost use Rattle.tabled_pool.specs.Boxes.{box_of, list_box};
 ghost use Rattle.tabled_pool.specs.Shown.{Fits, shown};
 ghost use Rattle.tabled_pool.specs.Inherited.{drawer, inherited_block, has_zero_width, list_drawer};
@@ -15,7 +14,7 @@ use crate::pieces::{Drawing, Piece, Rectangle, is_line_kind};
 use crate::places::BoxesLeft;
 use crate::sizes::{BoxSpacing, Direction, Size, list_size};
 use crate::tree::TableValue;
-use tabled_base::TableError;
+use std::alloc::AllocError;
 
 pub fn has_zero_width(pieces: &[Piece<'_>]) -> bool
     ensures { result ≡ has_zero_width (map shown pieces.now) }
@@ -43,16 +42,15 @@ fn draw_list(
     settings: TreeSettings<'_, '_, '_>,
     inherited: &mut InheritingBox,
     drawn: &mut DrawnBoxes,
-) -> Result<(), TableError>
+) -> Result<(), AllocError>
     requires blocks { drawn.old.blocks.items ≡ [] }
     requires sizes { drawn.old.sizes.items ≡ [] }
     requires fits { Fits (list_box direction settings.spacing.now
         (map (box_of settings.spacing.now) children.now)) inherited.old.place }
-    ensures ok { IfOk result (λ _. passed_on inherited.new
+    ensures { IfOk result (λ _. passed_on inherited.new
         ≡ (list_drawer direction (plan_of settings.entry.drawing.now) settings.entry.spacing.now
         (map (drawer (plan_of settings.entry.drawing.now) settings.entry.spacing.now)
         children.now)).draw (inheriting_box inherited.old)) }
-    ensures only { IfErr result (λ e. e ≡ Memory) }
 {
     let spacing = settings.spacing;
     let Some((last, front)) = children.split_last() else {
@@ -85,12 +83,11 @@ fn draw_value(
     value: &TableValue,
     settings: TreeSettings<'_, '_, '_>,
     inherited: &mut InheritingBox,
-) -> Result<(), TableError>
+) -> Result<(), AllocError>
     requires { Fits (box_of settings.spacing.now value.now) inherited.old.place }
-    ensures ok { IfOk result (λ _. passed_on inherited.new
+    ensures { IfOk result (λ _. passed_on inherited.new
         ≡ (drawer (plan_of settings.entry.drawing.now) settings.entry.spacing.now value.now).draw
         (inheriting_box inherited.old)) }
-    ensures only { IfErr result (λ e. e ≡ Memory) }
 {
     let alloc = settings.drawing.alloc;
     match value {
@@ -115,12 +112,11 @@ pub fn draw_tree(
     spacing: &BoxSpacing,
     drawing: &Drawing<'_, '_>,
     own: Size,
-) -> Result<DrawnBlock, TableError>
+) -> Result<DrawnBlock, AllocError>
     requires width { own.width ≡ (box_of spacing.now value.now).width }
     requires height { own.height ≡ (box_of spacing.now value.now).height }
-    ensures ok { IfOk result (λ block. block_sheet_of block
+    ensures { IfOk result (λ block. block_sheet_of block
         ≡ inherited_block (plan_of drawing.now) spacing.now value.now) }
-    ensures only { IfErr result (λ e. e ≡ Memory) }
 {
     let place = Rectangle {
         x: 0,

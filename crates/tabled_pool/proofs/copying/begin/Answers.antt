@@ -2,5 +2,5 @@ use Rattle.std.proofs.Common.{rules}
 use Rattle.tabled_pool.proofs.Levels.{begun}
 use Rattle.tabled_pool.proofs.copying.begin.Goals as goal
 
-pub returns-clause-ok : goal.returns-clause-ok
-returns-clause-ok c = rw c.in_ok-push.ensures.items (begun _ _ _ _ c.in_ok-copies.ensures.items (search rules))
+pub returns : goal.returns
+returns c = rw c.in_ok-push.ensures.items (begun _ _ _ _ c.in_ok-copies.ensures.items (search rules))

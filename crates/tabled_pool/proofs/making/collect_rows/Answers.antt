@@ -21,6 +21,6 @@ collect_row-requires g c =
 
 pub loop-row-preserved : goal.loop-row-preserved
 loop-row-preserved g c =
-    let came = c.in_ok-collect_row.ensures.ok in
+    let came = c.in_ok-collect_row.ensures in
     collected-more c.loop-row.rows.items c.push.new.self.items c.row_of-value.result
     c.loop-row.invariant c.in_ok-push.ensures.items came.1 (c.row_of-value.ensures ∙ ap (λ u. across (trees u)) came.2)

@@ -47,7 +47,7 @@ draw_list-loop-child-preserved t c =
       walk = list_added d (plan_of c.args.settings.drawing.now) g c.in-Some.front.now c.in-Some.last.now c.loop-child.child-index
           c.child-item.result _ _ _ _ _ l.size l.count _ _ _ _ _ _ c.loop-child-test.true
           c.child-item.is i.left.size i.left.count c.in_ok-own.ensures.first c.in_ok-own.ensures.others
-          c.in_ok-draw_value.ensures.ok c.in_ok-add.ensures.blocks c.in_ok-add.ensures.sizes
+          c.in_ok-draw_value.ensures c.in_ok-add.ensures.blocks c.in_ok-add.ensures.sizes
           c.in_ok-add.ensures.others i.walk;
       fits = list_next d g _ _ _ _ l.size l.count _ f i.fits i.left.size i.left.count place;
       left = record {
@@ -56,11 +56,11 @@ draw_list-loop-child-preserved t c =
       };
     }
 
-pub draw_list-returns-clause-ok : goal.draw_list-returns-clause-ok
-draw_list-returns-clause-ok t c =
+pub draw_list-returns : goal.draw_list-returns
+draw_list-returns t c =
     let d = c.args.direction in
     let last = c.in_ok-add-2.ensures in
     let e = list_done d (plan_of c.args.settings.drawing.now) c.args.settings.spacing.now c.args.children.now c.in-Some.front.now
     c.in-Some.last.now c.loop-child.child-index _ _ _ _ _ _ _ _ _ (omega arith) c.in-Some.ensures.cases c.loop-child.invariant.walk
-    c.in_ok-pass_rest.ensures.ok c.in_ok-draw_value-2.ensures.ok last.blocks last.sizes (passed_across d _ _ _ last.others) in
-    rw e at c.join.ensures.ok
+    c.in_ok-pass_rest.ensures c.in_ok-draw_value-2.ensures last.blocks last.sizes (passed_across d _ _ _ last.others) in
+    rw e at c.join.ensures

@@ -8,4 +8,4 @@ pub loop-y-preserved : goal.loop-y-preserved
 loop-y-preserved c =
     let b = c.args.self.now in
     one-more string_bytes (inner_text (plan_of b.drawing.now) b.own (inheriting_box b.inherited.now) b.text.now)
-    (map string_bytes c.args.lines.now.items) _ _ _ _ c.in_ok-push.ensures.items c.loop-y.invariant c.in_ok-inner_text.ensures.ok
+    (map string_bytes c.args.lines.now.items) _ _ _ _ c.in_ok-push.ensures.items c.loop-y.invariant c.in_ok-inner_text.ensures

@@ -1,9 +1,9 @@
 use Rattle.tabled_pool.specs.Pool.{plan}
 use Rattle.tabled_pool.proofs.pool_table.PoolTable.pieces.Goals as goal
 
-pub returns-clause-places : goal.returns-clause-places
+pub returns : goal.returns
 unfolding plan
-returns-clause-places c =
+returns c =
     let e = rw (c.requires.width, c.requires.height, c.frame_of-frame.ensures, c.get_borders.ensures, c.spacing.ensures)
     at c.in_ok-place_tree.ensures in
     rw c.new-pieces.ensures.items at e
