@@ -1,5 +1,5 @@
 -- The columns of the lines of a block.
-use Rattle.std.proofs.Common.{ℕ, ◌+◌, ◌-◌, ◌<◌, ◌≤◌, ltb, true, false, cond, List, [], length, get_or, append-nil, sym, subst, arith, ⊎_elim}
+use Rattle.std.proofs.Common.{◌≡◌, ◌++◌, ◌∙◌, ap, append_assoc, ℕ, ◌+◌, ◌-◌, ◌<◌, ◌≤◌, ltb, true, false, cond, List, [], length, get_or, append-nil, sym, subst, arith, ⊎_elim}
 use Rattle.tabled_text.specs.Measure.{lines_of, text_columns, line_columns}
 use Rattle.tabled_text.specs.Plain.{IsAdditive, IsAdditiveColumn, IsAdditiveLine}
 use Rattle.tabled_text.proofs.Bridge.{line_columns-le}
@@ -8,7 +8,7 @@ use Rattle.tabled_config.specs.declared.alignment.AlignmentHorizontal.{Alignment
 use Rattle.tabled_config.specs.declared.alignment.AlignmentHorizontal.TheVariants as horizontal
 use Rattle.tabled_config.specs.declared.spanned.CellStyle.{CellStyle}
 use Rattle.tabled_line.specs.Block.{before_text, inner_width, columns_before, cell_line}
-use Rattle.tabled_line.specs.Fill.{fill}
+use Rattle.tabled_line.specs.Fill.{fill, indent}
 use Rattle.tabled_line.proofs.Plains.{plain-fill}
 use Rattle.tabled_config.specs.declared.sides.Sides.{Sides}
 use Rattle.tabled_config.specs.Compact.{each_side}
@@ -60,6 +60,18 @@ plain-run {run = run} {n = n} p = subst (λ bs. IsAdditiveLine bs n) (sym (appen
 
 abbrev pub bare : Sides Mark
 bare = each_side no_mark
+
+-- without colours a line of a text is a line of its cell
+pub bare-text_line : (s : CellStyle) (marks : Sides Mark) (w : ℕ) (text line : List ℕ) → marks ≡ bare
+    → text_line s marks w text line ≡ cell_line s w text line
+unfolding cell_line
+bare-text_line s marks w text line e =
+    let inner = inner_width s w in
+    let same : inner_width (without_sides s) inner ≡ inner = omega arith in
+    ap (λ m. text_line s m w text line) e
+    ∙ ap (λ n. (indent s.padding.left ++ []) ++ ((fill 32 (columns_before s n text line)
+    ++ (line ++ (fill 32 (n - columns_before s n text line - line_columns line) ++ []))) ++ (indent s.padding.right ++ []))) same
+    ∙ simp (append_assoc, append-nil)
 
 plain-text_line : (s : CellStyle) (w : ℕ) (text : List ℕ) (j : ℕ) → IsPlainBox s w text → j < length (lines_of text)
     → IsAdditiveLine (text_line s bare w text (get_or (lines_of text) j [])) w

@@ -1,23 +1,41 @@
 //! The block of a text: its lines, with padding and the lines that alignment adds.
-ghost use Rattle.std.specs.Prelude.{◌≡◌, ◌<◌, [], slice_get};
+ghost use Rattle.std.specs.Prelude.{◌≡◌, ◌<◌, IfSome, [], slice_get};
 ghost use Rattle.std.specs.List.{slice_index_or};
 ghost use Rattle.std.specs.Option.{option_map};
-ghost use Rattle.tabled_text.specs.Measure.{lines_of};
+ghost use Rattle.tabled_text.specs.Measure.{line_columns, lines_of};
 ghost use Rattle.tabled_line.specs.Block.{inner_width};
 ghost use Rattle.tabled_line.specs.Sent.{Sent, Writes};
 ghost use Rattle.tabled_pool.specs.Block.{line_below, pool_block, text_line, without_sides};
 ghost use Rattle.tabled_pool.specs.Colours.{marks_of};
 
 use crate::marks::draw_colored_fill;
+use crate::plain::are_uncolored_sides;
 use tabled_base::TableError;
 use tabled_config::{ANSIStr, CellStyle, Indent, Sides};
-use tabled_line::{CellBlock, TextSink, write_fill};
+use tabled_line::{CellBlock, Content, TextSink, write_fill};
 use tabled_text::line_width;
 
 fn nth_line(text: &str, index: usize) -> Option<&str>
     ensures { option_map (λ line. line.now) result ≡ slice_get (lines_of text.now) index }
 {
     text.split('\n').nth(index)
+}
+
+/// Returns the line of a text at `index`, and its width in columns.
+fn line_at<'a>(content: &Content<'a>, index: usize) -> Option<(&'a str, usize)>
+    ensures line { option_map (λ x. x.0.now) result
+        ≡ slice_get (lines_of content.now.text.now) index }
+    ensures columns { IfSome result (λ x. x.1 ≡ line_columns x.0.now) }
+{
+    if content.lines == 1 {
+        return if index == 0 {
+            Some((content.text, content.columns))
+        } else {
+            None
+        };
+    }
+    let line = nth_line(content.text, index)?;
+    Some((line, line_width(line)))
 }
 
 /// Writes a line below the text: the bottom padding first, then spaces.
@@ -65,10 +83,16 @@ fn write_text_line<S: TextSink>(
     cell: &CellBlock<'_>,
     colors: &Sides<ANSIStr<'static>>,
     line: &str,
+    columns: usize,
 ) -> Result<(), TableError>
+    requires { columns ≡ line_columns line.now }
     ensures { Writes (S.sent sink.old) result (S.sent sink.new)
-        (text_line cell.now.style (marks_of colors.now) cell.now.width cell.now.content.text.now line.now) }
+        (text_line cell.now.style (marks_of colors.now) cell.now.width
+        cell.now.content.text.now line.now) }
 {
+    if are_uncolored_sides(colors) {
+        return cell.write_text_line(sink, line, columns);
+    }
     let left = cell.style.padding.left;
     let right = cell.style.padding.right;
     let inner = CellBlock {
@@ -78,7 +102,7 @@ fn write_text_line<S: TextSink>(
         content: cell.content,
     };
     draw_colored_fill(sink, colors.left, left.fill, left.size)?;
-    inner.write_text_line(sink, line, line_width(line))?;
+    inner.write_text_line(sink, line, columns)?;
     draw_colored_fill(sink, colors.right, right.fill, right.size)
 }
 
@@ -102,8 +126,8 @@ pub fn draw_block_line<S: TextSink>(
         return draw_colored_fill(sink, colors.top, top.fill, cell.width);
     }
     let row = padded - top.size;
-    match nth_line(cell.content.text, row) {
-        Some(line) => write_text_line(sink, cell, colors, line),
+    match line_at(&cell.content, row) {
+        Some((line, columns)) => write_text_line(sink, cell, colors, line, columns),
         None => draw_line_below(
             sink,
             &cell.style,

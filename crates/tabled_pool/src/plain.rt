@@ -40,7 +40,7 @@ pub(crate) fn are_uncolored_lines(colors: &Borders<ANSIStr<'static>>) -> bool
         && is_uncolored_line(colors.right)
 }
 
-fn are_uncolored_sides(colors: &Sides<ANSIStr<'static>>) -> bool
+pub(crate) fn are_uncolored_sides(colors: &Sides<ANSIStr<'static>>) -> bool
     ensures { IsTrue result ↔ (marks_of colors.now ≡ each_side no_mark) }
 {
     colors.left.is_empty()

@@ -6,7 +6,7 @@ ghost use Rattle.tabled_pool.specs.Boxes.{sized};
 use crate::tree::TableValue;
 use tabled_config::Sides;
 use tabled_size::DimensionPriority;
-use tabled_text::{count_lines, text_width};
+use tabled_text::text_measures;
 
 /// The padding of texts, the borders between boxes, and which boxes take a surplus.
 #[derive(Clone, Copy, Debug)]
@@ -56,10 +56,11 @@ impl Direction {
 fn leaf_size(text: &str, spacing: &BoxSpacing) -> Option<Size>
     ensures { IsSize result (leaf_box spacing.now text.now) }
 {
-    let width = text_width(text)
+    let (columns, lines) = text_measures(text);
+    let width = columns
         .checked_add(spacing.padding.left)?
         .checked_add(spacing.padding.right)?;
-    let height = count_lines(text)
+    let height = lines
         .checked_add(spacing.padding.top)?
         .checked_add(spacing.padding.bottom)?;
     Some(Size { width, height })

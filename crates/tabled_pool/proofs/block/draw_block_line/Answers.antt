@@ -20,7 +20,7 @@ pub overflow_sub-row-in-None : goal.overflow_sub-row-in-None
 overflow_sub-row-in-None g c =
     let l = rw c.lines_above-above.ensures.value at c.if-index-above.false in
     let m = rw c.lines_above-above.ensures.value at c.if-padded-top.false in
-    let e = rw c.lines_above-above.ensures.value at c.in-None.ensures in
+    let e = rw c.lines_above-above.ensures.value at c.in-None.ensures.line in
     let past = block-past c.args.cell.now.style
     (marks_of c.args.colors.now) c.args.cell.now.width c.args.cell.now.height c.args.cell.now.content.text.now c.args.index l m e in
     omega (arith, past, c.lines_above-above.ensures.value, c.args.cell.now.content.lines_are)
@@ -29,7 +29,7 @@ pub returns-in-Some : goal.returns-in-Some
 returns-in-Some g c =
     let l = rw c.lines_above-above.ensures.value at c.if-index-above.false in
     let m = rw c.lines_above-above.ensures.value at c.if-padded-top.false in
-    let e = rw c.lines_above-above.ensures.value at c.in-Some.ensures in
+    let e = rw c.lines_above-above.ensures.value at c.in-Some.ensures.line in
     rw (block-text c.args.cell.now.style
     (marks_of c.args.colors.now) c.args.cell.now.width c.args.cell.now.height c.args.cell.now.content.text.now c.args.index
     c.in-Some.line.now l m e) c.write_text_line.ensures
@@ -38,7 +38,7 @@ pub returns-in-None : goal.returns-in-None
 returns-in-None g c =
     let l = rw c.lines_above-above.ensures.value at c.if-index-above.false in
     let m = rw c.lines_above-above.ensures.value at c.if-padded-top.false in
-    let e = rw c.lines_above-above.ensures.value at c.in-None.ensures in
+    let e = rw c.lines_above-above.ensures.value at c.in-None.ensures.line in
     let past = block-past c.args.cell.now.style
     (marks_of c.args.colors.now) c.args.cell.now.width c.args.cell.now.height c.args.cell.now.content.text.now c.args.index l m e in
     let shown = rw (c.lines_above-above.ensures.value, c.args.cell.now.content.lines_are) at c.draw_line_below.ensures in

@@ -1,7 +1,8 @@
 use Rattle.std.proofs.Common.{append_assoc, refl, sym}
 use Rattle.tabled_line.specs.Fill.{indent}
 use Rattle.tabled_line.proofs.Sending.{further, finished, stopped, stopped-first}
-use Rattle.tabled_pool.specs.Colours.{coloured, mark_of}
+use Rattle.tabled_pool.specs.Colours.{coloured, mark_of, marks_of}
+use Rattle.tabled_pool.proofs.PlainBlocks.{bare-text_line}
 use Rattle.tabled_pool.proofs.block.write_text_line.Goals as goal
 
 pub returns-in_err-draw_colored_fill : goal.returns-in_err-draw_colored_fill
@@ -18,3 +19,9 @@ returns g c =
     let line = rw (c.without_sides.ensures, c.inner_width.ensures) at c.in_ok-write_text_line.ensures in
     finished _ _ _ _ (further c.in_ok-draw_colored_fill.ensures line refl) c.draw_colored_fill-2.ensures
     (sym (append_assoc (coloured (mark_of c.args.colors.now.left) (indent c.args.cell.now.style.padding.left)) _ _))
+
+pub returns-then-are_uncolored_sides : goal.returns-then-are_uncolored_sides
+returns-then-are_uncolored_sides g c =
+    let cell = c.args.cell.now in
+    rw (bare-text_line cell.style (marks_of c.args.colors.now) cell.width cell.content.text.now c.args.line.now
+    (c.are_uncolored_sides.ensures.0 c.if-are_uncolored_sides.true)) c.write_text_line.ensures
