@@ -186,10 +186,11 @@ impl InheritingBox {
         ensures fits { IfOk result (λ _. Fits (box_of spacing.now child.now) first.new.place) }
     {
         let cut = split(direction, child, spacing, left, self.place);
-        let given = direction.pick(cut.given.width, cut.given.height);
+        let Rectangle { width, height, .. } = cut.given.place;
+        let given = direction.pick(width, height);
         let alloc = *self.above.allocator();
         let TakenSizes { part, rest, met } = taken(alloc, given, self.along(direction))?;
-        first.place = cut.given;
+        first.place = cut.given.place;
         first.flags = self.flags.first(direction, false);
         self.place = cut.rest;
         self.flags = self.flags.later(direction, met);

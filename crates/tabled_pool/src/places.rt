@@ -1,13 +1,13 @@
 //! Places the texts of a tree and the borders between its boxes in rectangles.
-ghost use Rattle.std.specs.Prelude.{◌++◌, ◌+◌, ◌<◌, ◌^◌, ◌∷◌, ◌≡◌, ◌≤◌, IfOk, [], map};
-ghost use Rattle.tabled_pool.specs.Boxes.{behind_border, border_kind, border_part, box_along};
+ghost use Rattle.std.specs.Prelude.{◌++◌, ◌+◌, ◌<◌, ◌^◌, ◌∷◌, ◌≡◌, ◌≤◌, IfOk, Some, [], map};
+ghost use Rattle.tabled_pool.specs.Boxes.{behind_border, border_kind, border_part, box_along, IsSize};
 ghost use Rattle.tabled_pool.specs.Boxes.{box_of, first_part, list_box, part_of, share};
 ghost use Rattle.tabled_pool.specs.Left.{CanSplit, given_in};
 ghost use Rattle.tabled_pool.specs.Shown.{Fits, shown};
 ghost use Rattle.tabled_pool.specs.Tiling.{framed};
 
 use crate::pieces::{Kind, Piece, Rectangle};
-use crate::sizes::{BoxSpacing, Direction, list_size, own_size};
+use crate::sizes::{BoxSpacing, Direction, Size, own_size};
 use crate::tree::TableValue;
 use std::alloc::AllocError;
 use tabled_config::Sides;
@@ -52,13 +52,20 @@ pub struct BoxesLeft {
     pub count: usize,
 }
 
+/// A box that is placed: the size that it needs, and the rectangle that it is given.
+#[derive(Clone, Copy)]
+pub struct BoxPlace {
+    pub own: Size,
+    pub place: Rectangle,
+}
+
 /// A rectangle of several boxes, split after the first.
 #[derive(Clone, Copy)]
 pub struct SplitPlace {
     /// The width or height that the first box needs.
     pub own: usize,
-    /// The rectangle of the first box.
-    pub given: Rectangle,
+    /// The first box.
+    pub given: BoxPlace,
     /// The rectangle of the border after it.
     pub line: Rectangle,
     /// The rectangle of the other boxes.
@@ -75,13 +82,14 @@ pub fn split(
 ) -> SplitPlace
     requires { CanSplit direction spacing.now child.now left place }
     ensures own { result.own ≡ box_along direction (box_of spacing.now child.now) }
-    ensures given { result.given ≡ first_part direction
+    ensures size { IsSize (Some result.given.own) (box_of spacing.now child.now) }
+    ensures given { result.given.place ≡ first_part direction
         (given_in direction spacing.now child.now left place) place }
     ensures line { part_of (border_kind direction) result.line []
         ≡ border_part direction spacing.now (given_in direction spacing.now child.now left place) place }
     ensures rest { result.rest ≡ behind_border direction spacing.now
         (given_in direction spacing.now child.now left place) place }
-    ensures fits { Fits (box_of spacing.now child.now) result.given }
+    ensures fits { Fits (box_of spacing.now child.now) result.given.place }
 {
     let Some(size) = own_size(child, spacing) else {
         unreachable!()
@@ -92,12 +100,31 @@ pub fn split(
     let given = own + share(priority, surplus, left.count);
     let border = direction.pick(spacing.bar, spacing.rule);
     let behind = place.rest_part(direction, given);
+    let first = BoxPlace {
+        own: size,
+        place: place.first_part(direction, given),
+    };
     SplitPlace {
         own,
-        given: place.first_part(direction, given),
+        given: first,
         line: behind.first_part(direction, border),
         rest: behind.rest_part(direction, border),
     }
+}
+
+/// The size that the last of several boxes needs; `whole.own` is that of all of them.
+fn last_size(last: &TableValue, front: &[TableValue], spacing: &BoxSpacing, whole: BoxPlace) -> Size
+    requires alone { front.now ≡ [] → IsSize (Some whole.own) (box_of spacing.now last.now) }
+    requires fits { Fits (box_of spacing.now last.now) whole.place }
+    ensures { IsSize (Some result) (box_of spacing.now last.now) }
+{
+    if front.is_empty() {
+        return whole.own;
+    }
+    let Some(own) = own_size(last, spacing) else {
+        unreachable!()
+    };
+    own
 }
 
 #[cycle(places)]
@@ -106,25 +133,26 @@ fn place_list<'a>(
     direction: Direction,
     children: &'a [TableValue],
     spacing: &BoxSpacing,
-    whole: Rectangle,
+    whole: BoxPlace,
     pieces: &mut Vec<Piece<'a>>,
 ) -> Result<(), AllocError>
-    requires { Fits (list_box direction spacing.now (map (box_of spacing.now) children.now)) whole }
+    requires own { IsSize (Some whole.own)
+        (list_box direction spacing.now (map (box_of spacing.now) children.now)) }
+    requires fits { Fits (list_box direction spacing.now (map (box_of spacing.now) children.now))
+        whole.place }
     ensures { IfOk result (λ _. map shown pieces.new.items ≡ map shown pieces.old.items
-        ++ (list_box direction spacing.now (map (box_of spacing.now) children.now)).parts whole) }
+        ++ (list_box direction spacing.now (map (box_of spacing.now) children.now)).parts
+        whole.place) }
 {
     let Some((last, front)) = children.split_last() else {
-        return place_piece(Kind::Leaf, whole, "", pieces);
-    };
-    let Some(own) = list_size(direction, children, spacing) else {
-        unreachable!()
+        return place_piece(Kind::Leaf, whole.place, "", pieces);
     };
     let border = direction.pick(spacing.bar, spacing.rule);
     let kind = direction.pick(Kind::Bar, Kind::Rule);
-    let size = direction.pick(own.width, own.height);
+    let size = direction.pick(whole.own.width, whole.own.height);
     let count = children.len();
     let mut left = BoxesLeft { size, count };
-    let mut place = whole;
+    let mut place = whole.place;
     for child in front {
         let cut = split(direction, child, spacing, left, place);
         place_value(child, spacing, cut.given, pieces)?;
@@ -133,7 +161,8 @@ fn place_list<'a>(
         left.count -= 1;
         place = cut.rest;
     }
-    place_value(last, spacing, place, pieces)
+    let own = last_size(last, front, spacing, BoxPlace { place, ..whole });
+    place_value(last, spacing, BoxPlace { own, place }, pieces)
 }
 
 /// Adds the texts of a tree and the borders between its boxes. Recurses at each level.
@@ -142,15 +171,16 @@ fn place_list<'a>(
 pub fn place_value<'a>(
     value: &'a TableValue,
     spacing: &BoxSpacing,
-    whole: Rectangle,
+    whole: BoxPlace,
     pieces: &mut Vec<Piece<'a>>,
 ) -> Result<(), AllocError>
-    requires { Fits (box_of spacing.now value.now) whole }
+    requires own { IsSize (Some whole.own) (box_of spacing.now value.now) }
+    requires fits { Fits (box_of spacing.now value.now) whole.place }
     ensures { IfOk result (λ _. map shown pieces.new.items ≡ map shown pieces.old.items
-        ++ (box_of spacing.now value.now).parts whole) }
+        ++ (box_of spacing.now value.now).parts whole.place) }
 {
     match value {
-        TableValue::Cell(text) => place_piece(Kind::Leaf, whole, text.as_str(), pieces),
+        TableValue::Cell(text) => place_piece(Kind::Leaf, whole.place, text.as_str(), pieces),
         TableValue::Row(children) => {
             let children = children.as_slice();
             place_list(Direction::Across, children, spacing, whole, pieces)
@@ -162,7 +192,7 @@ pub fn place_value<'a>(
     }
 }
 
-/// Adds the texts and borders of a tree and the borders around it, in a rectangle that holds both.
+/// Adds the texts and borders of a tree and the borders around it, in a rectangle of their size.
 /// `frame` is the thickness of each outer border, in columns or lines. Recurses at each level.
 #[tactic(auto, unfolding(crate::specs::Tiling::framed))]
 pub fn place_tree<'a>(
@@ -172,8 +202,10 @@ pub fn place_tree<'a>(
     whole: Rectangle,
     pieces: &mut Vec<Piece<'a>>,
 ) -> Result<(), AllocError>
-    requires wide { frame.now.left + (box_of spacing.now value.now).width + frame.now.right ≤ whole.width }
-    requires tall { frame.now.top + (box_of spacing.now value.now).height + frame.now.bottom ≤ whole.height }
+    requires wide { whole.width
+        ≡ frame.now.left + (box_of spacing.now value.now).width + frame.now.right }
+    requires tall { whole.height
+        ≡ frame.now.top + (box_of spacing.now value.now).height + frame.now.bottom }
     requires right { whole.x + whole.width < 2 ^ 64 }
     requires low { whole.y + whole.height < 2 ^ 64 }
     ensures { IfOk result (λ _. map shown pieces.new.items ≡ map shown pieces.old.items
@@ -187,12 +219,13 @@ pub fn place_tree<'a>(
     let left = whole.first_part(Direction::Across, frame.left);
     let right = rest.rest_part(Direction::Across, width);
     let top = middle.first_part(Direction::Down, frame.top);
-    let inner = below.first_part(Direction::Down, height);
+    let place = below.first_part(Direction::Down, height);
+    let own = Size { width, height };
     let bottom = below.rest_part(Direction::Down, height);
     place_piece(Kind::Bar, left, "", pieces)?;
     place_piece(Kind::Bar, right, "", pieces)?;
     place_piece(Kind::Rule, top, "", pieces)?;
     place_piece(Kind::Rule, bottom, "", pieces)?;
-    place_value(value, spacing, inner, pieces)?;
+    place_value(value, spacing, BoxPlace { own, place }, pieces)?;
     Ok(())
 }

@@ -51,7 +51,7 @@ place_list-loop-child-preserved t c =
     let l = c.loop-child.left in
     record {
       placing = record {
-        parts = list_parts_next d g _ _ _ p l.size l.count c.split-cut.result.given
+        parts = list_parts_next d g _ _ _ p l.size l.count c.split-cut.result.given.place
             c.split-cut.result.line c.split-cut.result.rest _ _ _ _ f i.left.size i.left.count cut.given cut.line
             cut.rest i.placing.parts c.in_ok-place_value.ensures line;
         fits = list_next d g _ _ _ p l.size l.count c.split-cut.result.rest f i.placing.fits i.left.size i.left.count cut.rest;

@@ -18,7 +18,7 @@ returns c =
       c.rest_part-right.ensures,
       c.first_part-top.ensures,
       c.rest_part-bottom.ensures,
-      c.first_part-inner.ensures,
+      c.first_part-place.ensures,
       c.rest_part-below.ensures,
       c.first_part-middle.ensures,
       c.rest_part-rest.ensures,
