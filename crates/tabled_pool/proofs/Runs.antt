@@ -124,6 +124,13 @@ run_chars t p x y end last left behind up down right a e k v l m =
       a.below v l (omega (arith, e.within)),
     ) refl
 
+-- the last column of a run is before what follows it
+pub run_before : (t : DrawingPlan) (x y count c : ℕ) (p : Part) → IsRun t x y count c p
+    → is_border_before t.parts (x + count) y ≡ is_line_kind p.kind
+run_before t x y count c p r =
+    let last : x + count ≡ suc (x + count - 1) = omega (arith, r.some) in
+    ap (λ v. is_border_before t.parts v y) last ∙ ap is_line (r.owned (x + count - 1) (omega (arith, r.some)) (omega (arith, r.some)))
+
 -- ---- the text of a run
 
 -- equal texts of one character, one after another

@@ -13,7 +13,7 @@ use crate::block::draw_block_line;
 use crate::color_marks::marks_at;
 use crate::line::{Line, Run};
 use crate::marks::Marks;
-use crate::pieces::{Kind, Piece};
+use crate::pieces::{Kind, Piece, is_line_kind};
 use tabled_base::TableError;
 use tabled_line::{CellBlock, Content, TextSink, write_char, write_fill};
 
@@ -106,10 +106,12 @@ pub(crate) fn draw_line<S: TextSink>(
         (drawn_line (plan_of line.now.drawing.now) line.now.y) }
 {
     let mut x = 0;
+    let mut left = false;
     'runs: while x < line.drawing.width {
-        let run = line.run_at(x);
+        let run = line.run_at(x, left);
         draw_run(sink, line, &run, x)?;
         x += run.count;
+        left = is_line_kind(run.piece.kind);
     }
     Ok(())
 }

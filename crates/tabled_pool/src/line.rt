@@ -116,15 +116,10 @@ impl<'l, 's, 'd, 'a> Line<'l, 's, 'd, 'a> {
         }
     }
 
-    fn is_border_before(&self, x: usize) -> bool
-        ensures { result ≡ is_border_before (plan_of self.now.drawing.now).parts x self.now.y }
-    {
-        x > 0 && self.is_border(x - 1)
-    }
-
     /// The run of a border from column `x` on: as long as the same pieces are above and below, and
-    /// borders are on both sides.
-    fn border_run(&self, piece: &'d Piece<'a>, x: usize) -> Run<'d, 'a>
+    /// borders are on both sides. There is one before it if `left`.
+    fn border_run(&self, piece: &'d Piece<'a>, x: usize, left: bool) -> Run<'d, 'a>
+        requires left { left ≡ is_border_before (plan_of self.now.drawing.now).parts x self.now.y }
         requires kind { is_line_kind piece.now.kind ≡ true }
         requires here { owner (plan_of self.now.drawing.now).parts x self.now.y
             ≡ Some (shown piece.now) }
@@ -136,7 +131,6 @@ impl<'l, 's, 'd, 'a> Line<'l, 's, 'd, 'a> {
         let down = stretch_at(self.drawing, below, x, self.y + 1);
         let own = piece.place.x + piece.place.width;
         let end = own.min(up.end).min(down.end);
-        let left = self.is_border_before(x);
         let behind = self.is_border(end);
         let last = run_end(x, end, left, behind);
         let right = is_followed(last, end, behind);
@@ -154,8 +148,10 @@ impl<'l, 's, 'd, 'a> Line<'l, 's, 'd, 'a> {
         }
     }
 
-    pub(crate) fn run_at(&self, x: usize) -> Run<'d, 'a>
-        requires { x < self.now.drawing.now.width }
+    /// The run from column `x` on. There is a border before it if `left`.
+    pub(crate) fn run_at(&self, x: usize, left: bool) -> Run<'d, 'a>
+        requires inside { x < self.now.drawing.now.width }
+        requires left { left ≡ is_border_before (plan_of self.now.drawing.now).parts x self.now.y }
         ensures { IsRun (plan_of self.now.drawing.now) x self.now.y result.count result.c
             (shown result.piece.now) }
     {
@@ -163,7 +159,7 @@ impl<'l, 's, 'd, 'a> Line<'l, 's, 'd, 'a> {
             unreachable!()
         };
         if is_line_kind(piece.kind) {
-            return self.border_run(piece, x);
+            return self.border_run(piece, x, left);
         }
         let end = piece.place.x + piece.place.width;
         Run {
@@ -223,24 +219,19 @@ fn main_of(drawing: &Drawing<'_, '_>, kind: Kind, place: Rectangle) -> Option<ch
 }
 
 #[derive(Clone, Copy)]
-pub(crate) struct Arms {
+struct Arms {
     pub left: bool,
     pub right: bool,
     pub up: bool,
     pub down: bool,
 }
 
-pub(crate) fn border_char(drawing: &Drawing<'_, '_>, piece: &Piece<'_>, arms: Arms) -> char
+fn border_char(drawing: &Drawing<'_, '_>, piece: &Piece<'_>, arms: Arms) -> char
     ensures { result ≡ armed_char (plan_of drawing.now) piece.now.kind piece.now.place arms.left arms.right arms.up arms.down }
 {
-    let Arms {
-        left,
-        right,
-        up,
-        down,
-    } = arms;
-    let found = if (left || right) && (up || down) {
-        drawing.borders.junction(left, right, up, down)
+    let found = if (arms.left || arms.right) && (arms.up || arms.down) {
+        let borders = &drawing.borders;
+        borders.junction(arms.left, arms.right, arms.up, arms.down)
     } else {
         main_of(drawing, piece.kind, piece.place)
     };

@@ -1,9 +1,10 @@
-use Rattle.std.proofs.Common.{◌≡◌, ap, arith}
+use Rattle.std.proofs.Common.{◌≡◌, ◌∙◌, ap, sym, arith}
 use Rattle.std.specs.List.{flat_map, range_with_len}
 use Rattle.tabled_line.proofs.Sending.{sends-along, stopped, further}
 use Rattle.tabled_pool.specs.Plans.{plan_of}
 use Rattle.tabled_pool.specs.Drawn.{place_text, drawn_line}
-use Rattle.tabled_pool.proofs.Runs.{places_more, places_rest}
+use Rattle.tabled_pool.specs.Shown.{shown}
+use Rattle.tabled_pool.proofs.Runs.{places_more, places_rest, run_before}
 use Rattle.tabled_pool.proofs.draw.draw_line.Goals as goal
 
 pub returns-in_err-draw_run : goal.returns-in_err-draw_run
@@ -19,6 +20,7 @@ runs-preserved g c =
     record {
       sent = further c.runs.invariant.sent c.in_ok-draw_run.ensures (places_more (place_text (plan_of line.drawing.now) line.y) c.runs.x _);
       within = c.run_at-run.ensures.within;
+      left = c.is_line_kind-left.ensures ∙ sym (run_before (plan_of line.drawing.now) c.runs.x line.y _ _ (shown c.run_at-run.result.piece.now) c.run_at-run.ensures);
     }
 
 pub returns : goal.returns

@@ -35,16 +35,16 @@ returns c =
     let p = shown c.args.piece.now in
     let o = owns t c.args.x l.y p l.drawing.now.tiles c.requires.here in
     let ends = c.run_end-last.ensures in
-    let arms : Arms t p c.args.x l.y c.min-end.result c.is_border_before-left.result c.is_border-behind.result
+    let arms : Arms t p c.args.x l.y c.min-end.result c.args.left c.is_border-behind.result
     c.above-up.result.border c.stretch_at-down.result.border = record {
       some = omega (arith, ends.some, ends.within);
       own = λ v a b. o.more v a (omega arith);
       above = λ v a b. c.above-up.ensures.same v a (omega arith);
       below = λ v a b. c.stretch_at-down.ensures.same v a (omega arith);
-      before = sym c.is_border_before-left.ensures;
+      before = sym c.requires.left;
       after = sym c.is_border-behind.ensures;
     } in
-    let stop : Ends c.args.x c.min-end.result c.run_end-last.result c.is_border_before-left.result c.is_border-behind.result
+    let stop : Ends c.args.x c.min-end.result c.run_end-last.result c.args.left c.is_border-behind.result
     c.is_followed-right.result = record {
       some = ends.some;
       within = ends.within;

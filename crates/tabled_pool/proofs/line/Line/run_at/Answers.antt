@@ -8,7 +8,7 @@ use Rattle.tabled_pool.proofs.line.Line.run_at.Goals as goal
 pub unreachable-requires : goal.unreachable-requires
 unreachable-requires c =
     let l = c.args.self.now in
-    let q = owned (plan_of l.drawing.now) l.drawing.now.tiles c.args.x l.y c.requires l.inside in cc (q.1, c.in_default.ensures)
+    let q = owned (plan_of l.drawing.now) l.drawing.now.tiles c.args.x l.y c.requires.inside l.inside in cc (q.1, c.in_default.ensures)
 
 pub overflow_add-end : goal.overflow_add-end
 overflow_add-end c =
