@@ -97,11 +97,7 @@ fn main_around(drawing: &Drawing<'_, '_>, line: LineColors, place: Rectangle, x:
     } else {
         ""
     };
-    Marks {
-        close: first.close,
-        start: first.start,
-        behind,
-    }
+    Marks { behind, ..first }
 }
 
 fn right_around(drawing: &Drawing<'_, '_>, line: LineColors) -> Marks
@@ -109,11 +105,10 @@ fn right_around(drawing: &Drawing<'_, '_>, line: LineColors) -> Marks
         (option_map mark_of line.main) (option_map mark_of line.right) }
 {
     let used = used_after(written_corner(drawing, line.corner), line.main);
-    let first = begun(used, line.right);
+    let behind = ended(used_after(used, line.right));
     Marks {
-        close: first.close,
-        start: first.start,
-        behind: ended(used_after(used, line.right)),
+        behind,
+        ..begun(used, line.right)
     }
 }
 
