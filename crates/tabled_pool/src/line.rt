@@ -107,10 +107,15 @@ impl<'l, 's, 'd, 'a> Line<'l, 's, 'd, 'a> {
         stretch_at(self.drawing, self.sweep.above.as_slice(), x, self.y - 1)
     }
 
-    fn is_border(&self, x: usize) -> bool
-        ensures { result ≡ is_border (plan_of self.now.drawing.now).parts x self.now.y }
+    /// Whether there is a border at column `end`; up to column `own` there is one.
+    fn is_border_behind(&self, own: usize, end: usize) -> bool
+        requires { end < own → is_border (plan_of self.now.drawing.now).parts end self.now.y ≡ true }
+        ensures { result ≡ is_border (plan_of self.now.drawing.now).parts end self.now.y }
     {
-        match piece_at(self.drawing, self.sweep.here.as_slice(), x, self.y) {
+        if end < own {
+            return true;
+        }
+        match piece_at(self.drawing, self.sweep.here.as_slice(), end, self.y) {
             Some(piece) => is_line_kind(piece.kind),
             None => false,
         }
@@ -131,7 +136,7 @@ impl<'l, 's, 'd, 'a> Line<'l, 's, 'd, 'a> {
         let down = stretch_at(self.drawing, below, x, self.y + 1);
         let own = piece.place.x + piece.place.width;
         let end = own.min(up.end).min(down.end);
-        let behind = self.is_border(end);
+        let behind = self.is_border_behind(own, end);
         let last = run_end(x, end, left, behind);
         let right = is_followed(last, end, behind);
         let arms = Arms {

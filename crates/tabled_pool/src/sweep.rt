@@ -141,17 +141,17 @@ pub(crate) fn number_at(
 ) -> Option<usize>
     ensures { IsNumber drawing.now.pieces.now x y result }
 {
-    if x >= drawing.width {
-        return None;
-    }
-    if y >= drawing.height {
-        return None;
-    }
     if let Some(number) = line.get(x)
         && let Some(piece) = drawing.pieces.get(*number)
         && contains(piece.place, x, y)
     {
         return Some(*number);
+    }
+    if x >= drawing.width {
+        return None;
+    }
+    if y >= drawing.height {
+        return None;
     }
     find(drawing.pieces, x, y)
 }
