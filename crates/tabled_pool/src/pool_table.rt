@@ -99,8 +99,8 @@ fn new_config() -> CompactMultilineConfig
 /// given no columns. A value that is too deep overflows the stack and ends the process; no proof
 /// covers this. Copying and dropping a table don't recurse.
 ///
-/// Each level measures the levels inside it again, so the time of printing grows at least with the
-/// square of the depth.
+/// A level of several boxes measures the last of them again, so the time of printing can grow with
+/// the square of the depth.
 #[derive(Debug, Drop, PartialEq, Eq, PartialOrd, Ord)]
 pub struct PoolTable {
     pub(crate) value: TableValue,
