@@ -46,7 +46,8 @@ fn draw_line_below<S: TextSink>(
     width: usize,
     index: usize,
 ) -> Result<(), TableError>
-    ensures { Writes (S.sent sink.old) result (S.sent sink.new) (line_below style.now (marks_of colors.now) width index) }
+    ensures { Writes (S.sent sink.old) result (S.sent sink.new)
+        (line_below style.now (marks_of colors.now) width index) }
 {
     if index < style.padding.bottom.size {
         draw_colored_fill(sink, colors.bottom, style.padding.bottom.fill, width)
@@ -114,7 +115,8 @@ pub fn draw_block_line<S: TextSink>(
 ) -> Result<(), TableError>
     requires { index < cell.now.height }
     ensures { Writes (S.sent sink.old) result (S.sent sink.new)
-        (slice_index_or (pool_block cell.now.style (marks_of colors.now) cell.now.width cell.now.height cell.now.content.text.now) index []) }
+        (slice_index_or (pool_block cell.now.style (marks_of colors.now) cell.now.width
+        cell.now.height cell.now.content.text.now) index []) }
 {
     let above = cell.lines_above();
     if index < above {

@@ -80,7 +80,8 @@ fn run_text(
 }
 
 fn push_run(line: &mut String, marks: Marks, run: &str) -> Result<(), AllocError>
-    ensures { IfOk result (λ _. string_bytes line.new ≡ string_bytes line.old ++ within_marks (around_of marks) run.now) }
+    ensures { IfOk result (λ _. string_bytes line.new ≡ string_bytes line.old
+        ++ within_marks (around_of marks) run.now) }
 {
     line.push_str(marks.close)?;
     line.push_str(marks.start)?;
@@ -123,8 +124,8 @@ fn push_block_line(
     y: usize,
 ) -> Result<(), AllocError>
     requires { y < place.height }
-    ensures { IfOk result (λ _. string_bytes line.new
-        ≡ string_bytes line.old ++ leaf_line (plan_of drawing.now) (part_of Leaf place text.now) y) }
+    ensures { IfOk result (λ _. string_bytes line.new ≡ string_bytes line.old
+        ++ leaf_line (plan_of drawing.now) (part_of Leaf place text.now) y) }
 {
     let cell = CellBlock {
         style: drawing.style,

@@ -70,7 +70,8 @@ fn written_corner(
     drawing: &Drawing<'_, '_>,
     corner: Option<ANSIStr<'static>>,
 ) -> Option<ANSIStr<'static>>
-    ensures { option_map mark_of result ≡ written_corner (plan_of drawing.now) (option_map mark_of corner.entry) }
+    ensures { option_map mark_of result
+        ≡ written_corner (plan_of drawing.now) (option_map mark_of corner.entry) }
 {
     if drawing.borders.has_left() {
         corner
@@ -114,8 +115,10 @@ fn right_around(drawing: &Drawing<'_, '_>, line: LineColors) -> Marks
 
 fn across(drawing: &Drawing<'_, '_>, line: LineColors, place: Rectangle, x: usize) -> Option<Marks>
     requires { x < 2 ^ 64 - 1 }
-    ensures { option_map around_of result ≡ across (plan_of drawing.now) (option_map mark_of line.corner)
-        (option_map mark_of line.main) (option_map mark_of line.right) place (run_side place.x place.width x) x }
+    ensures { option_map around_of result
+        ≡ across (plan_of drawing.now) (option_map mark_of line.corner)
+        (option_map mark_of line.main) (option_map mark_of line.right) place
+        (run_side place.x place.width x) x }
 {
     match run_side(place.x, place.width, x) {
         RunSide::Before if drawing.borders.has_left() => Some(begun(None, line.corner)),
@@ -127,7 +130,8 @@ fn across(drawing: &Drawing<'_, '_>, line: LineColors, place: Rectangle, x: usiz
 
 fn beside(drawing: &Drawing<'_, '_>, place: Rectangle, x: usize) -> Option<Marks>
     requires { x < 2 ^ 64 - 1 }
-    ensures { option_map around_of result ≡ beside (plan_of drawing.now) place (run_side place.x place.width x) }
+    ensures { option_map around_of result
+        ≡ beside (plan_of drawing.now) place (run_side place.x place.width x) }
 {
     match run_side(place.x, place.width, x) {
         RunSide::Before if drawing.borders.has_left() => Some(alone(drawing.colors.left)),

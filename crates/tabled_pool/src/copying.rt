@@ -41,8 +41,10 @@ fn begin<'a>(
     children: &'a [TableValue],
     levels: &mut Vec<Level<'a>>,
 ) -> Result<Option<&'a TableValue>, AllocError>
-    ensures { IfOk result (λ first. MatchOption first ((children.now ≡ []) × (levels.new.items ≡ levels.old.items))
-        (λ v. IsBegun levels.old.items (list is_row (map tree_of children.now)) (nodes_in children.now) levels.new.items v.now)) }
+    ensures { IfOk result (λ first. MatchOption first
+        ((children.now ≡ []) × (levels.new.items ≡ levels.old.items))
+        (λ v. IsBegun levels.old.items (list is_row (map tree_of children.now))
+        (nodes_in children.now) levels.new.items v.now)) }
 {
     let Some((first, left)) = children.split_first() else {
         return Ok(None);
@@ -61,8 +63,10 @@ fn copy_first<'a>(
     value: &'a TableValue,
     levels: &mut Vec<Level<'a>>,
 ) -> Result<TableValue, AllocError>
-    ensures copy { IfOk result (λ copy. within levels.new.items (tree_of copy) ≡ within levels.old.items (tree_of value.now)) }
-    ensures left { IfOk result (λ _. left_in levels.new.items < nodes value.now + left_in levels.old.items) }
+    ensures copy { IfOk result (λ copy. within levels.new.items (tree_of copy)
+        ≡ within levels.old.items (tree_of value.now)) }
+    ensures left { IfOk result (λ _. left_in levels.new.items < nodes value.now + left_in
+        levels.old.items) }
 {
     let mut now = value;
     'values: loop {

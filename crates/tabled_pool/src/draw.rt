@@ -22,7 +22,8 @@ pub(crate) fn draw_marked<S: TextSink>(
     marks: Marks,
     c: char,
 ) -> Result<(), TableError>
-    ensures { Writes (S.sent sink.old) result (S.sent sink.new) (within_marks (around_of marks) (encode_utf8 c)) }
+    ensures { Writes (S.sent sink.old) result (S.sent sink.new)
+        (within_marks (around_of marks) (encode_utf8 c)) }
 {
     sink.write_text(marks.close)?;
     sink.write_text(marks.start)?;

@@ -19,7 +19,8 @@ pub struct DrawnBlock {
 
 /// Appends line `y` of a block, or spaces below its last line.
 fn push_drawn_line(line: &mut String, block: &DrawnBlock, y: usize) -> Result<(), AllocError>
-    ensures { IfOk result (λ _. string_bytes line.new ≡ string_bytes line.old ++ drawn_block_line y (block_sheet_of block.now)) }
+    ensures { IfOk result (λ _. string_bytes line.new ≡ string_bytes line.old
+        ++ drawn_block_line y (block_sheet_of block.now)) }
 {
     if y >= block.lines.len() {
         return write_fill(line, ' ', block.width).map_err(|_| AllocError);
@@ -28,7 +29,8 @@ fn push_drawn_line(line: &mut String, block: &DrawnBlock, y: usize) -> Result<()
 }
 
 fn all_columns(blocks: &[DrawnBlock]) -> Option<usize>
-    ensures { MatchOption result (2 ^ 64 ≤ all_columns (map block_sheet_of blocks.now)) (λ n. n ≡ all_columns (map block_sheet_of blocks.now)) }
+    ensures { MatchOption result (2 ^ 64 ≤ all_columns (map block_sheet_of blocks.now))
+        (λ n. n ≡ all_columns (map block_sheet_of blocks.now)) }
 {
     let mut columns: usize = 0;
     for block in blocks {
@@ -58,7 +60,8 @@ fn most_lines(blocks: &[DrawnBlock]) -> usize
 }
 
 fn joined_line(alloc: Global, blocks: &[DrawnBlock], y: usize) -> Result<String, AllocError>
-    ensures { IfOk result (λ line. string_bytes line ≡ flat_map (drawn_block_line y) (map block_sheet_of blocks.now)) }
+    ensures { IfOk result (λ line. string_bytes line
+        ≡ flat_map (drawn_block_line y) (map block_sheet_of blocks.now)) }
 {
     let mut line = String::new(alloc);
     for block in blocks {
@@ -70,7 +73,8 @@ fn joined_line(alloc: Global, blocks: &[DrawnBlock], y: usize) -> Result<String,
 /// Joins blocks side by side. Fails if an allocation fails, or if the total width exceeds
 /// `usize::MAX`.
 pub(crate) fn side_by_side(alloc: Global, blocks: &[DrawnBlock]) -> Result<DrawnBlock, AllocError>
-    ensures { IfOk result (λ joined. block_sheet_of joined ≡ side_by_side (map block_sheet_of blocks.now)) }
+    ensures { IfOk result (λ joined. block_sheet_of joined
+        ≡ side_by_side (map block_sheet_of blocks.now)) }
 {
     let Some(width) = all_columns(blocks) else {
         return Err(AllocError);
@@ -110,7 +114,8 @@ fn push_widened(
 
 /// Joins blocks below each other, filled with spaces to the greatest width.
 pub(crate) fn stacked(alloc: Global, blocks: &[DrawnBlock]) -> Result<DrawnBlock, AllocError>
-    ensures { IfOk result (λ joined. block_sheet_of joined ≡ stacked (map block_sheet_of blocks.now)) }
+    ensures { IfOk result (λ joined. block_sheet_of joined
+        ≡ stacked (map block_sheet_of blocks.now)) }
 {
     let width = most_columns(blocks);
     let mut lines = Vec::new(alloc);

@@ -122,7 +122,8 @@ impl InheritingBox {
     /// A box that is alone in its rectangle.
     #[inline(never)]
     pub(crate) fn new(alloc: Global, place: Rectangle) -> InheritingBox
-        ensures { inheriting_box result ≡ record { place = place; flags = whole_flags; above = []; before = [] } }
+        ensures { inheriting_box result
+            ≡ record { place = place; flags = whole_flags; above = []; before = [] } }
     {
         InheritingBox {
             place,
@@ -143,7 +144,8 @@ impl InheritingBox {
         drawing: &Drawing<'_, '_>,
         text: &str,
     ) -> Result<(), AllocError>
-        ensures { IfOk result (λ _. passed_on self.new ≡ text_passes (plan_of drawing.now) text.now (inheriting_box self.old)) }
+        ensures { IfOk result (λ _. passed_on self.new
+            ≡ text_passes (plan_of drawing.now) text.now (inheriting_box self.old)) }
     {
         self.block = text_block(drawing, self, text)?;
         self.above.clear();
@@ -216,7 +218,8 @@ impl InheritingBox {
         direction: Direction,
         last: &mut InheritingBox,
     ) -> Result<(), AllocError>
-        ensures { IfOk result (λ _. inheriting_box last.new ≡ to_last direction (inheriting_box self.old)) }
+        ensures { IfOk result (λ _. inheriting_box last.new
+            ≡ to_last direction (inheriting_box self.old)) }
     {
         let size = direction.pick(self.place.width, self.place.height);
         let sizes = taken(*self.above.allocator(), size, self.along(direction))?;
@@ -260,11 +263,13 @@ impl DrawnBoxes {
         all: &mut InheritingBox,
     ) -> Result<(), AllocError>
         ensures blocks { IfOk result (λ _. map block_sheet_of self.new.blocks.items
-            ≡ map block_sheet_of self.old.blocks.items ++ (block_sheet_of self.old.next.block ∷ [])) }
+            ≡ map block_sheet_of self.old.blocks.items
+            ++ (block_sheet_of self.old.next.block ∷ [])) }
         ensures sizes { IfOk result (λ _. self.new.sizes.items
             ≡ self.old.sizes.items ++ passes_along direction (passed_on self.old.next)) }
         ensures others { IfOk result (λ _. inheriting_box all.new
-            ≡ with_passed direction (inheriting_box all.old) (passes_across direction (passed_on self.old.next))) }
+            ≡ with_passed direction (inheriting_box all.old)
+            (passes_across direction (passed_on self.old.next))) }
     {
         let none = DrawnBlock {
             width: 0,

@@ -109,7 +109,8 @@ impl<'l, 's, 'd, 'a> Line<'l, 's, 'd, 'a> {
 
     /// Whether there is a border at column `end`; up to column `own` there is one.
     fn is_border_behind(&self, own: usize, end: usize) -> bool
-        requires { end < own → is_border (plan_of self.now.drawing.now).parts end self.now.y ≡ true }
+        requires { end < own → is_border (plan_of self.now.drawing.now).parts end self.now.y
+            ≡ true }
         ensures { result ≡ is_border (plan_of self.now.drawing.now).parts end self.now.y }
     {
         if end < own {
@@ -232,7 +233,8 @@ struct Arms {
 }
 
 fn border_char(drawing: &Drawing<'_, '_>, piece: &Piece<'_>, arms: Arms) -> char
-    ensures { result ≡ armed_char (plan_of drawing.now) piece.now.kind piece.now.place arms.left arms.right arms.up arms.down }
+    ensures { result ≡ armed_char (plan_of drawing.now) piece.now.kind piece.now.place arms.left
+        arms.right arms.up arms.down }
 {
     let found = if (arms.left || arms.right) && (arms.up || arms.down) {
         let borders = &drawing.borders;

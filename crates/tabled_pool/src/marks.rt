@@ -47,7 +47,8 @@ pub fn used_after(
     used: Option<ANSIStr<'static>>,
     color: Option<ANSIStr<'static>>,
 ) -> Option<ANSIStr<'static>>
-    ensures { option_map mark_of result ≡ used_after (option_map mark_of used.entry) (option_map mark_of color.entry) }
+    ensures { option_map mark_of result
+        ≡ used_after (option_map mark_of used.entry) (option_map mark_of color.entry) }
 {
     match used {
         Some(used) => Some(used),
@@ -57,7 +58,8 @@ pub fn used_after(
 
 /// Returns the marks that start a part in `color`, where `used` is the current colour.
 pub fn begun(used: Option<ANSIStr<'static>>, color: Option<ANSIStr<'static>>) -> Marks
-    ensures { around_of result ≡ begun (option_map mark_of used.entry) (option_map mark_of color.entry) }
+    ensures { around_of result ≡ begun (option_map mark_of used.entry)
+        (option_map mark_of color.entry) }
 {
     let Some(color) = color else {
         return Marks::none();
@@ -108,7 +110,8 @@ pub(crate) fn draw_colored_fill<S: TextSink>(
     c: char,
     count: usize,
 ) -> Result<(), TableError>
-    ensures { Writes (S.sent sink.old) result (S.sent sink.new) (coloured (mark_of color.entry) (fill c count)) }
+    ensures { Writes (S.sent sink.old) result (S.sent sink.new)
+        (coloured (mark_of color.entry) (fill c count)) }
 {
     sink.write_text(color.get_prefix())?;
     write_fill(sink, c, count)?;

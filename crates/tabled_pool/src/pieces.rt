@@ -107,5 +107,6 @@ pub struct Drawing<'d, 'a> {
     ghost wide: { width < 2 ^ 64 },
     ghost tall: { height < 2 ^ 64 },
     /// Each position is in exactly one piece.
-    ghost tiles: { AreTiles (map shown pieces.now) (record { x = 0; y = 0; width = width; height = height }) },
+    ghost tiles: { AreTiles (map shown pieces.now)
+        (record { x = 0; y = 0; width = width; height = height }) },
 }

@@ -86,7 +86,8 @@ pub fn split(
     ensures given { result.given.place ≡ first_part direction
         (given_in direction spacing.now child.now left place) place }
     ensures line { part_of (border_kind direction) result.line []
-        ≡ border_part direction spacing.now (given_in direction spacing.now child.now left place) place }
+        ≡ border_part direction spacing.now (given_in direction spacing.now child.now left place)
+        place }
     ensures rest { result.rest ≡ behind_border direction spacing.now
         (given_in direction spacing.now child.now left place) place }
     ensures fits { Fits (box_of spacing.now child.now) result.given.place }

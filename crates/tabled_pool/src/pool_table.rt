@@ -44,7 +44,8 @@ pub(crate) fn one_if(there: bool) -> usize
 }
 
 fn sum(first: usize, second: usize, third: usize) -> Option<usize>
-    ensures { MatchOption result (2 ^ 64 ≤ first + second + third) (λ all. all ≡ first + second + third) }
+    ensures { MatchOption result (2 ^ 64 ≤ first + second + third)
+        (λ all. all ≡ first + second + third) }
 {
     first.checked_add(second)?.checked_add(third)
 }
@@ -170,8 +171,10 @@ impl PoolTable {
 
     /// The width and height without the margin, if both fit in `usize`.
     fn framed_size(&self) -> Option<Size>
-        ensures { MatchOption result ((2 ^ 64 ≤ framed_width self.now) ⊎ (2 ^ 64 ≤ framed_height self.now))
-            (λ size. (size.width ≡ framed_width self.now) × (size.height ≡ framed_height self.now)) }
+        ensures { MatchOption result ((2 ^ 64 ≤ framed_width self.now)
+            ⊎ (2 ^ 64 ≤ framed_height self.now))
+            (λ size. (size.width ≡ framed_width self.now)
+            × (size.height ≡ framed_height self.now)) }
     {
         let frame = frame_of(self.config.get_borders());
         let Some(own) = own_size(&self.value, &self.spacing()) else {
@@ -208,8 +211,9 @@ impl PoolTable {
 
     /// The width and height without the margin, if the totals with it fit in `usize`.
     fn checked_size(&self) -> Option<Size>
-        ensures { MatchOption result (IsOutOfRange self.now) (λ size. (size.width ≡ framed_width self.now)
-            × (size.height ≡ framed_height self.now) × IsInRange self.now) }
+        ensures { MatchOption result (IsOutOfRange self.now)
+            (λ size. (size.width ≡ framed_width self.now) × (size.height ≡ framed_height self.now)
+            × IsInRange self.now) }
     {
         let size = self.framed_size()?;
         let margin = *self.config.get_margin();
@@ -274,7 +278,8 @@ impl PoolTable {
         block: &DrawnBlock,
     ) -> Result<(), TableError>
         requires bare { has_zero_width (plan self.now).parts ≡ true }
-        requires block { block_sheet_of block.now ≡ inherited_block (plan self.now) (spacing_of self.now) self.now.value }
+        requires block { block_sheet_of block.now
+            ≡ inherited_block (plan self.now) (spacing_of self.now) self.now.value }
         ensures { Writes (S.sent sink.old) result (S.sent sink.new) (pool_text self.now) }
     {
         let margin = self.colored_margin(self.margin_around(block));
@@ -339,9 +344,12 @@ impl PoolTable {
         ensures printed { WritesPool self.now (S.sent sink.old) result (S.sent sink.new) }
         ensures padded { IsPadded self.now → HasColumns self.now }
         ensures tiled { IsStraightPool self.now → Tiled (plan self.now) }
-        ensures columns { IsStraightPool self.now → EachLineTakes (framed_width self.now) (drawn (plan self.now)) }
-        ensures width { HasColumns self.now → IsStraightPool self.now → EachLineTakes (total_width self.now) (pool_lines self.now) }
-        ensures height { HasColumns self.now → length (pool_lines self.now) ≡ total_height self.now }
+        ensures columns { IsStraightPool self.now
+            → EachLineTakes (framed_width self.now) (drawn (plan self.now)) }
+        ensures width { HasColumns self.now → IsStraightPool self.now
+            → EachLineTakes (total_width self.now) (pool_lines self.now) }
+        ensures height { HasColumns self.now → length (pool_lines self.now)
+            ≡ total_height self.now }
     {
         self.write_checked(sink)
     }
