@@ -65,15 +65,6 @@ fn title_width(label: &str) -> usize
     widest.max(last.saturating_add(1))
 }
 
-fn write_cross<S: TextSink>(sink: &mut S, before: usize, behind: usize) -> Result<(), TableError>
-    ensures { Writes (S.sent sink.old) result (S.sent sink.new)
-        (fill 45 before ++ (43 ∷ fill 45 behind)) }
-{
-    write_fill(sink, '-', before)?;
-    sink.write_text("+")?;
-    write_fill(sink, '-', behind)
-}
-
 fn write_title_rule<S: TextSink>(
     sink: &mut S,
     widths: Widths,
@@ -86,11 +77,12 @@ fn write_title_rule<S: TextSink>(
     if columns >= whole {
         return Ok(());
     }
-    if columns < widths.field + 2 {
-        write_cross(sink, widths.field + 1 - columns, widths.value + 1)
-    } else {
-        write_fill(sink, '-', whole - columns)
+    if columns >= widths.field + 2 {
+        return write_fill(sink, '-', whole - columns);
     }
+    write_fill(sink, '-', widths.field + 1 - columns)?;
+    sink.write_text("+")?;
+    write_fill(sink, '-', widths.value + 1)
 }
 
 fn write_header<S: TextSink>(
