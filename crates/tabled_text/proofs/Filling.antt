@@ -184,7 +184,7 @@ append_all-fits n used (p ∷ g) rest f =
     (let e : used + p.width + width_of g ≡ used + width_of (p ∷ g) = omega (arith, sum_by-cons (λ (r : TextUnit). r.width) p g) in e)
 
 -- a unit that does not fit begins a new line
-append_all-breaks : (n used : ℕ) (p : TextUnit) (pieces : List TextUnit) → 0 < n → n < used + needed n p
+pub append_all-breaks : (n used : ℕ) (p : TextUnit) (pieces : List TextUnit) → 0 < n → n < used + needed n p
     → append_all n used (p ∷ pieces) ≡ 10 ∷ append_all n 0 (p ∷ pieces)
 append_all-breaks n used p pieces pos h =
     let breaks = append_text-breaks n used p (lt-leb (used + needed n p) n h) in

@@ -26,10 +26,12 @@ pub mod LongestLemmas
 pub mod Missed
 pub mod OwnBreaking
 pub mod OwnSteps
+pub mod Pieces
 pub mod PlainLemmas
 pub mod PlainLines
 pub mod RunLemmas
 pub mod SameSteps
+pub mod Searched
 pub mod SeparatorLaws
 pub mod SeparatorSteps
 pub mod StayLemmas

@@ -1,6 +1,8 @@
 -- Runs of bytes within a range.
-use Rattle.std.specs.Prelude.{ℕ, ◌≡◌, ◌<◌, ◌≤◌, List, false, length, slice_index, true}
+use Rattle.std.specs.Prelude.{ℕ, ◌≡◌, ◌+◌, ◌<◌, ◌≤◌, List, MatchOption, Option, drop, false, length, slice_index, take, true}
+use Rattle.std.specs.Borrow.{Bor}
 use Rattle.std.specs.Int.{is_in_range}
+use Rattle.std.specs.Str.{IsUtf8}
 
 -- all bytes with an index from `from` and below `end` are in the range
 abbrev pub LieWithin : (first last : ℕ) (bytes : List ℕ) (from end : ℕ) → Type 0
@@ -13,3 +15,17 @@ pub record EndsRun (first last : ℕ) (bytes : List ℕ) (start place : ℕ) : T
   pub end : place ≤ length bytes
   pub passed : LieWithin first last bytes start place
   pub stops : place < length bytes → is_in_range first last (slice_index bytes place) ≡ false
+
+-- `place` is the index of the first byte that equals `byte`, or else the length
+pub record IsFirstAt (byte : ℕ) (bytes : List ℕ) (place : ℕ) : Type 0 where
+  pub end : place ≤ length bytes
+  pub before : (k : ℕ) → k < place → slice_index bytes k ≡ byte → ⊥
+  pub found : place < length bytes → slice_index bytes place ≡ byte
+
+-- what is before and after the first byte that equals `byte`: all and nothing if there is none
+pub record IsSplitAt (byte : ℕ) (text front : List ℕ) (after : Option (Bor (List ℕ))) : Type 0 where
+  pub first : IsFirstAt byte text (length front)
+  pub front_is : front ≡ take (length front) text
+  pub utf8 : IsUtf8 front
+  pub after_is : MatchOption after (length front ≡ length text) (λ rest.
+      (length front < length text) × (rest.now ≡ drop (length front + 1) text) × IsUtf8 rest.now)

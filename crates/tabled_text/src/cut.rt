@@ -5,6 +5,7 @@ ghost use Rattle.std.specs.Cow.{cow_str_bytes, IsOwnedStr};
 ghost use Rattle.tabled_text.specs.Cut.{IsCut, IsSplit, IsParted, NeedsFill};
 
 use crate::character::{char_count, split_first};
+use crate::runs::is_run;
 use crate::sink::append_copies;
 use std::alloc::{AllocError, Global};
 use std::borrow::CowStr;
@@ -18,7 +19,7 @@ struct Parts<'a> {
 }
 
 /// Cuts a text to n columns. `missing` is the number of columns that a dropped character leaves.
-fn part(text: &str, n: usize) -> Parts<'_>
+fn part_by_chars(text: &str, n: usize) -> Parts<'_>
     ensures parted { IsParted n (chars text.now) (chars result.front.now) result.missing (chars result.after.now) }
     ensures front { IsUtf8 result.front.now }
     ensures after { IsUtf8 result.after.now }
@@ -53,6 +54,27 @@ fn part(text: &str, n: usize) -> Parts<'_>
         missing: 0,
         after,
     }
+}
+
+/// Cuts a text to n columns. If its first n bytes are printable ASCII, they are the cut text.
+fn part(text: &str, n: usize) -> Parts<'_>
+    ensures parted { IsParted n (chars text.now) (chars result.front.now) result.missing (chars result.after.now) }
+    ensures front { IsUtf8 result.front.now }
+    ensures after { IsUtf8 result.after.now }
+    ensures beginning { take (length result.front.now) text.now ≡ result.front.now }
+    ensures boundary { IsCharBoundary text.now (length result.front.now) }
+{
+    let end = n.min(text.len());
+    let (bytes, _) = text.as_bytes().split_at(end);
+    if is_run(bytes, 0, b' ', b'~') {
+        let (front, after) = text.split_at(end);
+        return Parts {
+            front,
+            missing: 0,
+            after,
+        };
+    }
+    part_by_chars(text, n)
 }
 
 /// Returns `front` with U+FFFD in the missing columns, borrowed if there are none.

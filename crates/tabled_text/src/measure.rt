@@ -9,7 +9,7 @@ ghost use Rattle.std.specs.Iterator.{YieldsFirstBy, item_count};
 ghost use Rattle.tabled_text.specs.Lines.{lines_in, lines_left};
 
 use crate::character::split_first;
-use crate::runs::{BLOCK, is_run};
+use crate::runs::{BLOCK, is_run, split_at_byte};
 use unicode_width::UnicodeWidthStr;
 
 /// Returns the columns of a line, as `unicode_width` counts them. The text is taken as one line,
@@ -18,6 +18,9 @@ pub fn line_width(line: &str) -> usize
     ensures value { result ≡ line_columns line.now }
     ensures bound { result ≤ 2 * length line.now }
 {
+    if is_printable(line) {
+        return line.len();
+    }
     match letters_width(line) {
         Some(columns) => columns,
         None => line.width(),
@@ -29,11 +32,7 @@ pub fn text_width(text: &str) -> usize
     ensures value { result ≡ text_columns text.now }
     ensures bound { result ≤ 2 * length text.now }
 {
-    let mut widest: usize = 0;
-    'lines: for line in lines(text) {
-        widest = widest.max(line_width(line));
-    }
-    widest
+    text_measures(text).0
 }
 
 /// Returns the number of lines of a text: one more than its line feeds.
@@ -45,7 +44,7 @@ pub fn count_lines(text: &str) -> usize
 
 /// Whether a text is printable ASCII, and so one line with as many columns as bytes.
 #[inline(always)]
-fn is_printable(text: &str) -> bool
+pub(crate) fn is_printable(text: &str) -> bool
     ensures { result ≡ list_all (is_in_range 0x20 0x7E) text.now }
 {
     is_run(text.as_bytes(), 0, b' ', b'~')
@@ -62,18 +61,20 @@ fn is_printable_tail(bytes: &[u8], start: usize) -> bool
     is_run(bytes, earlier, b' ', b'~') || is_run(bytes, start, b' ', b'~')
 }
 
-/// Returns the columns and the number of lines of any text. A text of one line isn't split.
+/// Returns the columns and the number of lines of any text.
 #[inline(never)]
 fn measures_of_any(text: &str) -> (usize, usize)
     ensures columns { result.0 ≡ text_columns text.now }
     ensures lines { result.1 ≡ length (lines_of text.now) }
     ensures bound { result.0 ≤ 2 * length text.now }
 {
-    if text.as_bytes().contains(&b'\n') {
-        (text_width(text), count_lines(text))
-    } else {
-        (line_width(text), 1)
+    let mut widest: usize = 0;
+    let mut count = 0;
+    'lines: for line in lines(text) {
+        widest = widest.max(line_width(line));
+        count += 1;
     }
+    (widest, count)
 }
 
 /// Returns the columns and the number of lines of a text. Printable ASCII is measured fastest.
@@ -169,10 +170,7 @@ pub fn lines(text: &str) -> TextLines<'_>
 pub fn split_line(text: &str) -> (&str, Option<&str>)
     ensures { lines_of text.now ≡ result.0.now ∷ lines_in result.1 }
 {
-    match text.split_once('\n') {
-        Some((line, after)) => (line, Some(after)),
-        None => (text, None),
-    }
+    split_at_byte(text, b'\n')
 }
 
 impl<'a> Iterator for TextLines<'a> {

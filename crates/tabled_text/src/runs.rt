@@ -3,7 +3,7 @@ ghost use Rattle.std.specs.Prelude.{◌≡◌, ◌+◌, ◌-◌, ◌%◌, ◌<�
 ghost use Rattle.std.specs.Int.{is_in_range};
 ghost use Rattle.std.specs.List.{list_all};
 ghost use Rattle.std.specs.Simd.Lanes.{chunk, mask_l};
-ghost use Rattle.tabled_text.specs.Runs.{EndsRun, LieWithin};
+ghost use Rattle.tabled_text.specs.Runs.{EndsRun, IsFirstAt, IsSplitAt, LieWithin};
 
 use std::simd::prelude::*;
 
@@ -105,4 +105,36 @@ pub(crate) fn is_run(bytes: &[u8], from: usize, first: u8, last: u8) -> bool
     ensures { result ≡ list_all (is_in_range first last) (drop from bytes.now) }
 {
     run_end(bytes, from, first, last) == bytes.len()
+}
+
+/// Returns the index of the first byte that equals `byte`, or the length if there is none. Passes
+/// bytes that are greater 16 at a time.
+#[inline(always)]
+fn byte_index(bytes: &[u8], byte: u8) -> usize
+    requires { byte < 255 }
+    ensures { IsFirstAt byte bytes.now result }
+{
+    let mut at = 0;
+    'runs: loop {
+        at = run_end(bytes, at, byte + 1, u8::MAX);
+        if at == bytes.len() || bytes[at] == byte {
+            return at;
+        }
+        at += 1;
+    }
+}
+
+/// Returns the text before the first `byte`, which is ASCII, and the rest after it, if it is there.
+#[inline(always)]
+pub(crate) fn split_at_byte(text: &str, byte: u8) -> (&str, Option<&str>)
+    requires { byte < 128 }
+    ensures { IsSplitAt byte text.now result.0.now result.1 }
+{
+    let at = byte_index(text.as_bytes(), byte);
+    if at == text.len() {
+        return (text, None);
+    }
+    let (front, _) = text.split_at(at);
+    let (_, after) = text.split_at(at + 1);
+    (front, Some(after))
 }

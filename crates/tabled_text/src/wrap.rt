@@ -1,5 +1,7 @@
 //! Wraps texts to n columns. One walk writes unit after unit to a `Sink`.
-ghost use Rattle.std.specs.Prelude.{◌≡◌, ◌<◌, ◌≤◌, ◌+◌, ◌∷◌, chars, encode_utf8_all, length, map, IfOk, OnOk, IfSome, IsUtf8, string_bytes, OnErr, false};
+ghost use Rattle.std.specs.Prelude.{◌≡◌, ◌<◌, ◌≤◌, ◌+◌, ◌∷◌, chars, encode_utf8_all, length, map, IfOk, OnOk, IfSome, IsUtf8, string_bytes, OnErr, false, true};
+ghost use Rattle.std.specs.Int.{is_in_range};
+ghost use Rattle.std.specs.List.{list_all};
 ghost use Rattle.tabled_text.specs.Measure.{lines_of};
 ghost use Rattle.tabled_text.specs.Units.{unit_of_char, words_of, units, units_of_word, units_of_words};
 ghost use Rattle.tabled_text.specs.Breaking.{EachUnitFits, HasFewestLines, IsLeastBreaking};
@@ -7,7 +9,8 @@ ghost use Rattle.tabled_text.specs.Wrapping.{IsWrapped};
 ghost use Rattle.tabled_text.specs.Walk.{words_in, begin_at, begin_text, append_text, append_used, append_all, used_after, pending};
 
 use crate::character::{char_count, split_first};
-use crate::measure::{line_width, lines};
+use crate::measure::{is_printable, line_width, lines};
+use crate::runs::split_at_byte;
 use crate::sink::{Sink, append_copies};
 use std::alloc::{AllocError, Global};
 
@@ -101,10 +104,7 @@ pub(crate) fn split_word(text: &str) -> (&str, Option<&str>)
     ensures word { IsUtf8 result.0.now }
     ensures after { IfSome result.1 (λ after. IsUtf8 after.now × (length after.now < length text.now)) }
 {
-    match text.split_once(' ') {
-        Some((word, after)) => (word, Some(after)),
-        None => (text, None),
-    }
+    split_at_byte(text, b' ')
 }
 
 /// Writes the words of a line and the spaces between them.
@@ -128,12 +128,47 @@ fn append_words<S: Sink>(out: &mut S, n: usize, line: &str) -> Result<(), S::Err
     }
 }
 
+/// Writes printable ASCII, with a line feed after each n bytes that more bytes follow.
+fn append_pieces<S: Sink>(out: &mut S, n: usize, line: &str) -> Result<(), S::Error>
+    requires some { 0 < n }
+    requires printable { list_all (is_in_range 0x20 0x7E) line.now ≡ true }
+    ensures { OnOk result (S.adds out.old
+        (encode_utf8_all (append_all n 0 (map unit_of_char (chars line.now)))) out.new) }
+{
+    let mut rest = line;
+    'pieces: while rest.len() > n {
+        let (piece, after) = rest.split_at(n);
+        out.append_str(piece)?;
+        out.append_char('\n')?;
+        rest = after;
+    }
+    out.append_str(rest)?;
+    Ok(())
+}
+
+/// Writes a line of printable ASCII, broken to n columns.
+fn append_printable<S: Sink>(out: &mut S, n: usize, words: bool, line: &str) -> Result<(), S::Error>
+    requires some { 0 < n }
+    requires printable { list_all (is_in_range 0x20 0x7E) line.now ≡ true }
+    ensures { OnOk result (S.adds out.old
+        (encode_utf8_all (append_all n 0 (units n words (chars line.now)))) out.new) }
+{
+    if words {
+        append_words(out, n, line)
+    } else {
+        append_pieces(out, n, line)
+    }
+}
+
 /// Writes a line, broken to n columns.
 fn append_line<S: Sink>(out: &mut S, n: usize, words: bool, line: &str) -> Result<(), S::Error>
     requires { 0 < n }
     ensures { OnOk result (S.adds out.old
         (encode_utf8_all (append_all n 0 (units n words (chars line.now)))) out.new) }
 {
+    if is_printable(line) {
+        return append_printable(out, n, words, line);
+    }
     if words {
         return append_words(out, n, line);
     }
@@ -152,6 +187,9 @@ pub(crate) fn append_lines<S: Sink>(
     ensures { OnOk result (S.adds out.old
         (encode_utf8_all (pending n words false (lines_of (chars text.now)))) out.new) }
 {
+    if is_printable(text) {
+        return append_printable(out, n, words, text);
+    }
     let mut begun = false;
     for line in lines(text) {
         if begun {
@@ -183,6 +221,7 @@ pub fn wrap_text(alloc: Global, text: &str, n: usize, words: bool) -> Result<Str
     if n == 0 || text.is_empty() {
         return Ok(out);
     }
+    out.reserve_exact(text.len().saturating_add(text.len() / n))?;
     append_lines(&mut out, n, words, text)?;
     Ok(out)
 }

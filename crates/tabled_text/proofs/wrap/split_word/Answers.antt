@@ -1,12 +1,19 @@
-use Rattle.std.proofs.Common.{lit<}
-use Rattle.tabled_text.proofs.WordLemmas.{pieces-last, pieces-found}
+use Rattle.std.proofs.Common.{List, ℕ, Option, Some, None, length, IfSome, IsUtf8, ◌<◌}
+use Rattle.std.specs.Borrow.{Bor}
+use Rattle.tabled_text.specs.Runs.{IsSplitAt}
+use Rattle.tabled_text.proofs.Searched.{shorter-split, words-split}
 use Rattle.tabled_text.proofs.wrap.split_word.Goals as goal
 
-pub returns-in-Some : goal.returns-in-Some
-returns-in-Some c =
-    let h = c.in-Some.ensures.cases in
-    let f = pieces-found 32 (lit< tt) c.args.text.now c.in-Some.word.now c.in-Some.after.now c.utf8.text h.0 h.1 h.2 h.3 h.4 h.5 h.7 in
-    record { words = f.pieces; word = f.front; after = (f.back, f.shorter) }
+after_is : (text front : List ℕ) (after : Option (Bor (List ℕ))) → IsSplitAt 32 text front after
+    → IfSome after (λ rest. IsUtf8 rest.now × (length rest.now < length text))
+after_is text front None s = tt
+after_is text front (Some rest) s = let h = s.after_is in (h.2, shorter-split text front rest.now h.0 h.1)
 
-pub returns-in-None : goal.returns-in-None
-returns-in-None c = record { words = pieces-last 32 c.args.text.now c.utf8.text c.in-None.ensures.cases; word = c.utf8.text; after = tt }
+pub returns-clause-words : goal.returns-clause-words
+returns-clause-words c = words-split c.args.text.now c.split_at_byte.result.0.now c.split_at_byte.result.1 c.split_at_byte.ensures
+
+pub returns-clause-word : goal.returns-clause-word
+returns-clause-word c = c.split_at_byte.ensures.utf8
+
+pub returns-clause-after : goal.returns-clause-after
+returns-clause-after c = after_is c.args.text.now c.split_at_byte.result.0.now c.split_at_byte.result.1 c.split_at_byte.ensures

@@ -38,7 +38,7 @@ written c =
     IsWrapped-written c.args.n c.args.words c.args.text.now (string_bytes c.append_lines.new.out) c.if-n-eq0.false
     (IsUtf8-string_bytes c.append_lines.new.out)
     (c.in_ok-append_lines.ensures ∙ ap (λ l. l ++ encode_utf8_all
-    (pending c.args.n c.args.words false (lines_of (chars c.args.text.now)))) c.new-out.ensures.bytes)
+    (pending c.args.n c.args.words false (lines_of (chars c.args.text.now)))) (c.reserve_exact.ensures.bytes ∙ c.new-out.ensures.bytes))
 
 pub returns-clause-wrapped : goal.returns-clause-wrapped
 returns-clause-wrapped c = written c

@@ -1,0 +1,179 @@
+-- Printable ASCII, whose characters are its bytes and take a column each, broken between bytes.
+use Rattle.std.proofs.Common.{◌≡◌, ℕ, ◌+◌, ◌<◌, ◌≤◌, Bool, true, false, cond, max, nat_le, List, [], ◌∷◌, ◌++◌, length, take, drop, map, refl, sym, ap, subst, ◌∙◌, arith, chars, encode_utf8, encode_utf8_all, lit<, sum_by, replicate, ◌-◌, All, inl, inr, min}
+use Rattle.std.specs.Int.{is_in_range}
+use Rattle.std.specs.List.{list_all}
+use Rattle.std.specs.Str.{IsAscii}
+use Rattle.std.proofs.lemmas.Bool.{and_parts, cases_lt, le-leb}
+use Rattle.std.proofs.lemmas.Bool.Decides.{nat_tests}
+use Rattle.std.proofs.lemmas.List.{append-nil, drop_all, take-append-drop, length-take-le, length-drop}
+use Rattle.std.proofs.lemmas.List.Elements.{All-cons, All-nil}
+use Rattle.std.proofs.lemmas.List.Folds.{list_all-append}
+use Rattle.std.proofs.lemmas.List.Sums.{sum_by-cons}
+use Rattle.std.proofs.lemmas.Str.{IsUtf8-from_ascii, chars-nil, chars-IsAscii, encodes-IsAscii, encodes-append, encode_ascii}
+use Rattle.std.proofs.lemmas.Str.Ascii.{IsAscii-nil, IsAscii-cons}
+use Rattle.tabled_text.specs.Cut.{IsParted, IsReached, last_line, last_of}
+use Rattle.tabled_text.specs.Measure.{char_count, count_of, lines_of}
+use Rattle.tabled_text.specs.Units.{TextUnit, unit_of_char, units}
+use Rattle.tabled_text.specs.Walk.{append_all, append_text, append_used, pending, used_after}
+use Rattle.tabled_text.specs.Wrapping.{needed, shown}
+use Rattle.tabled_text.proofs.CutLemmas.{IsParted-end, IsParted-full, Walked}
+use Rattle.tabled_text.proofs.Filling.{append_all-append, append_all-breaks, append_text-fits}
+use Rattle.tabled_text.proofs.LetterLemmas.{columns-printable}
+use Rattle.tabled_text.proofs.PlainLines.{one_line, plain_line-printable}
+
+abbrev pub is_printable : List ℕ → Bool
+is_printable bytes = list_all (is_in_range 0x20 0x7E) bytes
+
+pub IsAscii-printable : (bytes : List ℕ) → is_printable bytes ≡ true → IsAscii bytes
+IsAscii-printable [] h = IsAscii-nil
+IsAscii-printable (b ∷ bytes) h =
+    let parts = and_parts (is_in_range 0x20 0x7E b) (is_printable bytes) h in
+    let small : b < 128 = grind (arith, nat_tests) in
+    IsAscii-cons b bytes small (IsAscii-printable bytes parts.1)
+
+pub chars-printable : (bytes : List ℕ) → is_printable bytes ≡ true → chars bytes ≡ bytes
+chars-printable bytes h = chars-IsAscii bytes (IsAscii-printable bytes h)
+
+pub count-printable : (c : ℕ) → is_in_range 0x20 0x7E c ≡ true → char_count c ≡ 1
+count-printable c h = ap (max 1) (columns-printable c h)
+
+pub parts-printable : (n : ℕ) (bytes : List ℕ) → is_printable bytes ≡ true → (is_printable (take n bytes) ≡ true) × (is_printable (drop n bytes) ≡ true)
+parts-printable n bytes h =
+    and_parts (is_printable (take n bytes)) (is_printable (drop n bytes))
+    (sym (list_all-append (is_in_range 0x20 0x7E) (take n bytes) (drop n bytes)) ∙ ap is_printable (take-append-drop n bytes) ∙ h)
+
+-- a character of one column takes one
+needed-one : (n c : ℕ) → 1 ≤ n → char_count c ≡ 1 → needed n (unit_of_char c) ≡ 1
+needed-one n c some one = ap (λ k. cond (nat_le k n) k 1) one ∙ ap (λ b. cond b 1 1) (le-leb 1 n some)
+
+shown-one : (n used c : ℕ) → 1 ≤ n → char_count c ≡ 1 → shown n used (unit_of_char c) ≡ c ∷ []
+shown-one n used c some one = ap (λ b. cond b (c ∷ []) (replicate (n - used) 0xFFFD)) (ap (λ k. nat_le k n) one ∙ le-leb 1 n some)
+
+pub record Fitted (n used : ℕ) (cs : List ℕ) : Type 0 where
+  pub text : append_all n used (map unit_of_char cs) ≡ cs
+  pub used_is : used_after n used (map unit_of_char cs) ≡ used + length cs
+
+pub fitted : (n used : ℕ) (cs : List ℕ) → is_printable cs ≡ true → used + length cs ≤ n → Fitted n used cs
+fitted n used [] h le = record { text = refl; used_is = omega arith }
+fitted n used (c ∷ cs) h le =
+    let parts = and_parts (is_in_range 0x20 0x7E c) (is_printable cs) h in
+    let one = count-printable c parts.0 in
+    let some : 1 ≤ n = omega arith in
+    let need = needed-one n c some one in
+    let put = append_text-fits n used (unit_of_char c) (le-leb (used + needed n (unit_of_char c)) n (omega (arith, need))) in
+    let next : append_used n used (unit_of_char c) ≡ used + 1 = put.1 ∙ ap (λ k. used + k) one in
+    let more = fitted n (used + 1) cs parts.1 (omega arith) in
+    let far : used + 1 + length cs ≡ used + length (c ∷ cs) = omega arith in
+    record {
+      text = ap (λ l. l ++ append_all n (append_used n used (unit_of_char c)) (map unit_of_char cs)) (put.0 ∙ shown-one n used c some one)
+          ∙ ap (λ k. c ∷ append_all n k (map unit_of_char cs)) next ∙ ap (λ l. c ∷ l) more.text;
+      used_is = ap (λ k. used_after n k (map unit_of_char cs)) next ∙ more.used_is ∙ far;
+    }
+
+-- a line begins after a full one
+broken-one : (n : ℕ) (cs : List ℕ) → 0 < n → is_printable cs ≡ true → 0 < length cs
+    → append_all n n (map unit_of_char cs) ≡ 10 ∷ append_all n 0 (map unit_of_char cs)
+broken-one n [] some h l = absurd (omega arith)
+broken-one n (c ∷ cs) some h l =
+    let parts = and_parts (is_in_range 0x20 0x7E c) (is_printable cs) h in
+    let need = needed-one n c some (count-printable c parts.0) in
+    append_all-breaks n n (unit_of_char c) (map unit_of_char cs) some (omega (arith, need))
+
+map-append : (xs ys : List ℕ) → map unit_of_char (xs ++ ys) ≡ map unit_of_char xs ++ map unit_of_char ys
+map-append [] ys = refl
+map-append (x ∷ xs) ys = ap (λ l. unit_of_char x ∷ l) (map-append xs ys)
+
+pieces-more : (n : ℕ) (cs : List ℕ) → 0 < n → is_printable cs ≡ true → n < length cs
+    → append_all n 0 (map unit_of_char cs) ≡ take n cs ++ 10 ∷ append_all n 0 (map unit_of_char (drop n cs))
+pieces-more n cs some h long =
+    let front = take n cs in
+    let back = drop n cs in
+    let parts = parts-printable n cs h in
+    let len : length front ≡ n = length-take-le n cs (omega arith) in
+    let fit = fitted n 0 front parts.0 (omega arith) in
+    let full : used_after n 0 (map unit_of_char front) ≡ n = let e = fit.used_is in omega arith in
+    let left : 0 < length back = omega (arith, length-drop n cs) in
+    ap (λ l. append_all n 0 (map unit_of_char l)) (sym (take-append-drop n cs))
+    ∙ ap (append_all n 0) (map-append front back)
+    ∙ append_all-append n 0 (map unit_of_char front) (map unit_of_char back)
+    ∙ ap (λ l. l ++ append_all n (used_after n 0 (map unit_of_char front)) (map unit_of_char back)) fit.text
+    ∙ ap (λ k. front ++ append_all n k (map unit_of_char back)) full
+    ∙ ap (λ l. front ++ l) (broken-one n back some parts.1 left)
+
+-- what is written of the last bytes of a line, and of n bytes before more
+pub written-last : (n : ℕ) (rest : List ℕ) → is_printable rest ≡ true → length rest ≤ n
+    → rest ≡ encode_utf8_all (append_all n 0 (map unit_of_char (chars rest)))
+written-last n rest h le =
+    sym (ap (λ l. encode_utf8_all (append_all n 0 (map unit_of_char l))) (chars-printable rest h)
+    ∙ ap encode_utf8_all (fitted n 0 rest h (omega arith)).text ∙ encodes-IsAscii rest (IsAscii-printable rest h))
+
+pub written-piece : (n : ℕ) (rest : List ℕ) → 0 < n → is_printable rest ≡ true → n < length rest
+    → take n rest ++ (encode_utf8 10 ++ encode_utf8_all (append_all n 0 (map unit_of_char (chars (drop n rest)))))
+    ≡ encode_utf8_all (append_all n 0 (map unit_of_char (chars rest)))
+written-piece n rest some h long =
+    let front = take n rest in
+    let back = append_all n 0 (map unit_of_char (drop n rest)) in
+    let parts = parts-printable n rest h in
+    let whole : append_all n 0 (map unit_of_char (chars rest)) ≡ front ++ 10 ∷ back =
+    ap (λ l. append_all n 0 (map unit_of_char l)) (chars-printable rest h) ∙ pieces-more n rest some h long in
+    let spelled : encode_utf8_all (append_all n 0 (map unit_of_char (chars rest))) ≡ front ++ (encode_utf8 10 ++ encode_utf8_all back) =
+    ap encode_utf8_all whole ∙ encodes-append front (10 ∷ back)
+    ∙ ap (λ l. l ++ (encode_utf8 10 ++ encode_utf8_all back)) (encodes-IsAscii front (IsAscii-printable front parts.0)) in
+    ap (λ l. front ++ (encode_utf8 10 ++ encode_utf8_all (append_all n 0 (map unit_of_char l)))) (chars-printable (drop n rest) parts.1)
+    ∙ sym spelled
+
+-- a text of printable ASCII is one line
+pub pending-printable : (n : ℕ) (words : Bool) (text : List ℕ) → is_printable text ≡ true
+    → encode_utf8_all (append_all n 0 (units n words (chars text))) ≡ encode_utf8_all (pending n words false (lines_of (chars text)))
+pending-printable n words text h =
+    ap encode_utf8_all (sym (append-nil (append_all n 0 (units n words (chars text))))
+    ∙ ap (pending n words false) (sym (one_line (chars text) (plain_line-printable text h).characters)))
+
+-- ---- cut
+
+printable-line : (cs : List ℕ) → is_printable cs ≡ true → lines_of cs ≡ cs ∷ []
+printable-line cs h = subst (λ l. lines_of l ≡ l ∷ []) (chars-printable cs h) (one_line (chars cs) (plain_line-printable cs h).characters)
+
+count_of-printable : (cs : List ℕ) → is_printable cs ≡ true → count_of cs ≡ length cs
+count_of-printable [] h = refl
+count_of-printable (c ∷ cs) h =
+    let parts = and_parts (is_in_range 0x20 0x7E c) (is_printable cs) h in
+    omega (arith, sum_by-cons char_count c cs, count-printable c parts.0, count_of-printable cs parts.1)
+
+last-printable : (cs : List ℕ) → is_printable cs ≡ true → count_of (last_line cs) ≡ length cs
+last-printable cs h = ap (λ ls. count_of (last_of ls)) (printable-line cs h) ∙ count_of-printable cs h
+
+reached-printable : (n : ℕ) (cs : List ℕ) → is_printable cs ≡ true → length cs ≤ n → IsReached n cs
+reached-printable n cs h le = record {
+  fits = subst (All (λ line. count_of line ≤ n)) (sym (printable-line cs h))
+      (All-cons (λ line. count_of line ≤ n) cs [] (omega (arith, count_of-printable cs h)) (All-nil (λ line. count_of line ≤ n)));
+  shorter = λ k l. omega (arith, last-printable (take k cs) (parts-printable k cs h).0, length-take-le k cs (omega arith));
+}
+
+walked-printable : (n end : ℕ) (text : List ℕ) → is_printable (take end text) ≡ true → end ≤ n → end ≤ length text
+    → Walked n text (drop end text) end
+walked-printable n end text h le within =
+    let cs = take end text in
+    let len : length cs ≡ end = length-take-le end text within in
+    let same : chars cs ≡ cs = chars-printable cs h in
+    record {
+      front = cs;
+      parts = sym (take-append-drop end text);
+      utf8 = IsUtf8-from_ascii cs (IsAscii-printable cs h);
+      columns_are = sym (ap (λ l. count_of (last_line l)) same ∙ last-printable cs h ∙ len);
+      reached = subst (IsReached n) (sym same) (reached-printable n cs h (omega arith));
+    }
+
+-- the first n bytes of a text, or all, if they are printable
+pub parted-printable : (n end : ℕ) (text front after : List ℕ) → end ≡ min n (length text) → is_printable (take end text) ≡ true
+    → front ≡ take end text → after ≡ drop end text → IsParted n (chars text) (chars front) 0 (chars after)
+unfolding walked-printable
+parted-printable n end text front after e h f a =
+    subst (λ l. IsParted n (chars text) (chars front) 0 (chars l)) (sym a)
+    (elim (cases_lt (length text) n) [
+      | inl lt ↦
+          let all : end ≡ length text = omega arith in
+          let none : drop end text ≡ [] = ap (λ k. drop k text) all ∙ drop_all (length text) text (omega arith) in
+          IsParted-end front (walked-printable n end text h (omega arith) (omega arith)) (ap chars none ∙ chars-nil) f
+      | inr ge ↦ IsParted-full front (walked-printable n end text h (omega arith) (omega arith)) (omega arith) f
+    ])
