@@ -19,6 +19,7 @@ pub mod FitLemmas
 pub mod FittingLaws
 pub mod JoinLemmas
 pub mod Joining
+pub mod Kept
 pub mod LetterLemmas
 pub mod LineLaws
 pub mod Listed
@@ -37,6 +38,7 @@ pub mod SeparatorSteps
 pub mod StayLemmas
 pub mod Tables
 pub mod Within
+pub mod WordBreaks
 pub mod WordLemmas
 pub mod WrapBound
 pub mod WrapKept

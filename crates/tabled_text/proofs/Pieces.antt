@@ -1,5 +1,5 @@
 -- Printable ASCII, whose characters are its bytes and take a column each, broken between bytes.
-use Rattle.std.proofs.Common.{◌≡◌, ℕ, ◌+◌, ◌<◌, ◌≤◌, Bool, true, false, cond, max, nat_le, List, [], ◌∷◌, ◌++◌, length, take, drop, map, refl, sym, ap, subst, ◌∙◌, arith, chars, encode_utf8, encode_utf8_all, lit<, sum_by, replicate, ◌-◌, All, inl, inr, min}
+use Rattle.std.proofs.Common.{◌≡◌, ℕ, ◌+◌, ◌<◌, ◌≤◌, Bool, true, false, cond, max, nat_le, List, [], ◌∷◌, ◌++◌, length, take, drop, map, refl, sym, ap, subst, ◌∙◌, arith, chars, encode_utf8, encode_utf8_all, replicate, ◌-◌, All, inl, inr, min}
 use Rattle.std.specs.Int.{is_in_range}
 use Rattle.std.specs.List.{list_all}
 use Rattle.std.specs.Str.{IsAscii}
@@ -9,12 +9,12 @@ use Rattle.std.proofs.lemmas.List.{append-nil, drop_all, take-append-drop, lengt
 use Rattle.std.proofs.lemmas.List.Elements.{All-cons, All-nil}
 use Rattle.std.proofs.lemmas.List.Folds.{list_all-append}
 use Rattle.std.proofs.lemmas.List.Sums.{sum_by-cons}
-use Rattle.std.proofs.lemmas.Str.{IsUtf8-from_ascii, chars-nil, chars-IsAscii, encodes-IsAscii, encodes-append, encode_ascii}
+use Rattle.std.proofs.lemmas.Str.{IsUtf8-from_ascii, chars-nil, chars-IsAscii, encodes-IsAscii, encodes-append}
 use Rattle.std.proofs.lemmas.Str.Ascii.{IsAscii-nil, IsAscii-cons}
 use Rattle.tabled_text.specs.Cut.{IsParted, IsReached, last_line, last_of}
 use Rattle.tabled_text.specs.Measure.{char_count, count_of, lines_of}
-use Rattle.tabled_text.specs.Units.{TextUnit, unit_of_char, units}
-use Rattle.tabled_text.specs.Walk.{append_all, append_text, append_used, pending, used_after}
+use Rattle.tabled_text.specs.Units.{unit_of_char, units}
+use Rattle.tabled_text.specs.Walk.{append_all, append_used, pending, used_after}
 use Rattle.tabled_text.specs.Wrapping.{needed, shown}
 use Rattle.tabled_text.proofs.CutLemmas.{IsParted-end, IsParted-full, Walked}
 use Rattle.tabled_text.proofs.Filling.{append_all-append, append_all-breaks, append_text-fits}

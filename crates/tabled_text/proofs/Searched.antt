@@ -1,7 +1,6 @@
 -- Texts split at the first byte that a search finds.
 use Rattle.std.proofs.Common.{◌≡◌, refl, ◌-◌, ℕ, suc, ◌+◌, ◌<◌, eqb, false, List, [], ◌∷◌, ◌++◌, get_or, length, take, drop, ap, sym, subst, ◌∙◌, arith, All, Option, Some, None, chars, encode_utf8, encode_utf8_all, ⊎_elim}
 use Rattle.std.specs.Borrow.{Bor}
-use Rattle.std.specs.List.{slice_split}
 use Rattle.std.specs.Str.{IsUtf8}
 use Rattle.std.proofs.Math.Seq.{split_at}
 use Rattle.std.proofs.lemmas.Bool.{eq-eqb, ne_eqb, eqb-true, cases_Bool}
@@ -30,10 +29,10 @@ found d at bs f l =
     let next : suc at ≡ at + 1 = omega arith in
     split_at bs at 0 l ∙ ap (λ n. take at bs ++ get_or bs at 0 ∷ drop n bs) next ∙ ap (λ b. take at bs ++ b ∷ drop (at + 1) bs) (f.found l)
 
-whole-front : (d : ℕ) (text front : List ℕ) (after : Option (Bor (List ℕ))) → IsSplitAt d text front after → length front ≡ length text → text ≡ front
+pub whole-front : (d : ℕ) (text front : List ℕ) (after : Option (Bor (List ℕ))) → IsSplitAt d text front after → length front ≡ length text → text ≡ front
 whole-front d text front after s e = sym (s.front_is ∙ take_all (length front) text (omega arith))
 
-all-front : (d : ℕ) (text front : List ℕ) (after : Option (Bor (List ℕ))) → IsSplitAt d text front after → All (λ b. eqb b d ≡ false) front
+pub all-front : (d : ℕ) (text front : List ℕ) (after : Option (Bor (List ℕ))) → IsSplitAt d text front after → All (λ b. eqb b d ≡ false) front
 all-front d text front after s = subst (All (λ b. eqb b d ≡ false)) (sym s.front_is) (missed d (length front) text s.first)
 
 -- a text whose lines are split off

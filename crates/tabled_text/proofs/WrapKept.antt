@@ -1,5 +1,5 @@
 -- A plain text that finds room is not changed where it is wrapped.
-use Rattle.std.proofs.Common.{◌≡◌, ℕ, ◌+◌, ◌<◌, ◌≤◌, Bool, true, false, cond, ◌==◌, List, [], ◌∷◌}
+use Rattle.std.proofs.Common.{◌≡◌, ℕ, ◌+◌, ◌<◌, ◌≤◌, ◌++◌, Bool, true, false, cond, ◌==◌, List, [], ◌∷◌}
 use Rattle.std.proofs.Common.{chars, encode_utf8_all, map, refl, sym, ap, ◌∙◌, subst, arith, sum_by}
 use Rattle.std.proofs.Common.{append-nil}
 use Rattle.std.specs.Prelude.{MatchBool}
@@ -11,7 +11,7 @@ use Rattle.std.proofs.lemmas.Str.{encodes-chars}
 use Rattle.tabled_text.specs.Measure.{lines_of, columns_of, char_columns, greatest, text_columns}
 use Rattle.tabled_text.specs.Plain.{is_additive, IsAdditive}
 use Rattle.tabled_text.specs.Units.{TextUnit, units, text_of, width_of}
-use Rattle.tabled_text.specs.Wrapping.{Fits, text_from, text_of_groups, IsFullest, IsFullestText, IsWrapped}
+use Rattle.tabled_text.specs.Wrapping.{Fits, text_of_groups, IsFullest, IsFullestText, IsWrapped}
 use Rattle.tabled_text.specs.Walk.{append_all}
 use Rattle.tabled_text.proofs.Bridge.{text_columns-chars}
 use Rattle.tabled_text.proofs.Filling.{append_all-fits, text_is}
@@ -32,21 +32,27 @@ width-good [] h = refl
 width-good (u ∷ us) h =
     omega (arith, h.0.1, width-good us h.1, sum_by-cons (λ (v : TextUnit). v.width) u us, sum_by-append char_columns u.text (text_of us))
 
--- a line that finds room is one group
-line_kept : (n : ℕ) (words : Bool) (line : List ℕ) → list_all is_additive line ≡ true → columns_of line ≤ n
-    → append_all n 0 (units n words line) ≡ line
-line_kept n words line plain room =
+-- a line that finds room is one group, whatever follows
+pub line_kept-before : (n : ℕ) (words : Bool) (line : List ℕ) (rest : List TextUnit) → list_all is_additive line ≡ true → columns_of line ≤ n
+    → append_all n 0 (units n words line ++ rest) ≡ line ++ append_all n (columns_of line) rest
+line_kept-before n words line rest plain room =
     let us : List TextUnit = units n words line in
-    let wide : width_of us ≤ n = omega (
+    let columns : 0 + width_of us ≡ columns_of line = omega (
       arith,
-      room,
       width-good us (EachGood-units n words line plain),
       ap
           (sum_by char_columns) (text_of-units n words line),
       columns_of-plain line plain,
     ) in
-    ap (append_all n 0) (sym (append-nil us)) ∙ append_all-fits n 0 us [] (fits-sum n 0 us (omega (arith, wide))) ∙ append-nil (text_from n 0 us)
-    ∙ text_from-narrow n 0 us (unit-le n us wide) ∙ text_of-units n words line
+    let wide : width_of us ≤ n = omega arith in
+    append_all-fits n 0 us rest (fits-sum n 0 us (omega (arith, wide)))
+    ∙ ap (λ l. l ++ append_all n (0 + width_of us) rest) (text_from-narrow n 0 us (unit-le n us wide) ∙ text_of-units n words line)
+    ∙ ap (λ k. line ++ append_all n k rest) columns
+
+pub line_kept : (n : ℕ) (words : Bool) (line : List ℕ) → list_all is_additive line ≡ true → columns_of line ≤ n
+    → append_all n 0 (units n words line) ≡ line
+line_kept n words line plain room =
+    ap (append_all n 0) (sym (append-nil (units n words line))) ∙ line_kept-before n words line [] plain room ∙ append-nil line
 
 lines_kept : (n : ℕ) (words : Bool) → 0 < n → (lines : List (List ℕ)) (broken : List (List (List TextUnit)))
     → EachPlain lines → greatest (map columns_of lines) ≤ n

@@ -39,7 +39,7 @@ pub units_of_word-empty : (n : ℕ) (word : List ℕ) (b : Bool) → b ≡ (leng
 units_of_word-empty n word b e h =
     ap (λ l. units_of_word n (chars l)) (nil_from_length word (eqb-true (length word) 0 (sym e ∙ h))) ∙ ap (units_of_word n) chars-nil
 
-short : (n : ℕ) (cs : List ℕ) → (cs ≡ [] → ⊥) → columns_of cs ≤ n → units_of_word n cs ≡ unit_of cs (columns_of cs) ∷ []
+pub short : (n : ℕ) (cs : List ℕ) → (cs ≡ [] → ⊥) → columns_of cs ≤ n → units_of_word n cs ≡ unit_of cs (columns_of cs) ∷ []
 short n [] ne le = absurd (ne refl)
 short n (c ∷ cs) ne le = ap (λ b. cond b (unit_of (c ∷ cs) (columns_of (c ∷ cs)) ∷ []) (map unit_of_char (c ∷ cs)))
     (le-leb (columns_of (c ∷ cs)) n le)
@@ -53,7 +53,7 @@ units_of_word-short n word width b u e h w le =
     short n (chars word) (not_empty word u (λ z. eqb-false (length word) 0 (sym e ∙ h) z)) (subst (λ k. k ≤ n) w le) ∙
     ap (λ k. unit_of (chars word) k ∷ []) (sym w)
 
-split_cons : (p : ℕ → Bool) (cs : List ℕ) → (x : List ℕ) × (xs : List (List ℕ)) × (slice_split p cs ≡ x ∷ xs)
+pub split_cons : (p : ℕ → Bool) (cs : List ℕ) → (x : List ℕ) × (xs : List (List ℕ)) × (slice_split p cs ≡ x ∷ xs)
 split_cons p [] = ([], [], refl)
 split_cons p (c ∷ cs) = by_test (p c) (split_cons p cs)
   where

@@ -1,10 +1,10 @@
 -- What the private functions that wrap and compare do, unit after unit and without looking ahead.
-use Rattle.std.specs.Prelude.{ℕ, ◌+◌, Bool, true, false, ◌||◌, nat_le, List, [], ◌∷◌, ◌++◌, chars, Option, Some, None, if◌then◌else◌}
+use Rattle.std.specs.Prelude.{◌≡◌, ℕ, ◌+◌, ◌<◌, ◌≤◌, Bool, true, false, ◌||◌, nat_le, List, [], ◌∷◌, ◌++◌, chars, length, take, drop, Option, Some, None, if◌then◌else◌}
 use Rattle.std.specs.Borrow.{Bor}
 use Rattle.std.specs.List.{list_all}
 use Rattle.tabled_text.specs.Measure.{columns_of}
 use Rattle.tabled_text.specs.OldText.{finds_room}
-use Rattle.tabled_text.specs.Units.{TextUnit, units, words_of}
+use Rattle.tabled_text.specs.Units.{TextUnit, units, units_of_words, words_of}
 use Rattle.tabled_text.specs.Wrapping.{needed, shown}
 
 -- the words of the rest after a space, if there is one
@@ -48,3 +48,9 @@ fits_word n word = nat_le (columns_of word) n || finds_room n word
 abbrev pub fits_line : ℕ → Bool → List ℕ → Bool
 fits_line n false line = finds_room n line
 fits_line n true line = list_all (fits_word n) (words_of line)
+
+-- the first k bytes of printable ASCII are the first line of more, where words are kept
+pub record BreaksAt (n : ℕ) (line : List ℕ) (k : ℕ) : Type 0 where
+  pub some : 0 < k
+  pub end : k ≤ length line
+  pub rest : append_all n 0 (units_of_words n (words_of line)) ≡ take k line ++ 10 ∷ append_all n 0 (units_of_words n (words_of (drop k line)))

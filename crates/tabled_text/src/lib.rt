@@ -8,7 +8,7 @@
 //!
 //! Measuring:
 //! - `measure`: the columns and lines of a text, and an iterator over its lines.
-//! - `runs`: runs of bytes within a range.
+//! - `runs`: runs of bytes within a range, and texts split at a byte.
 //!
 //! Making texts:
 //! - `cut`: cuts a text to n columns.
@@ -44,4 +44,4 @@ pub use measure::{
 };
 pub use runs::run_end;
 pub use sink::{copies, push_copies};
-pub use wrap::wrap_text;
+pub use wrap::{fits_printable, wrap_text};

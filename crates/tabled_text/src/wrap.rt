@@ -1,15 +1,16 @@
 //! Wraps texts to n columns. One walk writes unit after unit to a `Sink`.
-ghost use Rattle.std.specs.Prelude.{◌≡◌, ◌<◌, ◌≤◌, ◌+◌, ◌∷◌, chars, encode_utf8_all, length, map, IfOk, OnOk, IfSome, IsUtf8, string_bytes, OnErr, false, true};
+ghost use Rattle.std.specs.Prelude.{◌≡◌, ◌&&◌, Bool, nat_le, ◌<◌, ◌≤◌, ◌+◌, ◌-◌, slice_index, ◌∷◌, chars, encode_utf8_all, length, map, IfOk, OnOk, IfSome, IsUtf8, string_bytes, OnErr, false, true};
 ghost use Rattle.std.specs.Int.{is_in_range};
 ghost use Rattle.std.specs.List.{list_all};
+ghost use Rattle.tabled_text.specs.Cut.{IsCut};
 ghost use Rattle.tabled_text.specs.Measure.{lines_of};
 ghost use Rattle.tabled_text.specs.Units.{unit_of_char, words_of, units, units_of_word, units_of_words};
 ghost use Rattle.tabled_text.specs.Breaking.{EachUnitFits, HasFewestLines, IsLeastBreaking};
 ghost use Rattle.tabled_text.specs.Wrapping.{IsWrapped};
-ghost use Rattle.tabled_text.specs.Walk.{words_in, begin_at, begin_text, append_text, append_used, append_all, used_after, pending};
+ghost use Rattle.tabled_text.specs.Walk.{BreaksAt, words_in, begin_at, begin_text, append_text, append_used, append_all, used_after, pending};
 
 use crate::character::{char_count, split_first};
-use crate::measure::{is_printable, line_width, lines};
+use crate::measure::{is_printable, is_printable_within, line_width, lines};
 use crate::runs::split_at_byte;
 use crate::sink::{Sink, append_copies};
 use std::alloc::{AllocError, Global};
@@ -146,6 +147,84 @@ fn append_pieces<S: Sink>(out: &mut S, n: usize, line: &str) -> Result<(), S::Er
     Ok(())
 }
 
+/// Returns the index after the last space before `end`, or `None` if there is none.
+fn after_space(bytes: &[u8], end: usize) -> Option<usize>
+    requires { end ≤ length bytes.now }
+    ensures within { IfSome result (λ at. (0 < at) × (at ≤ end)) }
+    ensures space { IfSome result (λ at. slice_index bytes.now (at - 1) ≡ 32) }
+{
+    let mut at = end;
+    'bytes: while at > 0 {
+        if bytes[at - 1] == b' ' {
+            return Some(at);
+        }
+        at -= 1;
+    }
+    None
+}
+
+/// Returns where the first of several lines of printable ASCII ends if words are kept, or `None` if
+/// the word that would pass n columns is wider than that.
+fn line_end(line: &str, n: usize) -> Option<usize>
+    requires some { 0 < n }
+    requires more { n < length line.now }
+    requires printable { list_all (is_in_range 0x20 0x7E) line.now ≡ true }
+    ensures { IfSome result (BreaksAt n line.now) }
+{
+    let bytes = line.as_bytes();
+    let next = bytes[n];
+    if next == b' ' {
+        return Some(n);
+    }
+    let at = after_space(bytes, n)?;
+    let (_, after) = line.split_at(at);
+    let (word, _) = split_at_byte(after, b' ');
+    let width = word.len();
+    if width > n {
+        return None;
+    }
+    if at + width > n {
+        return Some(at);
+    }
+    None
+}
+
+/// Writes printable ASCII, broken to n columns, where a word is wider than that.
+fn append_wide_words<S: Sink>(out: &mut S, n: usize, line: &str) -> Result<(), S::Error>
+    requires some { 0 < n }
+    requires printable { list_all (is_in_range 0x20 0x7E) line.now ≡ true }
+    ensures { OnOk result (S.adds out.old
+        (encode_utf8_all (append_all n 0 (units_of_words n (words_of (chars line.now))))) out.new) }
+{
+    let (_, after) = split_at_byte(line, b' ');
+    match after {
+        None => append_pieces(out, n, line),
+        Some(_) => append_words(out, n, line),
+    }
+}
+
+/// Writes printable ASCII, broken to n columns between words where they fit.
+fn append_kept_words<S: Sink>(out: &mut S, n: usize, line: &str) -> Result<(), S::Error>
+    requires some { 0 < n }
+    requires printable { list_all (is_in_range 0x20 0x7E) line.now ≡ true }
+    ensures { OnOk result (S.adds out.old
+        (encode_utf8_all (append_all n 0 (units_of_words n (words_of (chars line.now))))) out.new) }
+{
+    let mut rest = line;
+    'lines: while rest.len() > n {
+        match line_end(rest, n) {
+            None => return append_wide_words(out, n, rest),
+            Some(end) => {
+                let (front, after) = rest.split_at(end);
+                out.append_str(front)?;
+                out.append_char('\n')?;
+                rest = after;
+            }
+        }
+    }
+    append_pieces(out, n, rest)
+}
+
 /// Writes a line of printable ASCII, broken to n columns.
 fn append_printable<S: Sink>(out: &mut S, n: usize, words: bool, line: &str) -> Result<(), S::Error>
     requires some { 0 < n }
@@ -154,7 +233,7 @@ fn append_printable<S: Sink>(out: &mut S, n: usize, words: bool, line: &str) -> 
         (encode_utf8_all (append_all n 0 (units n words (chars line.now)))) out.new) }
 {
     if words {
-        append_words(out, n, line)
+        append_kept_words(out, n, line)
     } else {
         append_pieces(out, n, line)
     }
@@ -224,4 +303,15 @@ pub fn wrap_text(alloc: Global, text: &str, n: usize, words: bool) -> Result<Str
     out.reserve_exact(text.len().saturating_add(text.len() / n))?;
     append_lines(&mut out, n, words, text)?;
     Ok(out)
+}
+
+/// Whether a text is printable ASCII of at most n bytes. Wrapping or cutting it to n columns, which
+/// are then at least 1 if it isn't empty, leaves it as it is.
+#[inline]
+pub fn fits_printable(text: &str, n: usize) -> bool
+    ensures value { result ≡ (nat_le (length text.now) n && list_all (is_in_range 0x20 0x7E) text.now) }
+    ensures wrapped { (words : Bool) → result ≡ true → 0 < n → IsWrapped n words text.now text.now }
+    ensures cut { result ≡ true → IsCut n text.now text.now }
+{
+    is_printable_within(text, n)
 }

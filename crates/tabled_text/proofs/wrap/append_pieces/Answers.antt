@@ -1,4 +1,4 @@
-use Rattle.std.proofs.Common.{◌≡◌, ◌<◌, arith, length, map, chars, encode_utf8, encode_utf8_all, take, drop, subst, sym, ap, ◌∙◌, ◌++◌, true}
+use Rattle.std.proofs.Common.{arith, map, chars, encode_utf8, encode_utf8_all, take, drop, subst, sym, ap, ◌∙◌, ◌++◌}
 use Rattle.std.specs.Str.{IsUtf8}
 use Rattle.std.proofs.lemmas.Str.{IsCharBoundary-from_ascii, IsUtf8-drop}
 use Rattle.tabled_text.specs.Units.{unit_of_char}

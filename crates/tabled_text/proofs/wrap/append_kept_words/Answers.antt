@@ -1,0 +1,47 @@
+use Rattle.std.proofs.Common.{◌≡◌, arith, chars, map, encode_utf8, encode_utf8_all, take, drop, subst, sym, ap, ◌∙◌, ◌++◌}
+use Rattle.std.specs.Str.{IsUtf8}
+use Rattle.std.proofs.lemmas.Result.{on_ok_weaker}
+use Rattle.std.proofs.lemmas.Str.{IsCharBoundary-from_ascii, IsUtf8-drop}
+use Rattle.tabled_text.proofs.Pieces.{is_printable, IsAscii-printable, parts-printable, written-last}
+use Rattle.tabled_text.specs.Units.{unit_of_char}
+use Rattle.tabled_text.specs.Walk.{append_all}
+use Rattle.tabled_text.proofs.WordBreaks.{spelled, spelled-last, spelled-more}
+use Rattle.tabled_text.proofs.wrap.append_kept_words.Goals as goal
+
+pub split_at-requires : goal.split_at-requires
+split_at-requires g c = IsCharBoundary-from_ascii c.lines.rest.now c.in-Some.end (IsAscii-printable c.lines.rest.now c.lines.invariant.1) (omega (arith, c.in-Some.ensures.end))
+
+pub lines-preserved : goal.lines-preserved
+lines-preserved g c =
+    let n = c.args.n in
+    let end = c.in-Some.end in
+    let rest = c.lines.rest.now in
+    let back = c.split_at.ensures.back in
+    let next = spelled n (drop end rest) in
+    let at = IsCharBoundary-from_ascii rest end (IsAscii-printable rest c.lines.invariant.1) (omega (arith, c.in-Some.ensures.end)) in (
+      (λ t h. c.lines.invariant.0 t
+          (subst (λ x. g.S.Sink.adds c.lines.out x t) (spelled-more n end rest c.lines.invariant.1 c.in-Some.ensures)
+          (g.met.S.Sink.adds_more c.lines.out c.append_str.new.self t (take end rest) (encode_utf8 10 ++ next)
+          (subst (λ x. g.S.Sink.adds c.lines.out x c.append_str.new.self) c.split_at.ensures.front c.in_ok-append_str-in-Some.ensures)
+          (g.met.S.Sink.adds_more c.append_str.new.self c.append_char.new.self t (encode_utf8 10) next c.in_ok-append_char-in-Some.ensures
+          (subst (λ l. g.S.Sink.adds c.append_char.new.self (spelled n l) t) back h))))),
+      ap is_printable back ∙ (parts-printable end rest c.lines.invariant.1).1,
+      subst IsUtf8 (sym back) (IsUtf8-drop rest end c.lines.invariant.2 at),
+    )
+
+pub lines-smaller : goal.lines-smaller
+lines-smaller g c = omega (arith, c.split_at.ensures.back_len, c.in-Some.ensures.some)
+
+pub returns-in-None : goal.returns-in-None
+returns-in-None g c =
+    on_ok_weaker c.append_wide_words.result (λ h. c.lines.invariant.0 c.append_wide_words.new.out h) c.append_wide_words.ensures
+
+pub returns : goal.returns
+returns g c =
+    let n = c.args.n in
+    let rest = c.lines.rest.now in
+    let same : encode_utf8_all (append_all n 0 (map unit_of_char (chars rest))) ≡ spelled n rest =
+    sym (written-last n rest c.lines.invariant.1 (omega arith)) ∙ spelled-last n rest c.lines.invariant.1 (omega arith) in
+    on_ok_weaker c.append_pieces.result
+    (λ h. c.lines.invariant.0 c.append_pieces.new.out (subst (λ x. g.S.Sink.adds c.lines.out x c.append_pieces.new.out) same h))
+    c.append_pieces.ensures

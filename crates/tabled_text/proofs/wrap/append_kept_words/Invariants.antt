@@ -1,0 +1,16 @@
+use Rattle.std.proofs.Common.{◌≡◌, length, true}
+use denote.Shadow.{shadow}
+use denote.Text.{Utf8}
+use Rattle.tabled_text.proofs.Pieces.{is_printable}
+use Rattle.tabled_text.proofs.WordBreaks.{spelled}
+use Rattle.tabled_text.proofs.wrap.append_kept_words.Given as goal
+
+abbrev pub invariant-lines : goal.invariant-lines
+invariant-lines g l =
+    ((t : _) → g.S.Sink.adds l.out (spelled l.n l.rest) t
+    → g.S.Sink.adds l.fn.out (spelled l.n l.line) t)
+    × (is_printable l.rest ≡ true)
+    × shadow (Utf8 l.rest)
+
+abbrev pub decreases-lines : goal.decreases-lines
+decreases-lines g l = length l.rest
