@@ -129,6 +129,24 @@ fn append_words<S: Sink>(out: &mut S, n: usize, line: &str) -> Result<(), S::Err
     }
 }
 
+/// The most bytes that are written one by one.
+const FEW_BYTES: usize = 3;
+
+/// Writes a text. Few bytes are written one by one, without a call to copy them.
+fn append_piece<S: Sink>(out: &mut S, piece: &str) -> Result<(), S::Error>
+    ensures { OnOk result (S.adds out.old piece.now out.new) }
+{
+    if piece.len() > FEW_BYTES {
+        return out.append_str(piece);
+    }
+    let mut rest = piece;
+    'bytes: while let Some((c, after)) = split_first(rest) {
+        out.append_char(c)?;
+        rest = after;
+    }
+    Ok(())
+}
+
 /// Writes printable ASCII, with a line feed after each n bytes that more bytes follow.
 fn append_pieces<S: Sink>(out: &mut S, n: usize, line: &str) -> Result<(), S::Error>
     requires some { 0 < n }
@@ -139,12 +157,11 @@ fn append_pieces<S: Sink>(out: &mut S, n: usize, line: &str) -> Result<(), S::Er
     let mut rest = line;
     'pieces: while rest.len() > n {
         let (piece, after) = rest.split_at(n);
-        out.append_str(piece)?;
+        append_piece(out, piece)?;
         out.append_char('\n')?;
         rest = after;
     }
-    out.append_str(rest)?;
-    Ok(())
+    append_piece(out, rest)
 }
 
 /// Returns the index after the last space before `end`, or `None` if there is none.
