@@ -48,8 +48,8 @@ pub(crate) struct ColumnStyles {
 
 impl ColumnStyles {
     /// Caches the styles of the row at index `rows`, after the last one. `None` if there are too
-    /// few rows or too many columns, or if the row has one style: most rows then have one that is
-    /// looked up directly. An allocation failure changes what is cached, not what is printed.
+    /// few rows or too many columns. An allocation failure changes what is cached, not what is
+    /// printed.
     pub fn if_kept<D: Dimension>(
         memory: Option<Global>,
         config: &SpannedConfig,
@@ -60,7 +60,7 @@ impl ColumnStyles {
         ensures { IfSome result (AreStyles config.now
             (slice_index (reached (D.width_at dimension.now) columns)) columns) }
     {
-        if rows < FEWEST_ROWS || columns > MOST_COLUMNS || config.row_style(rows).is_some() {
+        if rows < FEWEST_ROWS || columns > MOST_COLUMNS {
             return None;
         }
         Some(ColumnStyles {

@@ -77,7 +77,12 @@ impl<'a, R: PeekableRecords, D: Dimension> Grid<'a, R, D> {
             (D.height_at dimension.now) }
     {
         let around = config.frame();
-        let (rows, columns) = (records.count_rows(), records.count_columns());
+        let rows = records.count_rows();
+        // Without settings for columns, most rows have one style that is looked up directly.
+        let by_column = match config.row_style(rows) {
+            Some(_) => None,
+            None => ColumnStyles::if_kept(memory, config, dimension, rows, records.count_columns()),
+        };
         Grid {
             records,
             config,
@@ -87,7 +92,7 @@ impl<'a, R: PeekableRecords, D: Dimension> Grid<'a, R, D> {
             between: config.borders.line_at(2, 1),
             separator: ColumnSeparator::new(around.inner),
             uniform: uniform_of_table(config),
-            by_column: ColumnStyles::if_kept(memory, config, dimension, rows, columns),
+            by_column,
         }
     }
 

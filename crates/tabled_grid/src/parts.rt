@@ -91,7 +91,8 @@ impl<'a, R: PeekableRecords, D: Dimension> Row<'a> for GridRow<'a, R, D> {
     }
 
     fn width(&self, column: usize) -> usize {
-        self.grid.width(column)
+        let grid = self.grid;
+        grid.dimension.get_width(column)
     }
 
     #[inline(always)]

@@ -71,6 +71,7 @@ pub(crate) fn print_checked<'a, R: PeekableRecords, D: Dimension, S: TextSink>(
 /// - `Range`: the total width or height passes `usize::MAX`.
 ///
 /// Later errors are those of the sink.
+#[inline(never)]
 #[tactic(auto, unfolding(crate::specs::Picture::picture))]
 pub fn print_grid<R: PeekableRecords, D: Dimension, S: TextSink>(
     sink: &mut S,

@@ -1,4 +1,4 @@
-use Rattle.std.proofs.Common.{◌≡◌, ◌<◌, ◌≤◌, ◌∙◌, None, Some, ap, length, option_map, sym}
+use Rattle.std.proofs.Common.{◌<◌, ◌≤◌, ◌∙◌, ap, length, option_map, sym}
 use Rattle.tabled_base.specs.Cells.{columns}
 use Rattle.tabled_size.specs.Effective.{effective}
 use Rattle.tabled_size.specs.Entries.{stored_at}
