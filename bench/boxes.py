@@ -3,11 +3,18 @@
 
 usage: boxes.py [FOLDER]
 
-A small program is written into FOLDER (else a temporary folder) beside copies of the crates and built with `rt run`. For each
-table it runs anew: records of ten fields, shown line by line; rows of ten texts, drawn as boxes; and a text in so many levels of
-rows and columns, each of which has one more text. It is printed to a writer that counts bytes and keeps none of them. Printed are
-the shortest time of the rounds, from the first to the last byte and without the making of the table, in milliseconds and in
-nanoseconds a printed byte, and the greatest peak of the process's memory. It judges nothing.
+A small program is written into FOLDER (else a temporary folder) beside copies of the crates and built
+with `rt run`. It runs anew for each table:
+
+- records: of ten fields, shown line by line;
+- boxes: rows of ten texts, drawn as boxes;
+- levels: a text in levels of rows and columns that each have one more text;
+- nested: a text in levels of rows and columns that have nothing else.
+
+A table is printed to a writer that counts bytes and keeps none. The time is that from the first to the
+last byte, without making the table. Printed are the shortest time of the rounds, also for each byte, and
+the greatest peak memory; then whether the bars below hold. The exit status is 1 if a bar is missed or
+a run fails.
 """
 
 import pathlib
@@ -21,7 +28,16 @@ TABLES = {
     "records": (100, 1_000, 10_000),
     "boxes": (100, 300, 1_000, 3_000, 30_000),
     "levels": (30, 100, 300, 1_000),
+    "nested": (10_000, 100_000),
 }
+
+# Rows of boxes: nanoseconds a byte, and those to the nanoseconds a byte of the fewest rows.
+BOX_COUNTS = (3_000, 30_000)
+BOX_TIME = 15
+BOX_SHARE = 1.3
+# The most levels: nanoseconds a byte. Ten times as many nested levels: their time to that of the fewer.
+LEVEL_TIME = 60
+NESTED_SHARE = 13
 
 PROGRAM = """\
 //! Prints a table of so many records, rows of boxes or levels to a writer that counts.
@@ -84,12 +100,14 @@ fn cell(alloc: Global) -> Result<TableValue, TableError> {
     Ok(TableValue::Cell(String::from_str(alloc, "a")?))
 }
 
-// A text in so many rows and columns, each of which has one more text.
-fn levels(alloc: Global, count: usize) -> Result<PoolTable, TableError> {
+// A text in so many rows and columns, each of which has one more text if they are wide.
+fn levels(alloc: Global, count: usize, is_wide: bool) -> Result<PoolTable, TableError> {
     let mut value = cell(alloc)?;
     for level in 0..count {
         let mut children = Vec::new(alloc);
-        children.push(cell(alloc)?)?;
+        if is_wide {
+            children.push(cell(alloc)?)?;
+        }
         children.push(value)?;
         value = if level % 2 == 0 {
             TableValue::Row(children)
@@ -113,7 +131,7 @@ fn timed(rt: &HostRuntime, kind: &str, count: usize, counter: &mut Counter) -> R
     let table = if kind == "boxes" {
         PoolTable::new(alloc, rows(alloc, count)?)?
     } else {
-        levels(alloc, count)?
+        levels(alloc, count, kind == "levels")?
     };
     let start = Instant::now(rt)?;
     table.write_to(&mut sink)?;
@@ -150,31 +168,76 @@ def peak_of(process):
 
 
 def run(program, kind, count):
-    """The nanoseconds, the printed bytes and the peak of one run."""
-    with subprocess.Popen([program, kind, str(count)], stdin=subprocess.PIPE, stdout=subprocess.PIPE, text=True) as process:
+    """The nanoseconds, the printed bytes and the peak of one run, or nothing if it fails."""
+    command = [program, kind, str(count)]
+    with subprocess.Popen(command, stdin=subprocess.PIPE, stdout=subprocess.PIPE, text=True) as process:
         line = process.stdout.readline()
-        peak = peak_of(process)
+        if line:
+            peak = peak_of(process)
         process.stdin.close()
-        if process.wait() != 0:
-            sys.exit(f"{kind} of {count} ended with {process.returncode}")
+        if process.wait() != 0 or not line:
+            print(f"{kind:8} {count:>7}  ended with {process.returncode}", flush=True)
+            return None
     time, size = map(int, line.split())
     return time, size, peak
 
 
 def measure(program, kind, count):
-    """Prints the shortest time and the greatest peak of the rounds."""
-    runs = [run(program, kind, count) for _ in range(ROUNDS)]
+    """Prints the shortest time and the greatest peak of the rounds. Returns that time and the bytes,
+    or nothing if a run fails."""
+    runs = []
+    for _ in range(ROUNDS):
+        found = run(program, kind, count)
+        if found is None:
+            return None
+        runs.append(found)
     time, size, peak = min(time for time, _, _ in runs), runs[0][1], max(peak for _, _, peak in runs)
-    print(f"{kind:8} {count:>6}  {size:>9} bytes  {time / 1e6:9.2f} ms  {time / size:8.1f} ns a byte  {peak / 1e6:7.2f} MB", flush=True)
+    print(
+        f"{kind:8} {count:>7}  {size:>9} bytes  {time / 1e6:9.2f} ms"
+        f"  {time / size:8.1f} ns a byte  {peak / 1e6:7.2f} MB",
+        flush=True,
+    )
+    return time, size
+
+
+def holds(bar, value, most):
+    """Prints whether a bar holds; a value that is missing misses it."""
+    kept = value is not None and value <= most
+    shown = "none" if value is None else f"{value:.2f}"
+    print(f"{bar}: {shown} of {most}: {'yes' if kept else 'NO'}")
+    return kept
+
+
+def ratio(value, base):
+    return None if value is None or base is None else value / base
+
+
+def judge(found):
+    """Prints which bars hold. Returns whether all do."""
+    times = {table: times[0] if times else None for table, times in found.items()}
+    a_byte = {table: times[0] / times[1] if times else None for table, times in found.items()}
+    held = []
+    for count in BOX_COUNTS:
+        share = ratio(a_byte["boxes", count], a_byte["boxes", TABLES["boxes"][0]])
+        held.append(holds(f"{count} rows of boxes, ns a byte", a_byte["boxes", count], BOX_TIME))
+        held.append(holds(f"{count} rows of boxes, to the fewest rows", share, BOX_SHARE))
+    most = TABLES["levels"][-1]
+    held.append(holds(f"{most} levels, ns a byte", a_byte["levels", most], LEVEL_TIME))
+    fewer, more = TABLES["nested"]
+    share = ratio(times["nested", more], times["nested", fewer])
+    held.append(holds(f"{more} nested levels, to {fewer}", share, NESTED_SHARE))
+    return all(held)
 
 
 def main():
     crates = building.standing_on("tabled_pool", "tabled_extended")
     used = ("tabled_base", "tabled_line", "tabled_pool", "tabled_extended")
+    found = {}
     with building.program(__doc__, "box_times", crates, {"src/main.rt": PROGRAM}, used) as program:
         for kind, counts in TABLES.items():
             for count in counts:
-                measure(program, kind, count)
+                found[kind, count] = measure(program, kind, count)
+    sys.exit(0 if judge(found) else 1)
 
 
 main()
