@@ -230,34 +230,6 @@ impl<C: TableColumns> LinePrinter<C> {
         write_uncached_rule(sink, &mut self.begun, &self.columns, line)
     }
 
-    /// Writes the line of a row at `index`, over the row template if it can be filled in.
-    #[inline(always)]
-    fn write_line<'a, R: Row<'a>, S: TextSink>(
-        &mut self,
-        sink: &mut S,
-        row: &R,
-        cursors: &mut [Cursor<'a>],
-        index: usize,
-    ) -> Result<(), TableError>
-        requires kept { IsCacheOf (C.sheet self.old.columns) self.old.kept }
-        requires over { (R.sheet row.now).columns ≡ C.sheet self.old.columns }
-        requires index_in { index < (R.sheet row.now).height }
-        requires cursors { AreCursors (R.sheet row.now).text cursors.old }
-        ensures printed { WritesLines (S.sent sink.old) self.old.begun result (S.sent sink.new)
-            self.new.begun (row_line (R.sheet row.now) index ∷ []) }
-        ensures same { self.new.columns ≡ self.old.columns }
-        ensures kept { IsCacheOf (C.sheet self.new.columns) self.new.kept }
-        ensures cursors { AreCursors (R.sheet row.now).text cursors.new }
-    {
-        if let Some(template) = &mut self.kept.row
-            && template.fill_line(row, cursors, index)
-        {
-            return write_feed_and_line(sink, &mut self.begun, template.text());
-        }
-        write_break(sink, &mut self.begun)?;
-        write_row_line(sink, row, cursors, index)
-    }
-
     /// Writes the lines of a row over these columns. A text with a cursor isn't searched from its
     /// start for each line. The cursors may be in any state.
     #[tactic(auto, unfolding(crate::specs::Row::row_lines))]
@@ -283,7 +255,14 @@ impl<C: TableColumns> LinePrinter<C> {
         let cursors = &mut cursors[..count];
         forget_cursors(cursors);
         'lines: for index in 0..height {
-            self.write_line(sink, row, cursors, index)?;
+            if let Some(template) = &mut self.kept.row
+                && template.fill_line(row, cursors, index)
+            {
+                write_feed_and_line(sink, &mut self.begun, template.text())?;
+                continue;
+            }
+            write_break(sink, &mut self.begun)?;
+            write_row_line(sink, row, cursors, index)?;
         }
         Ok(())
     }
