@@ -16,7 +16,7 @@ use std::alloc::Global;
 use tabled_base::TableError;
 use tabled_config::{HorizontalLine, VerticalLine};
 
-/// After this many lines that couldn't be filled in, the template is given up.
+/// After this many lines in succession that couldn't be filled in, the template is given up.
 const TRIES: usize = 16;
 
 /// The most columns of a template, not counting vertical lines. A longer one isn't worth the
@@ -239,7 +239,7 @@ pub(crate) struct RowTemplate {
     /// Where the cells of the blank row begin.
     slots: Vec<Slot>,
     line: Vec<u8>,
-    /// How many more lines may fail before the template is given up.
+    /// How many more lines in succession may fail before the template is given up.
     tries: usize,
 }
 
@@ -286,9 +286,7 @@ impl RowTemplate {
         }
         self.line.copy_from_slice(self.blank.as_bytes());
         let laid = fill_cells(&mut self.line[1..], &self.slots, row, cursors, index);
-        if !laid {
-            self.tries = self.tries.saturating_sub(1);
-        }
+        self.tries = if laid { TRIES } else { self.tries - 1 };
         laid
     }
 

@@ -4,8 +4,8 @@ use Rattle.std.proofs.lemmas.Str.{IsUtf8-string_bytes}
 use Rattle.tabled_line.proofs.LeadingFeeds.{lines_after-mid, lines_after-rest}
 use Rattle.tabled_line.proofs.row_template.RowTemplate.fill_line.Goals as goal
 
-pub returns-else-not-laid-clause-utf8 : goal.returns-else-not-laid-clause-utf8
-returns-else-not-laid-clause-utf8 g c = λ all.
+pub returns-clause-utf8 : goal.returns-clause-utf8
+returns-clause-utf8 g c = λ all.
     let blank = c.requires.known.blank in
     let copied = c.deref_mut.ensures.value ∙ c.copy_from_slice.ensures.items ∙ c.as_bytes.ensures.value ∙ blank in
     let before = lines_after-rest _ (subst IsUtf8 blank (IsUtf8-string_bytes c.args.self.now.blank)) in
