@@ -24,8 +24,7 @@ impl TableValue {
     /// Returns the allocator of the text or the list.
     pub fn allocator(&self) -> Global {
         match self {
-            TableValue::Row(children) => *children.allocator(),
-            TableValue::Column(children) => *children.allocator(),
+            TableValue::Row(children) | TableValue::Column(children) => *children.allocator(),
             TableValue::Cell(text) => *text.allocator(),
         }
     }
@@ -36,8 +35,7 @@ impl TableValue {
             (λ children. nodes self ≡ nodes_in children.items + 1) }
     {
         match self {
-            TableValue::Row(children) => Some(children),
-            TableValue::Column(children) => Some(children),
+            TableValue::Row(children) | TableValue::Column(children) => Some(children),
             TableValue::Cell(_) => None,
         }
     }
