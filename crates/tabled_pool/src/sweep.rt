@@ -29,17 +29,14 @@ pub(crate) struct Sweep {
 
 /// A list of `count` numbers of no piece, or an empty one if an allocation fails.
 fn unknown(alloc: Global, count: usize) -> Vec<usize> {
-    match Vec::from_elem(alloc, NONE, count) {
-        Ok(list) => list,
-        Err(_) => Vec::new(alloc),
-    }
+    Vec::from_elem(alloc, NONE, count).unwrap_or_else(|_| Vec::new(alloc))
 }
 
 /// Sets the number of the piece in the columns of a rectangle.
 fn mark(line: &mut [usize], place: Rectangle, number: usize) {
     let end = place.x.saturating_add(place.width).min(line.len());
-    for x in place.x..end {
-        line[x] = number;
+    if place.x < end {
+        line[place.x..end].fill(number);
     }
 }
 
@@ -119,7 +116,9 @@ fn contains(place: Rectangle, x: usize, y: usize) -> bool
     y - place.y < place.height
 }
 
-/// Returns the number of the first piece of a list that contains a position.
+/// Returns the number of the first piece of a list that contains a position. It is seldom called,
+/// and not inlined, since its loop would take the registers of its callers.
+#[inline(never)]
 fn find(pieces: &[Piece<'_>], x: usize, y: usize) -> Option<usize>
     ensures { IsNumber pieces.now x y result }
 {
