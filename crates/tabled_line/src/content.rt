@@ -7,7 +7,7 @@ ghost use Rattle.tabled_text.specs.Measure.{line_columns, lines_of, text_columns
 ghost use Rattle.tabled_line.specs.Block.{first_line};
 ghost use Rattle.tabled_line.specs.Cursors.{AreCursors, IsCursor, nowhere};
 
-use tabled_text::{count_lines, line_width, split_line, text_measures, text_width};
+use tabled_text::{line_width, split_line, text_measures};
 
 /// The number of cursors on the stack for rows of at most this many cells.
 pub const FEW_CURSORS: usize = 64;
@@ -120,10 +120,11 @@ impl<'a> Content<'a> {
     pub fn new(text: &'a str) -> Content<'a>
         ensures { result.text.now ≡ text.now }
     {
+        let (columns, lines) = text_measures(text);
         Content {
             text,
-            columns: text_width(text),
-            lines: count_lines(text),
+            columns,
+            lines,
         }
     }
 
