@@ -3,7 +3,6 @@ ghost use Rattle.std.specs.Prelude.{◌≡◌, ◌<◌, ◌+◌, ◌++◌, ◌�
 ghost use Rattle.std.specs.Prelude.{IfOk, string_bytes, encode_utf8, unwrap_or};
 ghost use Rattle.std.specs.List.{range_with_len};
 ghost use Rattle.std.specs.Option.{option_map};
-ghost use Rattle.tabled_priority.specs.Sums.{one_if};
 ghost use Rattle.tabled_pool.specs.declared.pieces.Kind.TheVariants.{Leaf};
 ghost use Rattle.tabled_pool.specs.Boxes.{part_of};
 ghost use Rattle.tabled_pool.specs.Marks.{within_marks};
@@ -79,16 +78,6 @@ fn run_text(
     Ok(run)
 }
 
-fn push_run(line: &mut String, marks: Marks, run: &str) -> Result<(), AllocError>
-    ensures { IfOk result (λ _. string_bytes line.new ≡ string_bytes line.old
-        ++ within_marks (around_of marks) run.now) }
-{
-    line.push_str(marks.close)?;
-    line.push_str(marks.start)?;
-    line.push_str(run)?;
-    line.push_str(marks.behind)
-}
-
 /// The border above or below a text: a corner, a run, a corner, each with its colour.
 fn outer_line(
     alloc: Global,
@@ -109,7 +98,11 @@ fn outer_line(
     };
     let mut line = String::new(alloc);
     push_marked(&mut line, begun(None, colors.corner), start)?;
-    push_run(&mut line, begun(first, colors.main), run)?;
+    let main = begun(first, colors.main);
+    line.push_str(main.close)?;
+    line.push_str(main.start)?;
+    line.push_str(run)?;
+    line.push_str(main.behind)?;
     push_marked(&mut line, begun(used, colors.right), end)?;
     line.push_str(ended(last))?;
     Ok(line)
@@ -134,14 +127,6 @@ fn push_block_line(
         content: Content::new(text),
     };
     draw_block_line(line, &cell, &drawing.padding_colors, y).map_err(|_| AllocError)
-}
-
-/// The width of a text with the borders at its sides. Fails if it exceeds `usize::MAX`.
-fn bordered_width(own: &Borders<char>, width: usize) -> Result<usize, AllocError>
-    ensures { IfOk result (λ n. n ≡ one_if (is_left own.now) + width + one_if (is_right own.now)) }
-{
-    let sides = one_if(is_left(own)) + one_if(is_right(own));
-    width.checked_add(sides).ok_or(AllocError)
 }
 
 /// A text and the borders that it draws.
@@ -245,7 +230,9 @@ impl BorderedText<'_, '_, '_> {
         if is_bottom(&self.own) {
             lines.push(self.bottom_text()?)?;
         }
-        let width = bordered_width(&self.own, self.inherited.place.width)?;
+        let sides = one_if(is_left(&self.own)) + one_if(is_right(&self.own));
+        let inner = self.inherited.place.width;
+        let width = inner.checked_add(sides).ok_or(AllocError)?;
         Ok(DrawnBlock { width, lines })
     }
 }

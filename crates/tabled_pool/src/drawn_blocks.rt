@@ -86,14 +86,6 @@ pub(crate) fn side_by_side(alloc: Global, blocks: &[DrawnBlock]) -> Result<Drawn
     Ok(DrawnBlock { width, lines })
 }
 
-fn widened_line(alloc: Global, text: &str, spaces: usize) -> Result<String, AllocError>
-    ensures { IfOk result (λ line. string_bytes line ≡ text.now ++ fill 32 spaces) }
-{
-    let mut line = String::from_str(alloc, text)?;
-    write_fill(&mut line, ' ', spaces).map_err(|_| AllocError)?;
-    Ok(line)
-}
-
 /// Appends the lines of a block, filled with spaces to `width` columns.
 fn push_widened(
     alloc: Global,
@@ -107,7 +99,9 @@ fn push_widened(
     let spaces = width.saturating_sub(block.width);
     let texts = block.lines.as_slice();
     for text in texts {
-        lines.push(widened_line(alloc, text.as_str(), spaces)?)?;
+        let mut line = String::from_str(alloc, text.as_str())?;
+        write_fill(&mut line, ' ', spaces).map_err(|_| AllocError)?;
+        lines.push(line)?;
     }
     Ok(())
 }

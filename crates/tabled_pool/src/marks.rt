@@ -1,7 +1,7 @@
 //! Marks: the prefixes and suffixes of colours around a border character or a run.
 ghost use Rattle.std.specs.Prelude.{◌++◌, ◌≡◌, []};
 ghost use Rattle.std.specs.Option.{option_map};
-ghost use Rattle.tabled_pool.specs.Colours.{coloured, is_same, mark_of};
+ghost use Rattle.tabled_pool.specs.Colours.{coloured, mark_of};
 ghost use Rattle.tabled_pool.specs.Marks.{alone, begun, ended, nothing_around, used_after};
 ghost use Rattle.tabled_pool.specs.Plans.{around_of};
 ghost use Rattle.tabled_line.specs.Fill.{fill};
@@ -71,7 +71,7 @@ pub fn begun(used: Option<ANSIStr<'static>>, color: Option<ANSIStr<'static>>) ->
             behind: "",
         };
     };
-    if is_same(used, color) {
+    if used.get_prefix() == color.get_prefix() && used.get_suffix() == color.get_suffix() {
         return Marks::none();
     }
     Marks {
@@ -116,10 +116,4 @@ pub(crate) fn draw_colored_fill<S: TextSink>(
     sink.write_text(color.get_prefix())?;
     write_fill(sink, c, count)?;
     sink.write_text(color.get_suffix())
-}
-
-pub(crate) fn is_same(first: ANSIStr<'static>, second: ANSIStr<'static>) -> bool
-    ensures { result ≡ is_same (mark_of first.entry) (mark_of second.entry) }
-{
-    first.get_prefix() == second.get_prefix() && first.get_suffix() == second.get_suffix()
 }

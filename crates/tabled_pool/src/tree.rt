@@ -6,10 +6,8 @@ use std::alloc::Global;
 
 /// A tree of texts, which a `PoolTable` prints. An empty row or column is drawn as an empty text.
 ///
-/// The stack limits how deep a tree may be: comparing it recurses at each level, and so does
-/// printing it with a `PoolTable`. On 8 MiB of stack, printing works to about 20,000 levels, or
-/// 15,000 with a text that is given no columns. A tree that is too deep overflows the stack and
-/// ends the process; no proof covers this. Copying and dropping a tree don't recurse.
+/// Comparing a tree recurses at each level, as printing it with a `PoolTable` does, which says how
+/// deep a tree may be. Copying and dropping a tree don't recurse.
 #[derive(Debug, PartialEq, Eq, PartialOrd, Ord)]
 pub enum TableValue {
     /// Values side by side, from the left.
