@@ -1,4 +1,5 @@
 pub mod BufferedRuns
+pub mod ChangedRows
 pub mod CutRuns
 pub mod Cutting
 pub mod EmptyRuns

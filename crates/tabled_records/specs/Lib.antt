@@ -1,4 +1,5 @@
 pub mod Buffered
+pub mod Changed
 pub mod CutRows
 pub mod Empty
 pub mod FirstCells

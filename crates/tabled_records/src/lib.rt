@@ -7,6 +7,8 @@
 //! - `lent_rows.rt`: `LentRows`, rows whose cells borrow one text; `text_rows` finds them in a
 //!   text. `lend_cells` makes records whose cells borrow those of other records.
 //! - `joined_records.rt`: `JoinedRecords`, rows of texts that are joined in one buffer.
+//! - `changed_records.rt`: `ChangedRecords`, other records with some cells changed;
+//!   `changed_cell.rt`: one of its cells.
 //!
 //! Records that make their cells on demand:
 //!
@@ -23,6 +25,8 @@
 #![tactic(auto)]
 
 mod buffer;
+mod changed_cell;
+mod changed_records;
 mod empty;
 mod iter_records;
 mod joined_records;
@@ -33,6 +37,7 @@ mod row_ranges;
 mod truncate;
 
 pub use buffer::{BufCells, BufRecords, BufRows};
+pub use changed_records::ChangedRecords;
 pub use empty::{EmptyCells, EmptyRecords, EmptyRows};
 pub use iter_records::IterRecords;
 pub use joined_records::JoinedRecords;

@@ -1,0 +1,192 @@
+//! What a cell of other records has become. It takes 24 bytes, and more only for a long text.
+ghost use Rattle.std.specs.Prelude.{◌≡◌, ◌+◌, ◌++◌, ◌≤◌, ℕ, IfErr, IfOk, List, MatchOption, drop, length, string_bytes, take};
+ghost use Rattle.std.specs.Str.{IsCharBoundary};
+ghost use Rattle.tabled_base.specs.ShortOr.{FitsBehind};
+ghost use Rattle.tabled_base.specs.declared.error.TableError.TheVariants.{Memory};
+ghost use Rattle.tabled_records.specs.Changed.{text_of};
+ghost use Rattle.tabled_records.specs.Joined.{IsTold};
+
+use std::marker::Model;
+use std::str;
+use tabled_base::{SHORT_TEXT, TableError};
+use tabled_text::laws::text_bounds;
+use tabled_text::text_measures;
+
+/// A text of at most 16 bytes with its columns and lines.
+#[derive(Drop)]
+pub(crate) struct ShortText {
+    bytes: [u8; SHORT_TEXT],
+    len: u8,
+    columns: u8,
+    lines: u8,
+}
+
+impl Model for ShortText {
+    ghost use Rattle.std.specs.Prelude.{◌≡◌, ◌≤◌, ℕ, List, length, take};
+    ghost use Rattle.std.specs.Str.{IsUtf8};
+    ghost use Rattle.tabled_text.specs.Measure.{lines_of, text_columns};
+
+    ghost Value = { List ℕ };
+
+    ghost view = { λ t. take t.len t.bytes };
+
+    ghost invariant = { λ t. (t.len ≤ 16) × IsUtf8 (take t.len t.bytes)
+        × (t.columns ≡ text_columns (take t.len t.bytes))
+        × (t.lines ≡ length (lines_of (take t.len t.bytes))) };
+}
+
+/// Copies a text over the bytes from `start` on.
+#[inline(always)]
+fn put(bytes: &mut [u8], start: usize, text: &str)
+    requires { start + length text.now ≤ length bytes.old }
+    ensures { bytes.new ≡ take start bytes.old ++ (text.now
+        ++ drop (start + length text.now) bytes.old) }
+{
+    bytes[start..start + text.len()].copy_from_slice(text.as_bytes());
+}
+
+impl ShortText {
+    /// Joins and measures two texts.
+    fn joined(front: &str, ending: &str) -> ShortText
+        requires { length front.now + length ending.now ≤ SHORT_TEXT }
+        ensures { result ≡ front.now ++ ending.now }
+    {
+        let mut bytes = [0; SHORT_TEXT];
+        let middle = front.len();
+        let len = middle + ending.len();
+        put(&mut bytes, 0, front);
+        put(&mut bytes, middle, ending);
+        // In range: both texts are UTF-8.
+        let (columns, lines) = text_measures(unsafe { str::from_utf8_unchecked(&bytes[..len]) });
+        text_bounds();
+        ShortText {
+            bytes,
+            len: len as u8,
+            columns: columns as u8,
+            lines: lines as u8,
+        }
+    }
+
+    fn text(&self) -> &str
+        ensures text { result.now ≡ self.now }
+        ensures short { length result.now ≤ SHORT_TEXT }
+    {
+        // In range: the invariant says so.
+        unsafe { str::from_utf8_unchecked(&self.bytes[..self.len as usize]) }
+    }
+}
+
+/// A text with its columns and lines.
+#[derive(Drop)]
+pub(crate) struct LongText {
+    text: String,
+    columns: usize,
+    lines: usize,
+}
+
+impl Model for LongText {
+    ghost use Rattle.std.specs.Prelude.{◌≡◌, ℕ, List, length, string_bytes};
+    ghost use Rattle.tabled_text.specs.Measure.{lines_of, text_columns};
+
+    ghost Value = { List ℕ };
+
+    ghost view = { λ t. string_bytes t.text };
+
+    ghost invariant = { λ t. (t.columns ≡ text_columns (string_bytes t.text))
+        × (t.lines ≡ length (lines_of (string_bytes t.text))) };
+}
+
+impl LongText {
+    fn new(text: String) -> LongText
+        ensures { result ≡ string_bytes text }
+    {
+        let (columns, lines) = text_measures(text.as_str());
+        LongText {
+            text,
+            columns,
+            lines,
+        }
+    }
+
+    fn shorten(&mut self, bytes: usize)
+        requires { IsCharBoundary self.old bytes }
+        ensures { self.new ≡ take bytes self.old }
+    {
+        self.text.truncate(bytes);
+        let (columns, lines) = text_measures(self.text.as_str());
+        self.columns = columns;
+        self.lines = lines;
+    }
+}
+
+/// What a cell has become.
+#[derive(Drop)]
+pub(crate) enum ChangedCell<'a> {
+    /// It is unchanged.
+    Same,
+    /// A beginning of its text. It is measured when it is read.
+    Front(&'a str),
+    Short(ShortText),
+    Long(Box<LongText>),
+}
+
+impl<'a> ChangedCell<'a> {
+    /// Keeps a text, unless it is the one that the cell had. Error: `Memory`.
+    pub fn new(text: String, old: &str) -> Result<ChangedCell<'a>, TableError>
+        ensures ok { IfOk result (λ cell. text_of cell old.now ≡ string_bytes text) }
+        ensures only { IfErr result (λ e. e ≡ Memory) }
+    {
+        if text.as_str() == old {
+            return Ok(ChangedCell::Same);
+        }
+        if text.len() <= SHORT_TEXT {
+            return Ok(ChangedCell::Short(ShortText::joined(text.as_str(), "")));
+        }
+        let alloc = *text.allocator();
+        Ok(ChangedCell::Long(Box::new(alloc, LongText::new(text))?))
+    }
+
+    /// Returns the text of the cell with its columns and lines, or `None` if it is unchanged.
+    #[inline(always)]
+    pub fn measured(&self) -> Option<(&str, usize, usize)>
+        ensures { MatchOption result ((old : List ℕ) → text_of self.now old ≡ old)
+            (λ told. (old : List ℕ) → IsTold (text_of self.now old) told.0.now told.1 told.2) }
+    {
+        match self {
+            ChangedCell::Same => None,
+            ChangedCell::Front(text) => {
+                let (columns, lines) = text_measures(text);
+                Some((text, columns, lines))
+            }
+            ChangedCell::Short(short) => {
+                Some((short.text(), short.columns as usize, short.lines as usize))
+            }
+            ChangedCell::Long(long) => Some((long.text.as_str(), long.columns, long.lines)),
+        }
+    }
+
+    /// Truncates the text to `bytes` bytes and appends an ending. `old` is the text of the
+    /// unchanged cell.
+    pub fn shorten(&mut self, old: &'a str, bytes: usize, ending: &str)
+        requires boundary { IsCharBoundary (text_of self.old old.now) bytes }
+        requires fits { FitsBehind bytes ending.now }
+        ensures { text_of self.new old.now
+            ≡ take bytes (text_of self.old old.now) ++ ending.now }
+    {
+        if bytes <= SHORT_TEXT {
+            let (text, _, _) = self.measured().unwrap_or((old, 0, 1));
+            let (front, _) = text.split_at(bytes);
+            *self = ChangedCell::Short(ShortText::joined(front, ending));
+            return;
+        }
+        match self {
+            ChangedCell::Same => *self = ChangedCell::Front(old.split_at(bytes).0),
+            ChangedCell::Front(text) => *text = text.split_at(bytes).0,
+            ChangedCell::Short(short) => {
+                // It has at most 16 bytes. The proof reads that here.
+                let _ = short.text();
+            }
+            ChangedCell::Long(long) => long.shorten(bytes),
+        }
+    }
+}
