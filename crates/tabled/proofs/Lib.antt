@@ -2,7 +2,6 @@ pub mod FittedTables
 pub mod LowTables
 pub mod Noting
 pub mod Outputs
-pub mod Reading
 pub mod RenderedTables
 pub mod BytesSince
 pub mod StreamedTables

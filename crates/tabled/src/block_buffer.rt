@@ -1,5 +1,5 @@
 //! A buffer of bytes for a writer.
-ghost use Rattle.std.specs.Prelude.{◌≡◌, ◌+◌, ◌≤◌, ◌^◌, [], ◌++◌, IfOk, drop, length, vec_len};
+ghost use Rattle.std.specs.Prelude.{◌≡◌, ◌+◌, ◌≤◌, ◌^◌, [], ◌++◌, IfOk, length, vec_len};
 
 use std::alloc::{AllocError, Global};
 
@@ -10,8 +10,8 @@ pub(crate) const BLOCK: usize = 1 << 16;
 #[derive(Drop)]
 pub(crate) struct BlockBuffer {
     bytes: Vec<u8>,
-    used: usize,
-    taken: usize,
+    pub used: usize,
+    pub taken: usize,
     ghost whole: { vec_len bytes ≡ 2 ^ 16 },
     ghost within: { taken ≤ used },
     ghost inside: { used ≤ 2 ^ 16 },
@@ -31,34 +31,11 @@ impl BlockBuffer {
         })
     }
 
-    /// Returns how many bytes are filled, with those the writer took.
-    pub fn len(&self) -> usize
-        ensures { result ≡ self.now.used }
-    {
-        self.used
-    }
-
     /// Returns the bytes that the writer didn't take yet.
     pub fn rest(&self) -> &[u8]
         ensures { result.now ≡ waiting self.now }
     {
         &self.bytes[self.taken..self.used]
-    }
-
-    /// Marks `count` more bytes as taken by the writer.
-    pub fn take(&mut self, count: usize)
-        requires { count ≤ length (waiting self.old) }
-        ensures { waiting self.new ≡ drop count (waiting self.old) }
-    {
-        self.taken += count;
-    }
-
-    pub fn clear(&mut self)
-        ensures waiting { waiting self.new ≡ [] }
-        ensures used { self.new.used ≡ 0 }
-    {
-        self.taken = 0;
-        self.used = 0;
     }
 
     /// Appends bytes, which must fit. A single byte, the most frequent case, is stored directly.

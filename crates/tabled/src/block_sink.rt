@@ -55,13 +55,14 @@ impl<'a, W: Write> BlockSink<'a, W> {
         if self.failures > 0 {
             return Err(self.fail());
         }
-        'taken: while !self.held.rest().is_empty() {
+        'taken: while self.held.taken < self.held.used {
             match self.writer.write(self.held.rest()) {
-                Ok(n) if n > 0 => self.held.take(n),
+                Ok(n) if n > 0 => self.held.taken += n,
                 _ => return Err(self.fail()),
             }
         }
-        self.held.clear();
+        self.held.taken = 0;
+        self.held.used = 0;
         Ok(())
     }
 
@@ -74,7 +75,7 @@ impl<'a, W: Write> BlockSink<'a, W> {
     {
         let mut rest = bytes;
         'pieces: loop {
-            let room = BLOCK - self.held.len();
+            let room = BLOCK - self.held.used;
             if rest.len() <= room {
                 self.held.add(rest);
                 return Ok(());
@@ -84,19 +85,6 @@ impl<'a, W: Write> BlockSink<'a, W> {
             self.flush_block()?;
             rest = back;
         }
-    }
-
-    #[inline(always)]
-    fn add_text(&mut self, text: &str) -> Result<(), TableError>
-        ensures written { Writes (block_sent (block W.contents self.old)) result
-            (block_sent (block W.contents self.new)) text.now }
-        ensures advanced { Advances (block W.contents self.old) (block W.contents self.new) }
-    {
-        if self.held.len() + text.len() <= BLOCK {
-            self.held.add(text.as_bytes());
-            return Ok(());
-        }
-        self.buffer_parts(text.as_bytes())
     }
 
     /// Writes all buffered bytes, and flushes the writer.
@@ -143,6 +131,10 @@ impl<'a, W: Write, B: WriterStart> TextSink for BytesSince<'a, W, B> {
 
     #[inline(always)]
     fn write_text(&mut self, text: &str) -> Result<(), TableError> {
-        self.sink.add_text(text)
+        if self.sink.held.used + text.len() <= BLOCK {
+            self.sink.held.add(text.as_bytes());
+            return Ok(());
+        }
+        self.sink.buffer_parts(text.as_bytes())
     }
 }

@@ -30,10 +30,10 @@ const BLOCK: usize = 1 << 16;
 /// The number of reads after which reading fails.
 const READS: u64 = 1 << 40;
 
-/// Reads all bytes. Fails at the first error of a read, `Interrupted` too.
-fn read_all<I: Read>(alloc: Global, input: &mut I) -> Result<Vec<u8>, Fault>
-    ensures all { IfOk result (λ bytes. IfSome (I.remaining input.old) (λ all. bytes.items ≡ all)) }
-    ensures ended { OnOk result (IsAtEnd (I.remaining input.new)) }
+/// Reads all bytes, which must be UTF-8. Fails at the first error of a read, `Interrupted` too.
+fn read_text<I: Read>(alloc: Global, input: &mut I) -> Result<String, Fault>
+    ensures text { IfOk result (λ text. HasRead (I.remaining input.old) (I.remaining input.new)
+        (string_bytes text)) }
     ensures failed { IfErr result (λ fault. (fault ≡ Input) ⊎ (fault ≡ Memory)) }
 {
     let mut bytes = Vec::new(alloc);
@@ -43,27 +43,17 @@ fn read_all<I: Read>(alloc: Global, input: &mut I) -> Result<Vec<u8>, Fault>
             return Err(Fault::Input);
         };
         if count == 0 {
-            return Ok(bytes);
+            if !is_utf8(&bytes) {
+                return Err(Fault::Input);
+            }
+            // In range: the bytes are checked above.
+            return Ok(unsafe { String::from_utf8_unchecked(bytes) });
         }
         if bytes.extend_from_slice(&block[..count]).is_err() {
             return Err(Fault::Memory);
         }
     }
     Err(Fault::Input)
-}
-
-/// Reads all bytes, and fails unless they are UTF-8.
-fn read_text<I: Read>(alloc: Global, input: &mut I) -> Result<String, Fault>
-    ensures text { IfOk result (λ text. HasRead (I.remaining input.old) (I.remaining input.new)
-        (string_bytes text)) }
-    ensures failed { IfErr result (λ fault. (fault ≡ Input) ⊎ (fault ≡ Memory)) }
-{
-    let bytes = read_all(alloc, input)?;
-    if !is_utf8(&bytes) {
-        return Err(Fault::Input);
-    }
-    // In range: the bytes are checked above.
-    Ok(unsafe { String::from_utf8_unchecked(bytes) })
 }
 
 /// Prints a text as a table under a plan, and a line feed unless the text is empty. Returns the

@@ -1,4 +1,5 @@
-use Rattle.std.proofs.Common.{[], refl, arith}
+use Rattle.std.proofs.Common.{[], refl, sym, take, arith}
+use Rattle.std.proofs.lemmas.List.{drop-drop}
 use Rattle.std.specs.Io.KnownBytes.{Keeps}
 use Rattle.tabled_line.proofs.Sending.{Appends-nil, further}
 use Rattle.tabled.specs.BlockSent.{waiting}
@@ -10,7 +11,8 @@ pub taken-preserved : goal.taken-preserved
 taken-preserved g c = record {
   sends = further c.taken.invariant.sends
       (record {
-        added = took _ _ (waiting c.taken.self.held.now) _ _ c.in-Ok.n c.rest-in-taken.ensures c.take.ensures
+        added = took _ _ (waiting c.taken.self.held.now) _ _ c.in-Ok.n c.rest.ensures
+            (sym (drop-drop c.in-Ok.n c.taken.self.held.now.taken (take c.taken.self.held.now.used c.taken.self.held.now.bytes.items)))
             c.in-Ok.ensures.bytes;
         counted = omega arith;
         alike = refl;

@@ -1,6 +1,6 @@
-use Rattle.std.proofs.Common.{[], length}
+use Rattle.std.proofs.Common.{[], ◌-◌}
 use Rattle.tabled_line.specs.Sent.{Sends}
-use Rattle.tabled.specs.BlockSent.{Advances, block, block_sent, waiting}
+use Rattle.tabled.specs.BlockSent.{Advances, block, block_sent}
 use Rattle.tabled.proofs.block_sink.BlockSink.flush_block.Given as goal
 
 abbrev pub invariant-taken : goal.invariant-taken
@@ -10,4 +10,4 @@ invariant-taken g l = record {
 }
 
 abbrev pub decreases-taken : goal.decreases-taken
-decreases-taken g l = length (waiting l.self.held.now)
+decreases-taken g l = l.self.held.now.used - l.self.held.now.taken
