@@ -21,7 +21,7 @@ use tabled_base::{
 };
 use tabled_config::{ColoredConfig, Style};
 use tabled_grid::{TextSink, print_estimated, print_standing};
-use tabled_records::{lend_cells, text_rows};
+use tabled_records::{ChangedRecords, lend_cells, text_rows};
 use tabled_set::{Truncate, Wrap};
 use tabled_size::CompleteDimension;
 use tabled_table::{IterTable, new_config};
@@ -81,7 +81,7 @@ fn print_measured<R: PeekableRecords, S: TextSink>(
     if let Plan::Buffered | Plan::Streamed = plan {
         return print_estimated(alloc, sink, rows, config.as_ref());
     }
-    let mut records = lend_cells(alloc, rows)?;
+    let mut records = ChangedRecords::new(alloc, rows)?;
     let sizes = narrow(alloc, plan, &mut records, &mut config)?;
     print_standing(sink, &records, config.as_ref(), &sizes)
 }
