@@ -11,19 +11,19 @@ use Rattle.tabled_base.proofs.LengthenedRows.{lengthened_rows-more}
 use Rattle.tabled_records.specs.JoinedRows.{AreRanges, longest_range, part, parts, rows_in}
 use Rattle.tabled_records.specs.TextRows.{cells_of, most_cells}
 
-length-part : (texts : List (List ℕ)) (range : ℕ × ℕ) → range.0 + range.1 ≤ length texts → length (part texts range) ≡ range.1
+length-part : {A : Type 0} (texts : List A) (range : ℕ × ℕ) → range.0 + range.1 ≤ length texts → length (part texts range) ≡ range.1
 length-part texts range h = omega (arith, length-take range.1 (drop range.0 texts), length-drop range.0 texts)
 
 pub length-rows : (texts : List (List ℕ)) (ranges : List (ℕ × ℕ)) → length (rows_in texts ranges) ≡ length ranges
 length-rows texts ranges = length-map (parts texts ranges) (lengthened (longest (parts texts ranges))) ∙ length-map ranges (part texts)
 
 -- further texts leave a row that is there
-part-append : (texts more : List (List ℕ)) (range : ℕ × ℕ) → range.0 + range.1 ≤ length texts → part (texts ++ more) range ≡ part texts range
+part-append : {A : Type 0} (texts more : List A) (range : ℕ × ℕ) → range.0 + range.1 ≤ length texts → part (texts ++ more) range ≡ part texts range
 part-append texts more range h =
     ap (take range.1) (drop-append-le range.0 texts more (omega arith))
     ∙ take-append-le range.1 (drop range.0 texts) more (omega (arith, length-drop range.0 texts))
 
-pub parts-append : (texts more : List (List ℕ)) (ranges : List (ℕ × ℕ)) → AreRanges (length texts) ranges → parts (texts ++ more) ranges ≡ parts texts ranges
+pub parts-append : {A : Type 0} (texts more : List A) (ranges : List (ℕ × ℕ)) → AreRanges (length texts) ranges → parts (texts ++ more) ranges ≡ parts texts ranges
 parts-append texts more [] h = refl
 parts-append texts more (range ∷ ranges) h =
     let own = All-head (λ range. range.0 + range.1 ≤ length texts) range ranges h in
@@ -31,7 +31,7 @@ parts-append texts more (range ∷ ranges) h =
     ∙ ap (λ rows. part texts range ∷ rows) (parts-append texts more ranges (All-tail (λ range. range.0 + range.1 ≤ length texts) range ranges h))
 
 -- the row whose texts are all from one on
-pub part-last : (texts : List (List ℕ)) (range : ℕ × ℕ) → range.0 + range.1 ≡ length texts → part texts range ≡ drop range.0 texts
+pub part-last : {A : Type 0} (texts : List A) (range : ℕ × ℕ) → range.0 + range.1 ≡ length texts → part texts range ≡ drop range.0 texts
 part-last texts range e =
     let rest = drop range.0 texts in
     let count : range.1 ≡ length rest = omega (arith, length-drop range.0 texts) in
@@ -51,7 +51,8 @@ pub longest-next : (ranges : List (ℕ × ℕ)) (range : ℕ × ℕ) → longest
 longest-next [] range = omega arith
 longest-next (first ∷ ranges) range = omega (arith, longest-next ranges range)
 
-longest-parts : (texts : List (List ℕ)) (ranges : List (ℕ × ℕ)) → AreRanges (length texts) ranges → longest_range ranges ≡ longest (parts texts ranges)
+pub longest-parts : {A : Type 0} (texts : List A) (ranges : List (ℕ × ℕ)) → AreRanges (length texts) ranges
+    → longest_range ranges ≡ greatest (map length (parts texts ranges))
 longest-parts texts [] h = refl
 longest-parts texts (range ∷ ranges) h =
     let own = length-part texts range (All-head (λ range. range.0 + range.1 ≤ length texts) range ranges h) in
@@ -69,25 +70,29 @@ pub rows-kept : (texts added new : List (List ℕ)) (ranges : List (ℕ × ℕ))
     → rows_in new ranges ≡ rows_in texts ranges
 rows-kept texts added new ranges h e = ap (λ t. rows_in t ranges) e ∙ ap lengthened_rows (parts-append texts added ranges h)
 
-pub ranges-kept : (texts added new : List (List ℕ)) (ranges : List (ℕ × ℕ)) → AreRanges (length texts) ranges → new ≡ texts ++ added
+pub ranges-kept : {A : Type 0} (texts added new : List A) (ranges : List (ℕ × ℕ)) → AreRanges (length texts) ranges → new ≡ texts ++ added
     → AreRanges (length new) ranges
 ranges-kept texts added new ranges h e = ranges-grown (length texts) (length new) ranges h (omega (arith, ap length e, length-append texts added))
 
 -- the added texts are a further row
-pub rows-added : (texts added new : List (List ℕ)) (ranges all : List (ℕ × ℕ)) (start count : ℕ) → AreRanges (length texts) ranges → new ≡ texts ++ added
-    → start ≡ length texts → count ≡ length added → all ≡ ranges ++ (start, count) ∷ [] → rows_in new all ≡ with_record (rows_in texts ranges) added
-rows-added texts added new ranges all start count h e first more last =
+pub parts-added : {A : Type 0} (texts added new : List A) (ranges all : List (ℕ × ℕ)) (start count : ℕ) → AreRanges (length texts) ranges
+    → new ≡ texts ++ added → start ≡ length texts → count ≡ length added → all ≡ ranges ++ (start, count) ∷ []
+    → parts new all ≡ parts texts ranges ++ added ∷ []
+parts-added texts added new ranges all start count h e first more last =
     let own : part (texts ++ added) (start, count) ≡ added =
     part-last (texts ++ added) (start, count) (omega (arith, first, more, length-append texts added))
     ∙ ap (λ n. drop n (texts ++ added)) first ∙ drop-append_seam texts added in
-    ap (λ t. rows_in t all) e ∙ ap (rows_in (texts ++ added)) last
-    ∙ ap lengthened_rows
-    (map-append (part (texts ++ added)) ranges ((start, count) ∷ [])
+    ap (λ t. parts t all) e ∙ ap (parts (texts ++ added)) last
+    ∙ map-append (part (texts ++ added)) ranges ((start, count) ∷ [])
     ∙ ap (λ rows. rows ++ part (texts ++ added) (start, count) ∷ []) (parts-append texts added ranges h)
-    ∙ ap (λ row. parts texts ranges ++ row ∷ []) own)
-    ∙ sym (lengthened_rows-more (parts texts ranges) added)
+    ∙ ap (λ row. parts texts ranges ++ row ∷ []) own
 
-pub ranges-added : (texts added new : List (List ℕ)) (ranges all : List (ℕ × ℕ)) (start count : ℕ) → AreRanges (length texts) ranges → new ≡ texts ++ added
+pub rows-added : (texts added new : List (List ℕ)) (ranges all : List (ℕ × ℕ)) (start count : ℕ) → AreRanges (length texts) ranges → new ≡ texts ++ added
+    → start ≡ length texts → count ≡ length added → all ≡ ranges ++ (start, count) ∷ [] → rows_in new all ≡ with_record (rows_in texts ranges) added
+rows-added texts added new ranges all start count h e first more last =
+    ap lengthened_rows (parts-added texts added new ranges all start count h e first more last) ∙ sym (lengthened_rows-more (parts texts ranges) added)
+
+pub ranges-added : {A : Type 0} (texts added new : List A) (ranges all : List (ℕ × ℕ)) (start count : ℕ) → AreRanges (length texts) ranges → new ≡ texts ++ added
     → start ≡ length texts → count ≡ length added → all ≡ ranges ++ (start, count) ∷ [] → AreRanges (length new) all
 ranges-added texts added new ranges all start count h e first more last =
     let grown = ap length e ∙ length-append texts added in

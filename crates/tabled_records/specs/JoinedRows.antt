@@ -1,16 +1,17 @@
--- Rows of texts. A range is the index of the first text of a row, and the number of its texts.
+-- Rows of items in one list. A range is the index of a row's first item, and the number of its
+-- items.
 use Rattle.std.specs.Prelude.{◌≡◌, ℕ, ◌+◌, ◌<◌, ◌≤◌, List, [], drop, length, map, slice_index_or, take}
 use Rattle.std.specs.List.{All}
 use Rattle.tabled_text.specs.Measure.{greatest, text_columns}
 use Rattle.tabled_base.specs.Cells.{lengthened_rows}
 
--- the texts of a row
-abbrev pub part : List (List ℕ) → ℕ × ℕ → List (List ℕ)
-part texts range = take range.1 (drop range.0 texts)
+-- the items of a row
+abbrev pub part : {A : Type 0} → List A → ℕ × ℕ → List A
+part items range = take range.1 (drop range.0 items)
 
--- the texts of all rows
-abbrev pub parts : List (List ℕ) → List (ℕ × ℕ) → List (List (List ℕ))
-parts texts ranges = map (part texts) ranges
+-- the items of all rows
+abbrev pub parts : {A : Type 0} → List A → List (ℕ × ℕ) → List (List A)
+parts items ranges = map (part items) ranges
 
 -- the rows, each filled up to the longest with empty cells
 abbrev pub rows_in : List (List ℕ) → List (ℕ × ℕ) → List (List (List ℕ))

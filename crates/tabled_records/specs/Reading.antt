@@ -1,5 +1,5 @@
 -- Rows that are read from an iterator, with their cells.
-use Rattle.std.specs.Prelude.{◌≡◌, ℕ, ◌<◌, ◌≤◌, Bool, true, false, List, length}
+use Rattle.std.specs.Prelude.{◌≡◌, ℕ, ◌<◌, ◌≤◌, Bool, true, false, List, [], ◌∷◌, ◌++◌, length}
 use Rattle.std.specs.List.{All, AllZip}
 use Rattle.std.specs.declared.option.Option.{Option}
 use Rattle.std.specs.declared.option.Option.TheVariants.{None}
@@ -26,6 +26,13 @@ pub record Reads {S W T A : Type 0} (row_steps : S → Option W → S → Type 0
   pub lists : List W
   pub yielded : Yields row_steps from lists to
   pub each : AllZip (Given cells_become cell_steps) lists cells
+
+-- whether a row is yielded, and its cells are appended to a list
+abbrev pub IsAppended : {S W T A : Type 0} → (S → Option W → S → Type 0) → (W → T → Type 0) → (T → Option A → T → Type 0)
+    → S → List A → Bool → List A → S → Type 0
+IsAppended {A = A} row_steps cells_become cell_steps from old true new to =
+    (row : List A) × Reads row_steps cells_become cell_steps from (row ∷ []) to × (new ≡ old ++ row)
+IsAppended row_steps cells_become cell_steps from old false new to = row_steps from None to × (new ≡ old)
 
 -- at least one row is yielded, and at most `most` rows
 pub record ReadsSome {S W T A : Type 0} (row_steps : S → Option W → S → Type 0) (cells_become : W → T → Type 0)

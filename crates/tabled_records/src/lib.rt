@@ -6,6 +6,7 @@
 //!   that takes half the memory while the numbers are small.
 //! - `lent_rows.rt`: `LentRows`, rows whose cells borrow one text; `text_rows` finds them in a
 //!   text. `lend_cells` makes records whose cells borrow those of other records.
+//! - `flat_rows.rt`: `FlatRows`, rows whose cells are in one list.
 //! - `joined_records.rt`: `JoinedRecords`, rows of texts that are joined in one buffer.
 //! - `changed_records.rt`: `ChangedRecords`, other records with some cells changed;
 //!   `changed_cell.rt`: one of its cells.
@@ -28,6 +29,7 @@ mod buffer;
 mod changed_cell;
 mod changed_records;
 mod empty;
+pub mod flat_rows;
 mod iter_records;
 mod joined_records;
 mod lent_rows;

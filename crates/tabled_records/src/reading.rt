@@ -5,21 +5,22 @@ ghost use Rattle.std.specs.Iterator.{IsFinite, IsFiniteIterable, YieldsThen, siz
 ghost use Rattle.tabled_base.specs.declared.error.TableError.TheVariants.{Memory};
 ghost use Rattle.tabled_base.specs.Given.{Given};
 ghost use Rattle.tabled_records.specs.Buffered.{cells_ahead};
-ghost use Rattle.tabled_records.specs.Reading.{MayGive, Reads, ReadsSome, ReadsTo, Walked};
+ghost use Rattle.tabled_records.specs.Reading.{IsAppended, MayGive, Reads, ReadsSome, ReadsTo, Walked};
 
-use std::alloc::{AllocError, Global};
+use std::alloc::Global;
 use tabled_base::TableError;
 
-/// Appends cells to a row. If it fails, the cells after the failed one aren't read.
+/// Appends cells to a row. Error: `Memory`; the cells after the failed one aren't read then.
 fn keep_cells<I: Iterator<Item = C>, C: Drop>(
     row: &mut Vec<C>,
     cells: &mut I,
-) -> Result<(), AllocError>
+) -> Result<(), TableError>
     requires can { I.can_next cells.old }
     requires finite { IsFinite (I.remaining cells.old) }
     ensures ok { OnOk result ((items : List C) × YieldsThen I.next_gives cells.old items None cells.new
         × (row.new.items ≡ row.old.items ++ items)) }
     ensures err { OnErr result (Walked I.can_next I.next_gives I.remaining cells.old cells.new) }
+    ensures only { IfErr result (λ e. e ≡ Memory) }
 {
     'cells: while let Some(cell) = cells.next() {
         row.push(cell)?;
@@ -27,25 +28,50 @@ fn keep_cells<I: Iterator<Item = C>, C: Drop>(
     Ok(())
 }
 
-/// Reads the cells of a row. If it fails, the other cells are read and dropped, so that a source
-/// whose rows share their input goes on with its next row.
-fn collect_cells<I: IntoIterator<Item = C>, C: Drop>(
-    alloc: Global,
+/// Appends the cells of a row to a list. Error: `Memory`; the other cells are read and dropped then,
+/// so that a source whose rows share their input goes on with its next row.
+fn append_row<I: IntoIterator<Item = C>, C: Drop>(
+    list: &mut Vec<C>,
     cells: I,
-) -> Result<Vec<C>, AllocError>
+) -> Result<(), TableError>
     requires { IsFiniteIterable I.into_iter_gives I.IntoIter.can_next I.IntoIter.remaining cells }
-    ensures ok { IfOk result (λ row.
-        Given I.into_iter_gives I.IntoIter.next_gives cells row.items) }
-    ensures err { OnErr result ((items : List C)
-        × Given I.into_iter_gives I.IntoIter.next_gives cells items) }
+    ensures ok { OnOk result ((row : List C) × Given I.into_iter_gives I.IntoIter.next_gives cells row
+        × (list.new.items ≡ list.old.items ++ row)) }
+    ensures err { OnErr result ((row : List C)
+        × Given I.into_iter_gives I.IntoIter.next_gives cells row) }
+    ensures only { IfErr result (λ e. e ≡ Memory) }
 {
     let mut cells = cells.into_iter();
-    let mut row = Vec::new(alloc);
-    if let Err(error) = keep_cells(&mut row, &mut cells) {
+    if let Err(error) = keep_cells(list, &mut cells) {
         walk_rest(&mut cells);
         return Err(error);
     }
-    Ok(row)
+    Ok(())
+}
+
+/// Appends the cells of the next row to a list. Returns whether there is a row. Error: `Memory`,
+/// only if there is a row; its cells are read to their end then.
+pub fn append_cells<I: Iterator<Item = W>, W: IntoIterator<Item = C>, C: Drop>(
+    list: &mut Vec<C>,
+    rows: &mut I,
+) -> Result<bool, TableError>
+    requires { MayGive I.can_next I.next_gives I.remaining W.into_iter_gives W.IntoIter.can_next W.IntoIter.remaining rows.old }
+    ensures ok { IfOk result (λ more. IsAppended I.next_gives W.into_iter_gives W.IntoIter.next_gives
+        rows.old list.old.items more list.new.items rows.new) }
+    ensures goes { IfOk result (λ more. more ≡ true
+        → MayGive I.can_next I.next_gives I.remaining W.into_iter_gives W.IntoIter.can_next W.IntoIter.remaining rows.new
+        × (size (I.remaining rows.new) < size (I.remaining rows.old))) }
+    ensures err { OnErr result ((row : List C)
+        × Reads I.next_gives W.into_iter_gives W.IntoIter.next_gives rows.old (row ∷ []) rows.new) }
+    ensures only { IfErr result (λ e. e ≡ Memory) }
+{
+    match rows.next() {
+        Some(row) => {
+            append_row(list, row)?;
+            Ok(true)
+        }
+        None => Ok(false),
+    }
 }
 
 /// Reads the cells of the next row, if there is one. Error: `Memory`, only if there is a row; its
@@ -64,17 +90,16 @@ pub fn next_cells<I: Iterator<Item = W>, W: IntoIterator<Item = C>, C: Drop>(
         × Reads I.next_gives W.into_iter_gives W.IntoIter.next_gives rows.old (row ∷ []) rows.new) }
     ensures only { IfErr result (λ e. e ≡ Memory) }
 {
-    match rows.next() {
-        Some(row) => Ok(Some(collect_cells(alloc, row)?)),
-        None => Ok(None),
-    }
+    let mut row = Vec::new(alloc);
+    let more = append_cells(&mut row, rows)?;
+    Ok(if more { Some(row) } else { None })
 }
 
 /// Rows that were read, and whether they are all.
 #[derive(Drop)]
-pub struct Taken<C> {
-    /// The cells of each row.
-    pub rows: Vec<Vec<C>>,
+pub struct Taken<R> {
+    /// The rows, with their cells.
+    pub rows: R,
     /// Whether there are no more rows.
     pub whole: bool,
 }
@@ -85,7 +110,7 @@ pub fn take_rows<I: Iterator<Item = W>, W: IntoIterator<Item = C>, C: Drop>(
     alloc: Global,
     rows: &mut I,
     count: usize,
-) -> Result<Taken<C>, TableError>
+) -> Result<Taken<Vec<Vec<C>>>, TableError>
     requires { MayGive I.can_next I.next_gives I.remaining W.into_iter_gives W.IntoIter.can_next W.IntoIter.remaining rows.old }
     ensures ok { IfOk result (λ taken. ReadsTo I.next_gives W.into_iter_gives W.IntoIter.next_gives rows.old
         (cells_ahead taken.rows.items) taken.whole rows.new) }
@@ -102,13 +127,17 @@ pub fn take_rows<I: Iterator<Item = W>, W: IntoIterator<Item = C>, C: Drop>(
         match next_cells(alloc, rows)? {
             Some(cells) => taken.push(cells)?,
             None => {
-                let whole = true;
-                return Ok(Taken { rows: taken, whole });
+                return Ok(Taken {
+                    rows: taken,
+                    whole: true,
+                });
             }
         }
     }
-    let whole = false;
-    Ok(Taken { rows: taken, whole })
+    Ok(Taken {
+        rows: taken,
+        whole: false,
+    })
 }
 
 /// Reads the remaining cells and drops them.

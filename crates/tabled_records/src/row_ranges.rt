@@ -136,6 +136,15 @@ impl RowRanges {
         self.columns
     }
 
+    /// Returns the range of a row.
+    #[inline(always)]
+    pub fn at(&self, row: usize) -> (usize, usize)
+        requires { row < length self.now }
+        ensures { result ≡ slice_index_or self.now row result }
+    {
+        self.ranges.at(row)
+    }
+
     /// Adds a row. Error: `Memory`; the rows are unchanged then.
     #[inline(always)]
     pub fn push(&mut self, start: usize, count: usize) -> Result<(), TableError>

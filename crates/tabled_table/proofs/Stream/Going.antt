@@ -3,9 +3,6 @@ use Rattle.std.proofs.Common.{◌≡◌, ◌⊎◌, ℕ, ◌<◌, Bool, true, fa
 use Rattle.std.proofs.Common.{inl, inr, append-nil, ◌++◌, Ok, Err, length-append, map, ap, ◌∙◌, ◌+◌, ◌-◌, ◌≤◌, ◌||◌, not, nat_lt}
 use Rattle.std.proofs.Common.{if◌then◌else◌, ◌∷◌, is_some, unwrap_or, take, IfErr, MatchOption, MatchResult, ⊎_elim, get_or, append_assoc}
 use Rattle.std.proofs.lemmas.List.{map-append, length-take, take_more}
-use Rattle.std.specs.declared.alloc.Global.{Global}
-use Rattle.std.specs.declared.vec.Vec.{Vec}
-use Rattle.tabled_base.specs.Cells.{texts_of}
 use Rattle.tabled_base.specs.declared.error.TableError.{TableError}
 use Rattle.tabled_config.specs.declared.compact.CompactConfig.{CompactConfig}
 use Rattle.tabled_line.specs.Sent.{Sent}
@@ -15,7 +12,6 @@ use Rattle.tabled_table.specs.Stream.Progress.{AreFurther, EndsSheet, FinishesBe
 use Rattle.tabled_table.specs.Stream.Progress.{HaltsMore, HaltsWithin, HasPutMore, ReadsOn, PutsNext, PutsRows}
 use Rattle.tabled_records.specs.Reading.{Reads, ReadsTo}
 use Rattle.tabled_table.specs.Stream.Streams.{ArePermitted, Streams, stream_total}
-use Rattle.tabled_table.proofs.Stream.Measures.{given-texts}
 use Rattle.tabled_records.proofs.RowsRead.{reads-both}
 use Rattle.std.specs.Result.{IsErrAnd}
 use Rattle.std.proofs.lemmas.Bool.{cases_lt}
@@ -66,20 +62,18 @@ module _ {S W T A : Type 0} {steps : S → Option W → S → Type 0} {becomes :
 
   -- all that was read: the rows that were taken first, and those after them
   pub all-read : {R : Type 0} (settings : StreamSettings) (config : CompactConfig) (old new : Sent) (r : Result R TableError) (text : A → List ℕ)
-      (items : List (Vec A Global)) (more : List (List A)) (all whole : Bool) (from between to : S)
-      → ReadsTo steps becomes cell_steps from (map (λ row. row.items) items) all between
-      → ReadsOn steps becomes cell_steps (map (λ row. row.items) items) all between more whole to
-      → ArePermitted settings (texts_of text items ++ map (map text) more)
-      → Streams settings config (texts_of text items ++ map (map text) more) whole old r new
+      (items : List (List A)) (more : List (List A)) (all whole : Bool) (from between to : S)
+      → ReadsTo steps becomes cell_steps from items all between
+      → ReadsOn steps becomes cell_steps items all between more whole to
+      → ArePermitted settings (map (map text) items ++ map (map text) more)
+      → Streams settings config (map (map text) items ++ map (map text) more) whole old r new
       → (cells : List (List A)) × (last : Bool) × ReadsTo steps becomes cell_steps from cells last to
       × ArePermitted settings (map (map text) cells) × Streams settings config (map (map text) cells) last old r new
   all-read settings config old new r text items more all whole from between to read on permitted streams =
-      let first = map (λ row. row.items) items in
-      let texts : map (map text) (first ++ more) ≡ texts_of text items ++ map (map text) more =
-      map-append (map text) first more ∙ ap (λ rows. rows ++ map (map text) more) (given-texts text items) in
+      let texts : map (map text) (items ++ more) ≡ map (map text) items ++ map (map text) more = map-append (map text) items more in
       let P : List (List (List ℕ)) → Type 0 = ArePermitted settings in
       let Q : List (List (List ℕ)) → Type 0 = λ rows. Streams settings config rows whole old r new in
-      (first ++ more, whole, on from read, subst P (sym texts) permitted, subst Q (sym texts) streams)
+      (items ++ more, whole, on from read, subst P (sym texts) permitted, subst Q (sym texts) streams)
 
 module _ {R : Type 0} {layout : Layout} {first begun : Bool} {old new : Sent} {left : Option ℕ} {lines total : ℕ} {r : Result R TableError} where
   -- the end of the table follows

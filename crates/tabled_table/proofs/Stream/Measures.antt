@@ -3,9 +3,8 @@ use Rattle.std.proofs.Common.{◌≡◌, ℕ, zero, suc, ◌+◌, ◌<◌, ◌�
 use Rattle.std.proofs.Common.{get_or, ◌≢◌, below_more, ⊎_elim, MatchOption, Option, Some, None, ◌==◌, true, false, if◌then◌else◌}
 use Rattle.std.proofs.lemmas.Bool.{cases_lt}
 use Rattle.std.proofs.lemmas.List.{get_or-map, length-map, map-append, take_more, length-take, take-map, take_all}
-use Rattle.std.specs.declared.alloc.Global.{Global}
-use Rattle.std.specs.declared.vec.Vec.{Vec}
-use Rattle.tabled_base.specs.Cells.{longest, texts_of, cell_at, columns}
+use Rattle.std.specs.Prelude.{Bool, unwrap_or}
+use Rattle.tabled_base.specs.Cells.{longest, cell_at, columns}
 use Rattle.tabled_text.specs.Measure.{greatest, lines_of, text_columns}
 use Rattle.tabled_text.proofs.FittingLaws.{fits-none}
 use Rattle.tabled_table.specs.Stream.Streamed.{tallest, widest, ahead, limited, sniffed, IsCutRow, IsStreamed, column_count, content_width}
@@ -27,14 +26,14 @@ use Rattle.tabled_line.proofs.Each.{each-more}
 use Rattle.tabled_size.specs.Sheet.{Sheet}
 use Rattle.tabled_size.proofs.Greatest.{mapped_same}
 use Rattle.tabled_table.specs.declared.iter_table.layout.Layout.{Layout}
-use Rattle.tabled_table.specs.Stream.Progress.{IsLaidOut}
+use Rattle.tabled_table.specs.Stream.Progress.{AreFirst, IsLaidOut}
 use Rattle.tabled_table.specs.Stream.Row.{compact_style, layout_columns, record_lines, rule_of, width_at}
 
 -- ---- the rows of a streamed table, as they are laid out
 
-columns-first : (cells : List (List (List ℕ))) → columns cells ≡ length (get_or cells 0 [])
-columns-first [] = refl
-columns-first (row ∷ rows) = refl
+columns-head : (cells : List (List (List ℕ))) → columns cells ≡ length (get_or cells 0 [])
+columns-head [] = refl
+columns-head (row ∷ rows) = refl
 
 -- a cut row has a cell in each column
 pub length-cut : (content : ℕ → ℕ) (count : ℕ) (row cells : List (List ℕ)) → IsCutRow content count row cells → length cells ≡ count
@@ -93,7 +92,7 @@ module _ {settings : StreamSettings} {config : CompactConfig} {ahead_rows rows :
       → columns_of t ≡ layout_columns layout
   columns-laid l s h =
       let wide : columns t.cells ≡ layout.count =
-      columns-first t.cells
+      columns-head t.cells
       ∙ length-cut (content_width settings ahead_rows) (column_count settings ahead_rows) (get_or rows 0 []) (get_or t.cells 0 []) (s.cells 0 h)
       ∙ sym l.count in
       let listed : t.widths ≡ map (width_at layout) (range_with_len 0 layout.count) = s.widths ∙ widths-laid l in
@@ -141,6 +140,10 @@ greatest-next f xs n d h =
     ∙ ap greatest (map-append f (take n xs) (get_or xs n d ∷ []))
     ∙ greatest-pushed (map f (take n xs)) (f (get_or xs n d))
 
+mapped-as : {A B : Type 0} (f g : A → B) → ((x : A) → f x ≡ g x) → (xs : List A) → map f xs ≡ map g xs
+mapped-as f g h [] = refl
+mapped-as f g h (x ∷ xs) = ap (λ y. y ∷ map f xs) (h x) ∙ ap (λ ys. g x ∷ ys) (mapped-as f g h xs)
+
 pub take-min : {A : Type 0} (n : ℕ) (xs : List A) → take (min n (length xs)) xs ≡ take n xs
 take-min zero xs = let e : min zero (length xs) ≡ zero = omega arith in ap (λ k. take k xs) e
 take-min {A = A} (suc n) [] = let e : min (suc n) zero ≡ zero = omega arith in ap (λ k. take {A = A} k []) e
@@ -150,27 +153,19 @@ take-min (suc n) (x ∷ xs) =
 
 -- a row further: what its cells' texts are
 module _ {T : Type 0} (text : T → List ℕ) where
-  pub row-at : (rows : List (Vec T Global)) (k : ℕ) (row : Vec T Global) → k < length rows → row ≡ get_or rows k row
-      → get_or (texts_of text rows) k [] ≡ map text row.items
-  row-at rows k row h e = get_or-map (λ r. map text r.items) rows k row [] h ∙ ap (λ r. map text r.items) (sym e)
+  pub row-at : (rows : List (List T)) (k : ℕ) (row : List T) → k < length rows → row ≡ get_or rows k []
+      → get_or (map (map text) rows) k [] ≡ map text row
+  row-at rows k row h e = get_or-map (map text) rows k [] [] h ∙ ap (map text) (sym e)
 
-  pub longest-next : (rows : List (Vec T Global)) (k columns : ℕ) (row : Vec T Global) → k < length rows → row ≡ get_or rows k row
-      → columns ≡ longest (take k (texts_of text rows)) → max columns (length row.items) ≡ longest (take (k + 1) (texts_of text rows))
-  longest-next rows k columns row h e c =
-      let within : k < length (texts_of text rows) = omega (arith, length-map rows (λ r. map text r.items)) in
-      let at : length (get_or (texts_of text rows) k []) ≡ length row.items = ap length (row-at rows k row h e) ∙ length-map row.items text in
-      let next = greatest-next length (texts_of text rows) k [] within in
-      omega arith
-
-  pub widest-next : (rows : List (Vec T Global)) (k column : ℕ) (row : Vec T Global) (old new : ℕ) → k < length rows → row ≡ get_or rows k row
-      → old ≡ widest (take k (texts_of text rows)) column → new ≡ max old (text_columns (get_or (map text row.items) column []))
-      → new ≡ widest (take (k + 1) (texts_of text rows)) column
+  pub widest-next : (rows : List (List T)) (k column : ℕ) (row : List T) (old new : ℕ) → k < length rows → row ≡ get_or rows k []
+      → old ≡ widest (take k (map (map text) rows)) column → new ≡ max old (text_columns (get_or (map text row) column []))
+      → new ≡ widest (take (k + 1) (map (map text) rows)) column
   widest-next rows k column row old new h e c n =
-      let within : k < length (texts_of text rows) = omega (arith, length-map rows (λ r. map text r.items)) in
+      let within : k < length (map (map text) rows) = omega (arith, length-map rows (map text)) in
       let f : List (List ℕ) → ℕ = λ r. text_columns (get_or r column []) in
-      let at : f (get_or (texts_of text rows) k []) ≡ f (map text row.items) = ap f (row-at rows k row h e) in
-      n ∙ ap (λ m. max m (f (map text row.items))) c ∙ ap (λ m. max (widest (take k (texts_of text rows)) column) m) (sym at)
-      ∙ sym (greatest-next f (texts_of text rows) k [] within)
+      let at : f (get_or (map (map text) rows) k []) ≡ f (map text row) = ap f (row-at rows k row h e) in
+      n ∙ ap (λ m. max m (f (map text row))) c ∙ ap (λ m. max (widest (take k (map (map text) rows)) column) m) (sym at)
+      ∙ sym (greatest-next f (map (map text) rows) k [] within)
 
   pub tallest-next : (cells : List T) (k lines : ℕ) (cell : T) (height : ℕ) → k < length cells → cell ≡ get_or cells k cell
       → lines ≡ max 1 (greatest (map (λ t. length (lines_of t)) (take k (map text cells)))) → height ≡ length (lines_of (text cell))
@@ -215,48 +210,53 @@ widen-all old new texts m count done kept w k h =
     let none : text_columns (get_or texts k []) ≡ 0 = ap text_columns (past-end texts k [] (omega arith)) ∙ columns-none in
     let same = kept k l in omega arith) (cases_lt k m)
 
--- ---- rows that were taken in vectors: their first ones, as texts
+-- ---- rows that were taken: their first ones, as texts
 
-module _ {T : Type 0} (text : T → List ℕ) (rows : List (Vec T Global)) where
-  pub texts-long : length (texts_of text rows) ≡ length rows
-  texts-long = length-map rows (λ row. map text row.items)
+module _ {T : Type 0} (text : T → List ℕ) (rows : List (List T)) where
+  pub texts-long : length (map (map text) rows) ≡ length rows
+  texts-long = length-map rows (map text)
 
-  first-texts : (n : ℕ) → texts_of text (take n rows) ≡ take n (texts_of text rows)
-  first-texts n = sym (take-map (λ row. map text row.items) n rows)
+  pub fewer-texts : (n : ℕ) → take (min n (length rows)) (map (map text) rows) ≡ take n (map (map text) rows)
+  fewer-texts n = ap (λ m. take (min n m) (map (map text) rows)) (sym texts-long) ∙ take-min n (map (map text) rows)
 
-  fewer-texts : (n : ℕ) → texts_of text (take (min n (length rows)) rows) ≡ take n (texts_of text rows)
-  fewer-texts n =
-      first-texts (min n (length rows)) ∙ ap (λ m. take (min n m) (texts_of text rows)) (sym texts-long) ∙ take-min n (texts_of text rows)
+  -- the columns of the rows that are read ahead, if these are all or the number of columns is set
+  pub columns-first : {settings : StreamSettings} {all : Bool} (n count : ℕ) → AreFirst settings (map (map text) rows) all
+      → n ≡ greatest (map length rows) → count ≡ unwrap_or settings.columns n → count ≡ column_count settings (sniffed settings (map (map text) rows))
+  columns-first {settings} n count first e c = c ∙ by_cases settings.columns refl
+    where
+      texts : List (List (List ℕ))
+      texts = map (map text) rows
 
--- the first rows of a slice that is known to hold these
-module _ {T : Type 0} (text : T → List ℕ) {rows slice : List (Vec T Global)} (value : slice ≡ rows) where
-  ahead-of : (settings : StreamSettings) (n a : ℕ) → n ≡ min a (length slice) → a ≡ ahead settings → n ≡ min (ahead settings) (length rows)
-  ahead-of settings n a e f = e ∙ ap (λ m. min m (length slice)) f ∙ ap (λ s. min (ahead settings) (length s)) value
+      long : n ≡ longest texts
+      long =
+          e ∙ ap greatest (sym (map-map length (map text) rows ∙ mapped-as (λ r. length (map text r)) length (λ r. length-map r text) rows))
 
-  -- those that are read ahead
-  pub sniffed-texts : (settings : StreamSettings) (n a : ℕ) → n ≡ min a (length slice) → a ≡ ahead settings
-      → texts_of text (take n slice) ≡ sniffed settings (texts_of text rows)
-  sniffed-texts settings n a e f =
-      ap (texts_of text) (ap (take n) value ∙ ap (λ m. take m rows) (ahead-of settings n a e f)) ∙ fewer-texts text rows (ahead settings)
+      by_cases : (o : Option ℕ) → settings.columns ≡ o → unwrap_or settings.columns n ≡ unwrap_or settings.columns (longest (sniffed settings texts))
+      by_cases (Some k) is = ap (λ o. unwrap_or o n) is ∙ sym (ap (λ o. unwrap_or o (longest (sniffed settings texts))) is)
+      by_cases None is =
+          ap (unwrap_or settings.columns)
+          (long
+          ∙ ap longest (sym (take_all (ahead settings) texts
+          (⊎_elim (λ (few : length texts ≤ ahead settings). few)
+          (λ one. absurd (let none = ap (λ o. unwrap_or o 0) is in omega (arith, none, one.1))) first.needed))))
 
-  pub sniffed-long : (settings : StreamSettings) (n a : ℕ) → n ≡ min a (length slice) → a ≡ ahead settings
-      → length (sniffed settings (texts_of text rows)) ≡ n
-  sniffed-long settings n a e f =
-      let first = ahead-of settings n a e f in omega (arith, length-take (ahead settings) (texts_of text rows), texts-long text rows)
+-- the first of rows, whose number is known
+module _ {T : Type 0} (text : T → List ℕ) (rows : List (List T)) {len : ℕ} (long : len ≡ length rows) where
+  pub sniffed-long : (settings : StreamSettings) (n a : ℕ) → n ≡ min a len → a ≡ ahead settings
+      → length (sniffed settings (map (map text) rows)) ≡ n
+  sniffed-long settings n a e f = omega (arith, long, length-take (ahead settings) (map (map text) rows), texts-long text rows)
 
   -- those that are shown
-  pub shown-texts : (limit : Option ℕ) (n : ℕ) → MatchOption limit (n ≡ length slice) (λ m. n ≡ min m (length slice))
-      → texts_of text (take n slice) ≡ limited limit (texts_of text rows)
-  shown-texts None n e = ap (texts_of text) (take_all n slice (omega (arith, e)) ∙ value)
-  shown-texts (Some m) n e =
-      ap (texts_of text) (ap (take n) value ∙ ap (λ k. take k rows) (e ∙ ap (λ s. min m (length s)) value)) ∙ fewer-texts text rows m
+  pub shown-texts : (limit : Option ℕ) (n : ℕ) → MatchOption limit (n ≡ len) (λ m. n ≡ min m len)
+      → take n (map (map text) rows) ≡ limited limit (map (map text) rows)
+  shown-texts None n e = take_all n (map (map text) rows) (omega (arith, e, long, texts-long text rows))
+  shown-texts (Some m) n e = ap (λ k. take k (map (map text) rows)) (e ∙ ap (min m) long) ∙ fewer-texts text rows m
 
-  pub shown-long : (limit : Option ℕ) (n : ℕ) → MatchOption limit (n ≡ length slice) (λ m. n ≡ min m (length slice))
-      → length (limited limit (texts_of text rows)) ≡ n
-  shown-long None n e = texts-long text rows ∙ sym (e ∙ ap length value)
-  shown-long (Some m) n e =
-      let k = e ∙ ap (λ s. min m (length s)) value in omega (arith, length-take m (texts_of text rows), texts-long text rows)
+  pub shown-long : (limit : Option ℕ) (n : ℕ) → MatchOption limit (n ≡ len) (λ m. n ≡ min m len)
+      → length (limited limit (map (map text) rows)) ≡ n
+  shown-long None n e = texts-long text rows ∙ sym (e ∙ long)
+  shown-long (Some m) n e = omega (arith, e, long, length-take m (map (map text) rows), texts-long text rows)
 
--- texts of rows that were given as lists, and of those that stand in vectors
-pub given-texts : {T : Type 0} (text : T → List ℕ) (rows : List (Vec T Global)) → map (map text) (map (λ row. row.items) rows) ≡ texts_of text rows
-given-texts text rows = map-map (map text) (λ row. row.items) rows
+  pub shown-within : (limit : Option ℕ) (n : ℕ) → MatchOption limit (n ≡ len) (λ m. n ≡ min m len) → n ≤ length rows
+  shown-within None n e = omega (arith, e, long)
+  shown-within (Some m) n e = omega (arith, e, long)

@@ -1,22 +1,21 @@
 //! Reads the first rows of a stream, lays out its columns by them, and prints it.
 ghost use Rattle.std.specs.Prelude.{◌≡◌, ◌<◌, ◌≤◌, ◌^◌, ◌⊎◌, ℕ, Bool, List, IfErr, IfOk, map, slice_index_or};
-ghost use Rattle.tabled_base.specs.Cells.{texts_of};
 ghost use Rattle.tabled_base.specs.declared.error.TableError.TheVariants.{Memory, Range};
 ghost use Rattle.tabled_records.specs.Reading.{MayGive, ReadsTo};
 ghost use Rattle.tabled_table.specs.Stream.Progress.{IsLaidOut};
-ghost use Rattle.tabled_table.specs.Stream.Streamed.{column_count, content_width};
+ghost use Rattle.tabled_table.specs.Stream.Streamed.{column_count, content_width, sniffed};
 ghost use Rattle.tabled_table.specs.Stream.Streams.{ArePermitted, Streams, stream_total};
 
 use crate::iter_table::layout::Layout;
 use crate::iter_table::next_rows::Stream;
 use crate::iter_table::row::StreamColumns;
 use crate::iter_table::settings::{StreamSettings, ahead, first_rows, up_to};
-use crate::iter_table::sniff::{longest_row, widest_cells};
-use std::alloc::Global;
+use crate::iter_table::sniff::widest_cells;
+use std::alloc::{AllocError, Global};
 use tabled_base::{CellText, TableError};
 use tabled_config::{AlignmentVertical, CellStyle, CompactConfig, SpannedConfig};
 use tabled_line::{ColumnSeparator, TextSink, UniformPlacement};
-use tabled_records::reading::take_rows;
+use tabled_records::flat_rows::{FlatRows, take_flat_rows};
 
 #[derive(Drop)]
 pub(crate) struct Printer<'a> {
@@ -26,42 +25,36 @@ pub(crate) struct Printer<'a> {
 }
 
 impl<'a> Printer<'a> {
-    /// Returns the number of columns: the one that is set, or else that of the longest row.
-    fn count_columns<C: CellText>(&self, rows: &[Vec<C>]) -> usize
-        ensures { result ≡ column_count self.now.settings.now (texts_of C.text rows.now) }
-    {
-        match self.settings.columns {
-            Some(columns) => columns,
-            None => longest_row(rows),
-        }
-    }
-
     fn contents<C: CellText>(
         &self,
-        rows: &[Vec<C>],
+        rows: &FlatRows<C>,
         count: usize,
-    ) -> Result<(Vec<usize>, usize), TableError>
-        ensures ok { IfOk result (λ contents. (column : ℕ) → column < count
+    ) -> Result<(Vec<usize>, usize), AllocError>
+        ensures { IfOk result (λ contents. (column : ℕ) → column < count
             → slice_index_or contents.0.items column contents.1
-            ≡ content_width self.now.settings.now (texts_of C.text rows.now) column) }
-        ensures only { IfErr result (λ e. e ≡ Memory) }
+            ≡ content_width self.now.settings.now
+            (sniffed self.now.settings.now (map (map C.text) rows.now)) column) }
     {
         match self.settings.width {
             Some(width) => Ok((Vec::new(self.alloc), width)),
-            None => Ok((widest_cells(self.alloc, rows, count)?, 0)),
+            None => {
+                let ahead = ahead(self.settings);
+                Ok((widest_cells(self.alloc, rows, ahead, count)?, 0))
+            }
         }
     }
 
     /// Returns the layout of `count` columns, at least one. Fails with `Memory`, and with `Range` if
     /// the side padding exceeds `usize::MAX`, as then the total width does.
-    fn lay_out<C: CellText>(&self, rows: &[Vec<C>], count: usize) -> Result<Layout, TableError>
-        requires count { count ≡ column_count self.now.settings.now (texts_of C.text rows.now) }
+    fn lay_out<C: CellText>(&self, rows: &FlatRows<C>, count: usize) -> Result<Layout, TableError>
+        requires count { count ≡ column_count self.now.settings.now
+            (sniffed self.now.settings.now (map (map C.text) rows.now)) }
         requires some { 0 < count }
         ensures ok { IfOk result (λ layout. IsLaidOut self.now.settings.now self.now.config.now
-            (texts_of C.text rows.now) layout) }
+            (sniffed self.now.settings.now (map (map C.text) rows.now)) layout) }
         ensures err { IfErr result (λ e. ((e ≡ Range) × (2 ^ 64 ≤ stream_total
-            self.now.settings.now self.now.config.now (texts_of C.text rows.now)))
-            ⊎ (e ≡ Memory)) }
+            self.now.settings.now self.now.config.now
+            (sniffed self.now.settings.now (map (map C.text) rows.now)))) ⊎ (e ≡ Memory)) }
     {
         let padding = *self.config.get_padding();
         let Some(side) = padding.left.size.checked_add(padding.right.size) else {
@@ -109,14 +102,12 @@ impl<'a> Printer<'a> {
             (S.sent sink.old) result (S.sent sink.new) }
     {
         let settings = self.settings;
-        let taken = take_rows(self.alloc, rows, first_rows(settings))?;
-        let first = taken.rows.as_slice();
-        let sniffed = &first[..ahead(settings).min(first.len())];
-        let count = self.count_columns(sniffed);
-        if count == 0 || up_to(settings.rows, first.len()) == 0 {
+        let taken = take_flat_rows(self.alloc, rows, first_rows(settings))?;
+        let count = settings.columns.unwrap_or(taken.rows.columns());
+        if count == 0 || up_to(settings.rows, taken.rows.len()) == 0 {
             return Ok(());
         }
-        let layout = self.lay_out(sniffed, count)?;
+        let layout = self.lay_out(&taken.rows, count)?;
         let Some(total) = layout.total_width() else {
             return Err(TableError::Range);
         };

@@ -135,12 +135,9 @@ impl Layout {
             (λ n. (n ≡ layout_total self.now) × (layout_total self.now < 2 ^ 64)) }
     {
         let frame = self.frame;
-        let left = frame
-            .margin
-            .left
-            .size
-            .checked_add(one_if(frame.left.there))?;
-        let right = one_if(frame.right.there).checked_add(frame.margin.right.size)?;
+        let margin = frame.margin;
+        let left = margin.left.size.checked_add(one_if(frame.left.there))?;
+        let right = one_if(frame.right.there).checked_add(margin.right.size)?;
         let bars = self.count.saturating_sub(1) * one_if(frame.inner.there);
         let inside = self.sum_widths()?.checked_add(bars)?;
         left.checked_add(inside.checked_add(right)?)

@@ -1,8 +1,7 @@
 //! Writes the lines of a stream: the rows that were read first, and each next row as it is read.
-ghost use Rattle.std.specs.Prelude.{◌≡◌, ◌<◌, ◌^◌, Bool, IfErr, IfOk, List, OnOk, false, length};
-ghost use Rattle.std.specs.Prelude.{map, true, unwrap_or};
+ghost use Rattle.std.specs.Prelude.{◌≡◌, ◌<◌, ◌≤◌, ◌^◌, Bool, IfErr, IfOk, List, OnOk, false};
+ghost use Rattle.std.specs.Prelude.{length, map, take, true, unwrap_or};
 ghost use Rattle.std.proofs.Props.{props};
-ghost use Rattle.tabled_base.specs.Cells.{texts_of};
 ghost use Rattle.tabled_line.specs.LineCache.{IsCacheOf};
 ghost use Rattle.tabled_records.specs.Reading.{MayGive, Reads, ReadsTo};
 ghost use Rattle.tabled_table.specs.Stream.Progress.{AreFirst, AreFurther, FinishesBehind};
@@ -19,7 +18,8 @@ use std::alloc::Global;
 use std::borrow::CowStr;
 use tabled_base::{CellText, TableError, Text};
 use tabled_line::{Cursor, FEW_CURSORS, LinePrinter, TextSink};
-use tabled_records::reading::{Taken, next_cells};
+use tabled_records::flat_rows::FlatRows;
+use tabled_records::reading::{Taken, append_cells};
 
 #[derive(Drop)]
 pub(crate) struct Stream<'a> {
@@ -137,22 +137,24 @@ impl<'a> Stream<'a> {
             .write_margin(sink, layout.frame.margin.bottom, total)
     }
 
-    /// Writes the first rows, of which the first `ahead` were read ahead.
+    /// Writes the first `shown` rows, of which the first `ahead` were read ahead.
     fn write_first_rows<C: CellText, S: TextSink>(
         &mut self,
         sink: &mut S,
         ahead: usize,
-        rows: &[Vec<C>],
+        rows: &FlatRows<C>,
+        shown: usize,
     ) -> Result<(), TableError>
+        requires { shown ≤ length rows.now }
         ensures printed { PutsFirst self.old.lines.columns.settings.now ahead
-            (texts_of C.text rows.now) self.old.lines.columns.layout.now
+            (take shown (map (map C.text) rows.now)) self.old.lines.columns.layout.now
             self.old.first (S.sent sink.old) self.old.lines.begun result
             self.new.first (S.sent sink.new) self.new.lines.begun }
         ensures same { self.new.lines.columns ≡ self.old.lines.columns }
     {
         let settings = self.lines.columns.settings;
-        'rows: for index in 0..rows.len() {
-            let cells = rows[index].as_slice();
+        'rows: for index in 0..shown {
+            let cells = rows.row(index);
             let count = self.lines.columns.layout.count;
             let lines = content_height(settings, count, index < ahead, cells);
             self.write_next_record(sink, lines, cells)?;
@@ -190,15 +192,17 @@ impl<'a> Stream<'a> {
             e (S.sent sink.new)) }
         ensures same { self.new.lines.columns ≡ self.old.lines.columns }
     {
+        let mut cells = Vec::new(self.alloc);
         let mut left = limit;
         'rows: loop {
             if is_none_left(left) {
                 return Ok(false);
             }
-            match next_cells(self.alloc, rows)? {
-                Some(cells) => self.write_next_record(sink, lines, cells.as_slice())?,
-                None => return Ok(true),
+            cells.clear();
+            if !append_cells(&mut cells, rows)? {
+                return Ok(true);
             }
+            self.write_next_record(sink, lines, cells.as_slice())?;
             left = fewer(left, 1);
         }
     }
@@ -210,18 +214,18 @@ impl<'a> Stream<'a> {
         W: IntoIterator<Item = C>,
         C: CellText + Drop,
         S: TextSink,
-    >(&mut self, sink: &mut S, rows: &mut I, taken: &Taken<C>) -> Result<(), TableError>
+    >(&mut self, sink: &mut S, rows: &mut I, taken: &Taken<FlatRows<C>>) -> Result<(), TableError>
         requires { taken.now.whole ≡ false
             → MayGive I.can_next I.next_gives I.remaining
             W.into_iter_gives W.IntoIter.can_next W.IntoIter.remaining rows.old }
         ensures { (more : List (List C)) × (whole : Bool)
-            × AreFurther self.old.lines.columns.settings.now.rows (length taken.now.rows.items)
+            × AreFurther self.old.lines.columns.settings.now.rows (length taken.now.rows)
             taken.now.whole (length more) whole
             × ReadsOn I.next_gives W.into_iter_gives W.IntoIter.next_gives
-            (map (λ row. row.items) taken.now.rows.items) taken.now.whole rows.old more whole
+            taken.now.rows taken.now.whole rows.old more whole
             rows.new
             × FinishesBehind
-            (left_of self.old.lines.columns.settings.now.rows (length taken.now.rows.items))
+            (left_of self.old.lines.columns.settings.now.rows (length taken.now.rows))
             (unwrap_or self.old.lines.columns.settings.now.height 1)
             self.old.lines.columns.total whole (map (map C.text) more)
             self.old.lines.columns.layout.now self.old.first (S.sent sink.old)
@@ -244,7 +248,7 @@ impl<'a> Stream<'a> {
         W: IntoIterator<Item = C>,
         C: CellText + Drop,
         S: TextSink,
-    >(&mut self, sink: &mut S, rows: &mut I, taken: &Taken<C>) -> Result<(), TableError>
+    >(&mut self, sink: &mut S, rows: &mut I, taken: &Taken<FlatRows<C>>) -> Result<(), TableError>
         requires begun { self.old.lines.begun ≡ false }
         requires first { self.old.first ≡ true }
         requires some { 0 < self.old.lines.columns.layout.now.count }
@@ -252,28 +256,28 @@ impl<'a> Stream<'a> {
             → MayGive I.can_next I.next_gives I.remaining
             W.into_iter_gives W.IntoIter.can_next W.IntoIter.remaining rows.old }
         requires filled { 0 < length (limited self.old.lines.columns.settings.now.rows
-            (texts_of C.text taken.now.rows.items)) }
+            (map (map C.text) taken.now.rows)) }
         requires in_range { self.old.lines.columns.total < 2 ^ 64 }
         requires kept { AreFirst self.old.lines.columns.settings.now
-            (texts_of C.text taken.now.rows.items) taken.now.whole }
+            (map (map C.text) taken.now.rows) taken.now.whole }
         ensures { (more : List (List C)) × (whole : Bool)
-            × AreFurther self.old.lines.columns.settings.now.rows (length taken.now.rows.items)
+            × AreFurther self.old.lines.columns.settings.now.rows (length taken.now.rows)
             taken.now.whole (length more) whole
             × ReadsOn I.next_gives W.into_iter_gives W.IntoIter.next_gives
-            (map (λ row. row.items) taken.now.rows.items) taken.now.whole rows.old more whole
+            taken.now.rows taken.now.whole rows.old more whole
             rows.new
             × StreamsLaidOut self.old.lines.columns.settings.now self.old.lines.columns.layout.now
-            self.old.lines.columns.total (texts_of C.text taken.now.rows.items)
+            self.old.lines.columns.total (map (map C.text) taken.now.rows)
             (map (map C.text) more) whole (S.sent sink.old) result (S.sent sink.new) }
     {
         let settings = self.lines.columns.settings;
-        let kept = taken.rows.as_slice();
-        let ahead = ahead(settings).min(kept.len());
-        let shown = &kept[..up_to(settings.rows, kept.len())];
+        let count = taken.rows.len();
+        let ahead = ahead(settings).min(count);
+        let shown = up_to(settings.rows, count);
         let margin = self.lines.columns.layout.frame.margin;
         let total = self.lines.columns.total;
         self.lines.write_margin(sink, margin.top, total)?;
-        self.write_first_rows(sink, ahead, shown)?;
+        self.write_first_rows(sink, ahead, &taken.rows, shown)?;
         self.write_after_first(sink, rows, taken)
     }
 }

@@ -1,15 +1,14 @@
 //! The columns of a stream, and a row of it that is cut to them.
-ghost use Rattle.std.specs.Prelude.{◌≡◌, ◌<◌, ◌^◌, [], ℕ, IfErr, IfOk, length, map, min, slice_index_or};
+ghost use Rattle.std.specs.Prelude.{◌≡◌, ◌<◌, ◌^◌, [], ℕ, IfOk, length, map, min, slice_index_or};
 ghost use Rattle.tabled_table.specs.Stream.Row.{content_at, layout_columns, layout_row, width_at};
-ghost use Rattle.tabled_base.specs.declared.error.TableError.TheVariants.{Memory};
 ghost use Rattle.tabled_base.specs.Cells.{lengthened};
 ghost use Rattle.tabled_text.specs.Cut.{IsCut};
 
 use crate::iter_table::layout::Layout;
 use crate::iter_table::settings::StreamSettings;
-use std::alloc::Global;
+use std::alloc::{AllocError, Global};
 use std::borrow::CowStr;
-use tabled_base::{CellText, TableError, Text};
+use tabled_base::{CellText, Text};
 use tabled_config::{Frame, RowStyles};
 use tabled_line::{ColumnSeparator, Content, KnownPlacements, Row, TableColumns};
 use tabled_text::cut_str;
@@ -116,21 +115,20 @@ impl<'a> Row<'a> for CutRow<'a> {
 }
 
 /// Cuts the cells of a row to their columns and measures them. Cells after the last column are
-/// ignored. Fails only if an allocation fails (`Memory`).
+/// ignored.
 pub(crate) fn cut_cells<'a, C: CellText>(
     alloc: Global,
     layout: &Layout,
     cells: &'a [C],
-) -> Result<Vec<Text<CowStr<'a>>>, TableError>
+) -> Result<Vec<Text<CowStr<'a>>>, AllocError>
     ensures as_many { IfOk result (λ cut. length cut.items
         ≡ min layout.now.count (length cells.now)) }
     ensures each { IfOk result (λ cut. (column : ℕ) → column < length cut.items
         → IsCut (content_at layout.now column) (slice_index_or (map C.text cells.now) column [])
         (slice_index_or cut.items column [])) }
-    ensures only { IfErr result (λ e. e ≡ Memory) }
 {
-    let mut cut = Vec::new(alloc);
     let count = layout.count.min(cells.len());
+    let mut cut = Vec::with_capacity(alloc, count)?;
     'cells: for column in 0..count {
         let text = cut_str(alloc, cells[column].text(), layout.content_width(column))?;
         cut.push(Text::new(text))?;

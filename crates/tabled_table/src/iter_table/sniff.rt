@@ -1,36 +1,24 @@
 //! Measures the rows that are read ahead.
-ghost use Rattle.std.specs.Prelude.{◌≡◌, ◌<◌, ◌≤◌, ◌≢◌, ◌||◌, ℕ, [], IfErr, IfOk, OnOk, length};
-ghost use Rattle.std.specs.Prelude.{if◌then◌else◌, is_some, map, max, not, unwrap_or};
+ghost use Rattle.std.specs.Prelude.{◌≡◌, ◌<◌, ◌≤◌, ◌≢◌, ◌||◌, ℕ, [], IfOk, OnOk, length};
+ghost use Rattle.std.specs.Prelude.{if◌then◌else◌, is_some, map, max, not, take, unwrap_or};
 ghost use Rattle.std.specs.List.{slice_index, slice_index_or};
-ghost use Rattle.tabled_base.specs.Cells.{longest, texts_of};
-ghost use Rattle.tabled_base.specs.declared.error.TableError.TheVariants.{Memory};
 ghost use Rattle.tabled_text.specs.Measure.{text_columns};
 ghost use Rattle.tabled_table.specs.Stream.Streamed.{tallest, widest};
 
 use crate::iter_table::settings::StreamSettings;
-use std::alloc::Global;
-use tabled_base::{CellText, TableError};
-
-pub(crate) fn longest_row<C: CellText>(rows: &[Vec<C>]) -> usize
-    ensures { result ≡ longest (texts_of C.text rows.now) }
-{
-    let mut columns: usize = 0;
-    for row in rows {
-        columns = columns.max(row.as_slice().len());
-    }
-    columns
-}
+use std::alloc::{AllocError, Global};
+use tabled_base::CellText;
+use tabled_records::flat_rows::FlatRows;
 
 /// Raises the content width of a column to at least `columns`. The column is one of those in
 /// `contents`, or the next.
-fn raise(contents: &mut Vec<usize>, column: usize, columns: usize) -> Result<(), TableError>
+fn raise(contents: &mut Vec<usize>, column: usize, columns: usize) -> Result<(), AllocError>
     requires { column ≤ length contents.old.items }
     ensures at { OnOk result (slice_index contents.new.items column
         ≡ max (slice_index contents.old.items column) columns) }
     ensures others { OnOk result ((other : ℕ) → other ≢ column
         → slice_index contents.new.items other ≡ slice_index contents.old.items other) }
     ensures longer { OnOk result (column < length contents.new.items) }
-    ensures only { IfErr result (λ e. e ≡ Memory) }
 {
     if column < contents.len() {
         contents[column] = contents[column].max(columns);
@@ -45,12 +33,11 @@ fn widen<C: CellText>(
     contents: &mut Vec<usize>,
     cells: &[C],
     count: usize,
-) -> Result<(), TableError>
-    ensures ok { OnOk result ((column : ℕ) → column < count
+) -> Result<(), AllocError>
+    ensures { OnOk result ((column : ℕ) → column < count
         → slice_index contents.new.items column
         ≡ max (slice_index contents.old.items column)
         (text_columns (slice_index_or (map C.text cells.now) column []))) }
-    ensures only { IfErr result (λ e. e ≡ Memory) }
 {
     let known = count.min(cells.len());
     'cells: for column in 0..known {
@@ -59,19 +46,21 @@ fn widen<C: CellText>(
     Ok(())
 }
 
+/// Returns the widths of the widest cells of the first rows, at most `ahead`.
 pub(crate) fn widest_cells<C: CellText>(
     alloc: Global,
-    rows: &[Vec<C>],
+    rows: &FlatRows<C>,
+    ahead: usize,
     count: usize,
-) -> Result<Vec<usize>, TableError>
-    ensures ok { IfOk result (λ contents. (column : ℕ) → column < count
+) -> Result<Vec<usize>, AllocError>
+    ensures { IfOk result (λ contents. (column : ℕ) → column < count
         → slice_index contents.items column
-        ≡ widest (texts_of C.text rows.now) column) }
-    ensures only { IfErr result (λ e. e ≡ Memory) }
+        ≡ widest (take ahead (map (map C.text) rows.now)) column) }
 {
     let mut contents = Vec::new(alloc);
-    'rows: for row in rows {
-        widen(&mut contents, row.as_slice(), count)?;
+    let ahead = ahead.min(rows.len());
+    'rows: for index in 0..ahead {
+        widen(&mut contents, rows.row(index), count)?;
     }
     Ok(contents)
 }

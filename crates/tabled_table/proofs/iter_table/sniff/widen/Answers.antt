@@ -21,8 +21,8 @@ cells-preserved g c =
       wide = let l = e.longer in omega arith;
     }
 
-pub returns-clause-ok : goal.returns-clause-ok
-returns-clause-ok g c =
+pub returns : goal.returns
+returns g c =
     let cells = c.args.cells.now in
     widen-all c.args.contents.now.items c.cells.contents.items (map g.C.CellText.text cells) c.cells.column c.args.count
     c.cells.invariant.done c.cells.invariant.kept (omega (arith, length-map cells g.C.CellText.text))

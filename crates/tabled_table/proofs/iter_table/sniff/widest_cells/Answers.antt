@@ -1,9 +1,15 @@
-use Rattle.std.proofs.Common.{get_or}
-use Rattle.tabled_table.proofs.Stream.Measures.{widest-next}
+use Rattle.std.proofs.Common.{◌≡◌, ◌<◌, ◌∙◌, ap, arith, get_or, length, min}
+use Rattle.tabled_table.specs.Stream.Streamed.{widest}
+use Rattle.tabled_table.proofs.Stream.Measures.{fewer-texts, widest-next}
 use Rattle.tabled_table.proofs.iter_table.sniff.widest_cells.Goals as goal
 
 pub rows-preserved : goal.rows-preserved
 rows-preserved g c =
-    λ k h. widest-next g.C.CellText.text c.args.rows.now c.rows.row-index k c.row-item.result (get_or c.rows.contents.items k 0)
-    (get_or c.widen.new.contents.items k 0) c.rows-test.true c.row-item.is (c.rows.invariant k h)
-    (rw c.as_slice.ensures.value at (c.in_ok-widen.ensures.ok k h))
+    let within : c.rows.index < length c.args.rows.now = omega (arith, c.rows-test.true, c.min-ahead.ensures, c.len.ensures) in
+    λ k h. widest-next g.C.CellText.text c.args.rows.now c.rows.index k c.row.result.now (get_or c.rows.contents.items k 0)
+    (get_or c.widen.new.contents.items k 0) within c.row.ensures (c.rows.invariant k h) (c.in_ok-widen.ensures k h)
+
+pub returns : goal.returns
+returns g c =
+    λ k h. let last : c.rows.index ≡ min c.args.ahead (length c.args.rows.now) = omega (arith, c.min-ahead.ensures, c.len.ensures) in
+    rw last at c.rows.invariant k h ∙ ap (λ l. widest l k) (fewer-texts g.C.CellText.text c.args.rows.now c.args.ahead)

@@ -1,13 +1,14 @@
-use Rattle.std.proofs.Common.{◌+◌, ◌<◌, ◌≤◌, ◌^◌, ℕ, inl, refl, subst, arith, rules}
+use Rattle.std.proofs.Common.{◌+◌, ◌<◌, ◌≤◌, ◌^◌, ℕ, inl, map, refl, subst, arith, rules}
 use Rattle.std.proofs.lemmas.Grind.{common_steps}
-use Rattle.tabled_base.specs.Cells.{texts_of}
+use Rattle.tabled_table.specs.Stream.Streamed.{sniffed}
 use Rattle.tabled_table.proofs.Stream.Widths.{side-in-total}
 use Rattle.tabled_table.proofs.iter_table.first_rows.Printer.lay_out.Goals as goal
 
 pub returns-in_default-clause-err : goal.returns-in_default-clause-err
 returns-in_default-clause-err g c =
     let some = subst (λ (n : ℕ). 0 < n) c.requires.count c.requires.some in
-    let side = side-in-total c.args.self.now.settings.now c.args.self.now.config.now (texts_of g.C.CellText.text c.args.rows.now) some in
+    let settings = c.args.self.now.settings.now in
+    let side = side-in-total settings c.args.self.now.config.now (sniffed settings (map (map g.C.CellText.text) c.args.rows.now)) some in
     let padding = c.args.self.now.config.now.padding in
     let over : 2 ^ 64 ≤ padding.left.size + padding.right.size = first_of (search rules, grind (arith, common_steps)) in
     inl (refl, omega (arith, side, over))

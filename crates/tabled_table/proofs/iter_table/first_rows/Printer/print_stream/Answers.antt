@@ -1,6 +1,5 @@
 use Rattle.std.proofs.Common.{◌≡◌, ◌⊎◌, ◌∙◌, ℕ, List, [], false, length, map, sym, ap, subst, arith, inl, inr, append-nil, refl, Ok, Err}
 use Rattle.std.proofs.lemmas.List.{length-map}
-use Rattle.tabled_base.specs.Cells.{texts_of}
 use Rattle.tabled_base.specs.declared.error.TableError.TheVariants.{Range}
 use Rattle.tabled_table.specs.Stream.Progress.{AreFirst, AreFurther}
 use Rattle.tabled_table.specs.Stream.Streamed.{column_count, limited, sniffed}
@@ -8,7 +7,7 @@ use Rattle.tabled_table.specs.Stream.Streams.{ArePermitted, StreamSends}
 use Rattle.tabled_table.proofs.Stream.Finished.{unplanned, unread}
 use Rattle.tabled_table.proofs.Stream.FirstRows.{permitted-ahead, permitted-first, permitted-more, taken-first, unshown, unshown-enough}
 use Rattle.tabled_table.proofs.Stream.Going.{all-read, reads-no-more}
-use Rattle.tabled_table.proofs.Stream.Measures.{shown-long, sniffed-texts, texts-long}
+use Rattle.tabled_table.proofs.Stream.Measures.{columns-first, shown-long, texts-long}
 use Rattle.tabled_table.proofs.Stream.Widths.{total-laid, width-in-total}
 use Rattle.tabled_records.proofs.RowsRead.{reads-open}
 use Rattle.tabled_table.proofs.iter_table.first_rows.Printer.print_stream.Goals.{then-count-eq0-via-then-count-eq0, then-count-eq0-via-else-count-eq0+then-up_to-eq0}
@@ -34,27 +33,25 @@ returns-then-count-eq0 g c =
     let config = c.args.self.now.config.now in
     let taken = c.in_ok-taken.taken in
     let text = g.C.CellText.text in
-    let items = taken.rows.items in
-    let kept = texts_of text items in
-    let value = c.as_slice-first.ensures.value in
-    let read = sniffed-texts text value settings c.min.result c.ahead.result c.min.ensures c.ahead.ensures in
-    let count = c.count_columns-count.ensures ∙ ap (column_count settings) read in
-    let none : (column_count settings (sniffed settings kept) ≡ 0) ⊎ (length (limited settings.rows kept) ≡ 0) =
-    elim c.then-count-eq0.branch [
-      | then-count-eq0-via-then-count-eq0 w ↦ inl (sym count ∙ w.if-count-eq0.true)
-      | then-count-eq0-via-else-count-eq0+then-up_to-eq0 w ↦ inr
-          (shown-long text value settings.rows w.up_to.result w.up_to.ensures ∙ w.if-up_to-eq0.true)
-    ] in
+    let items = taken.rows in
+    let kept = map (map text) items in
     let h = c.in_ok-taken.ensures in
     let first : AreFirst settings kept taken.whole =
     taken-first settings kept taken.whole c.first_rows.result (length items) (texts-long text items) h.within (λ o. (h.open o).0) c.first_rows.ensures.ahead
     c.first_rows.ensures.needed c.first_rows.ensures.none in
+    let count = columns-first text items c.columns.result c.unwrap_or-count.result first c.columns.ensures c.unwrap_or-count.ensures in
+    let none : (column_count settings (sniffed settings kept) ≡ 0) ⊎ (length (limited settings.rows kept) ≡ 0) =
+    elim c.then-count-eq0.branch [
+      | then-count-eq0-via-then-count-eq0 w ↦ inl (sym count ∙ w.if-count-eq0.true)
+      | then-count-eq0-via-else-count-eq0+then-up_to-eq0 w ↦ inr
+          (shown-long text items w.len.ensures settings.rows w.up_to.result w.up_to.ensures ∙ w.if-up_to-eq0.true)
+    ] in
     let sent = g.S.TextSink.sent c.args.sink.now in
-    let now = c.take_rows.new.rows in
+    let now = c.take_flat_rows.new.rows in
     let P : List (List (List ℕ)) → Type 0 = ArePermitted settings in
     let Q : List (List (List ℕ)) → Type 0 = λ rows. StreamSends settings config rows taken.whole sent sent in
     all-read {R = Unit {0}} settings config sent sent (Ok tt) text items [] taken.whole taken.whole c.args.rows.now now now h.ok
-    (reads-no-more (map (λ row. row.items) items) taken.whole now) (subst P (sym (append-nil kept)) (permitted-first first))
+    (reads-no-more items taken.whole now) (subst P (sym (append-nil kept)) (permitted-first first))
     (subst Q (sym (append-nil kept)) (unshown settings config kept taken.whole sent (unshown-enough taken.whole first none) none))
 
 -- nothing was printed, since an allocation failed or the total width is out of range
@@ -64,24 +61,22 @@ returns-in_err-layout g c =
     let config = c.args.self.now.config.now in
     let taken = c.in_ok-taken.taken in
     let text = g.C.CellText.text in
-    let items = taken.rows.items in
-    let kept = texts_of text items in
-    let value = c.as_slice-first.ensures.value in
-    let read = sniffed-texts text value settings c.min.result c.ahead.result c.min.ensures c.ahead.ensures in
-    let count = c.count_columns-count.ensures ∙ ap (column_count settings) read in
-    let shown = shown-long text value settings.rows c.up_to.result c.up_to.ensures in
+    let items = taken.rows in
+    let kept = map (map text) items in
+    let shown = shown-long text items c.len.ensures settings.rows c.up_to.result c.up_to.ensures in
     let h = c.in_ok-taken.ensures in
     let first : AreFirst settings kept taken.whole =
     taken-first settings kept taken.whole c.first_rows.result (length items) (texts-long text items) h.within (λ o. (h.open o).0) c.first_rows.ensures.ahead
     c.first_rows.ensures.needed c.first_rows.ensures.none in
-    let now = c.take_rows.new.rows in
+    let count = columns-first text items c.columns.result c.unwrap_or-count.result first c.columns.ensures c.unwrap_or-count.ensures in
+    let now = c.take_flat_rows.new.rows in
     let P : List (List (List ℕ)) → Type 0 = ArePermitted settings in
     let sent = g.S.TextSink.sent c.args.sink.now in
     all-read settings config sent sent c.from_residual-in_err-layout.result text items [] taken.whole taken.whole c.args.rows.now now now h.ok
-    (reads-no-more (map (λ row. row.items) items) taken.whole now) (subst P (sym (append-nil kept)) (permitted-first first))
+    (reads-no-more items taken.whole now) (subst P (sym (append-nil kept)) (permitted-first first))
     (unplanned config sent c.from_residual-in_err-layout.result c.in_err-layout.field-0.0 first
     (omega (arith, count, c.if-count-eq0.false)) (omega (arith, shown, c.if-up_to-eq0.false)) c.from_residual-in_err-layout.ensures.1
-    (rw read at c.in_err-layout.ensures.err))
+    c.in_err-layout.ensures.err)
 
 pub returns-in_default : goal.returns-in_default
 returns-in_default g c =
@@ -89,24 +84,46 @@ returns-in_default g c =
     let config = c.args.self.now.config.now in
     let taken = c.in_ok-taken.taken in
     let text = g.C.CellText.text in
-    let items = taken.rows.items in
-    let kept = texts_of text items in
-    let value = c.as_slice-first.ensures.value in
-    let read = sniffed-texts text value settings c.min.result c.ahead.result c.min.ensures c.ahead.ensures in
-    let count = c.count_columns-count.ensures ∙ ap (column_count settings) read in
-    let shown = shown-long text value settings.rows c.up_to.result c.up_to.ensures in
+    let items = taken.rows in
+    let kept = map (map text) items in
+    let shown = shown-long text items c.len.ensures settings.rows c.up_to.result c.up_to.ensures in
     let h = c.in_ok-taken.ensures in
     let first : AreFirst settings kept taken.whole =
     taken-first settings kept taken.whole c.first_rows.result (length items) (texts-long text items) h.within (λ o. (h.open o).0) c.first_rows.ensures.ahead
     c.first_rows.ensures.needed c.first_rows.ensures.none in
-    let now = c.take_rows.new.rows in
-    let over = total-laid (rw read at c.in_ok-layout.ensures.ok) in
+    let count = columns-first text items c.columns.result c.unwrap_or-count.result first c.columns.ensures c.unwrap_or-count.ensures in
+    let now = c.take_flat_rows.new.rows in
+    let over = total-laid c.in_ok-layout.ensures.ok in
     let P : List (List (List ℕ)) → Type 0 = ArePermitted settings in
     let sent = g.S.TextSink.sent c.args.sink.now in
     all-read {R = Unit {0}} settings config sent sent (Err Range) text items [] taken.whole taken.whole c.args.rows.now now now h.ok
-    (reads-no-more (map (λ row. row.items) items) taken.whole now) (subst P (sym (append-nil kept)) (permitted-first first))
+    (reads-no-more items taken.whole now) (subst P (sym (append-nil kept)) (permitted-first first))
     (unplanned {R = Unit {0}} config sent (Err Range) Range first
     (omega (arith, count, c.if-count-eq0.false)) (omega (arith, shown, c.if-up_to-eq0.false)) refl (inl (refl, omega (arith, over, c.in_default.ensures))))
+
+pub lay_out-requires-clause-count : goal.lay_out-requires-clause-count
+lay_out-requires-clause-count g c =
+    let settings = c.args.self.now.settings.now in
+    let items = c.in_ok-taken.taken.rows in
+    let text = g.C.CellText.text in
+    let h = c.in_ok-taken.ensures in
+    let first : AreFirst settings (map (map text) items) c.in_ok-taken.taken.whole =
+    taken-first settings (map (map text) items) c.in_ok-taken.taken.whole c.first_rows.result (length items) (texts-long text items) h.within
+    (λ o. (h.open o).0) c.first_rows.ensures.ahead c.first_rows.ensures.needed c.first_rows.ensures.none in
+    columns-first text items c.columns.result c.unwrap_or-count.result first c.columns.ensures c.unwrap_or-count.ensures
+
+pub write_all-requires-clause-some : goal.write_all-requires-clause-some
+write_all-requires-clause-some g c =
+    let settings = c.args.self.now.settings.now in
+    let items = c.in_ok-taken.taken.rows in
+    let text = g.C.CellText.text in
+    let h = c.in_ok-taken.ensures in
+    let first : AreFirst settings (map (map text) items) c.in_ok-taken.taken.whole =
+    taken-first settings (map (map text) items) c.in_ok-taken.taken.whole c.first_rows.result (length items) (texts-long text items) h.within
+    (λ o. (h.open o).0) c.first_rows.ensures.ahead c.first_rows.ensures.needed c.first_rows.ensures.none in
+    let count = columns-first text items c.columns.result c.unwrap_or-count.result first c.columns.ensures c.unwrap_or-count.ensures in
+    let laid = c.in_ok-layout.ensures.ok.count in
+    rw c.new.ensures.columns (omega (arith, laid, count, c.if-count-eq0.false))
 
 pub invariant_of-columns : goal.invariant_of-columns
 invariant_of-columns g c = record {
@@ -119,15 +136,15 @@ invariant_of-columns g c = record {
 
 pub write_all-requires-clause-filled : goal.write_all-requires-clause-filled
 write_all-requires-clause-filled g c =
-    let shown = shown-long g.C.CellText.text c.as_slice-first.ensures.value c.args.self.now.settings.now.rows c.up_to.result c.up_to.ensures in
+    let shown = shown-long g.C.CellText.text c.in_ok-taken.taken.rows c.len.ensures c.args.self.now.settings.now.rows c.up_to.result c.up_to.ensures in
     rw c.new.ensures.columns (omega (arith, shown, c.if-up_to-eq0.false))
 
 pub write_all-requires-clause-kept : goal.write_all-requires-clause-kept
 write_all-requires-clause-kept g c =
-    let items = c.in_ok-taken.taken.rows.items in
+    let items = c.in_ok-taken.taken.rows in
     let h = c.in_ok-taken.ensures in
     rw c.new.ensures.columns
-    (taken-first c.args.self.now.settings.now (texts_of g.C.CellText.text items) c.in_ok-taken.taken.whole c.first_rows.result (length items)
+    (taken-first c.args.self.now.settings.now (map (map g.C.CellText.text) items) c.in_ok-taken.taken.whole c.first_rows.result (length items)
     (texts-long g.C.CellText.text items) h.within (λ o. (h.open o).0) c.first_rows.ensures.ahead c.first_rows.ensures.needed c.first_rows.ensures.none)
 
 pub write_all-requires-clause-in_range : goal.write_all-requires-clause-in_range
@@ -141,19 +158,17 @@ returns g c =
     let config = c.args.self.now.config.now in
     let taken = c.in_ok-taken.taken in
     let text = g.C.CellText.text in
-    let items = taken.rows.items in
-    let kept = texts_of text items in
-    let value = c.as_slice-first.ensures.value in
-    let read = sniffed-texts text value settings c.min.result c.ahead.result c.min.ensures c.ahead.ensures in
-    let count = c.count_columns-count.ensures ∙ ap (column_count settings) read in
+    let items = taken.rows in
+    let kept = map (map text) items in
     let h = c.in_ok-taken.ensures in
     let first : AreFirst settings kept taken.whole =
     taken-first settings kept taken.whole c.first_rows.result (length items) (texts-long text items) h.within (λ o. (h.open o).0) c.first_rows.ensures.ahead
     c.first_rows.ensures.needed c.first_rows.ensures.none in
-    let laid = rw read at c.in_ok-layout.ensures.ok in
+    let count = columns-first text items c.columns.result c.unwrap_or-count.result first c.columns.ensures c.unwrap_or-count.ensures in
+    let laid = c.in_ok-layout.ensures.ok in
     let o = rw c.new.ensures.columns at c.write_all.ensures in
     let F : ℕ → ℕ → Type 0 = λ k m. AreFurther settings.rows k taken.whole m o.1 in
     let further = subst (λ m. F (length kept) m) (sym (length-map o.0 (map text))) (subst (λ k. F k (length o.0)) (sym (texts-long text items)) o.2) in
-    all-read settings config (g.S.TextSink.sent c.args.sink.now) (g.S.TextSink.sent c.write_all.new.sink) c.write_all.result text items o.0 taken.whole o.1 c.args.rows.now c.take_rows.new.rows c.write_all.new.rows h.ok o.3
+    all-read settings config (g.S.TextSink.sent c.args.sink.now) (g.S.TextSink.sent c.write_all.new.sink) c.write_all.result text items o.0 taken.whole o.1 c.args.rows.now c.take_flat_rows.new.rows c.write_all.new.rows h.ok o.3
     (permitted-more first (map (map text) o.0) o.1 further (omega (arith, count, c.if-count-eq0.false)))
     (o.4 config laid (c.in-Some.ensures.0 ∙ total-laid laid))

@@ -12,17 +12,16 @@ pub returns-then-taken : goal.returns-then-taken
 returns-then-taken g c =
     let settings = c.args.self.now.lines.columns.settings.now in
     let taken = c.args.taken.now in
-    let long : c.len.result ≡ length taken.rows.items = omega (arith, c.len.ensures, taken.rows.ok.0) in
-    let left = c.fewer-left.ensures ∙ ap (left_of settings.rows) long in
-    let why : (taken.whole ≡ true) ⊎ (left_of settings.rows (length taken.rows.items) ≡ Some 0) =
+    let left = c.fewer-left.ensures ∙ ap (left_of settings.rows) c.len.ensures in
+    let why : (taken.whole ≡ true) ⊎ (left_of settings.rows (length taken.rows) ≡ Some 0) =
     elim c.then-taken.branch [
       | then-taken-via-then-taken w ↦ inl w.if-taken.true
       | then-taken-via-else-taken+then-is_none_left w ↦ inr (rw left at (w.is_none_left.ensures.reached w.if-is_none_left.true))
     ] in (
       [],
       taken.whole,
-      none-further settings.rows (length taken.rows.items) taken.whole,
-      reads-no-more (map (λ row. row.items) taken.rows.items) taken.whole c.args.rows.now,
+      none-further settings.rows (length taken.rows) taken.whole,
+      reads-no-more taken.rows taken.whole c.args.rows.now,
       behind-ending taken.whole why c.write_bottom.ensures.printed,
     )
 
@@ -31,15 +30,14 @@ returns-in_err-write_next_rows g c =
     let stream = c.args.self.now in
     let settings = stream.lines.columns.settings.now in
     let taken = c.args.taken.now in
-    let long : c.len.result ≡ length taken.rows.items = omega (arith, c.len.ensures, taken.rows.ok.0) in
-    let left = c.fewer-left.ensures ∙ ap (left_of settings.rows) long in
+    let left = c.fewer-left.ensures ∙ ap (left_of settings.rows) c.len.ensures in
     let going = rw left at (c.is_none_left.ensures.going c.if-is_none_left.false) in
     let e = c.in_err-write_next_rows.ensures.err in (
       e.0,
       false,
-      some-further settings.rows c.fewer-left.result (length taken.rows.items) (length e.0) taken.whole false left c.if-taken.false e.1,
-      reads-more (map (λ row. row.items) taken.rows.items) e.0 taken.whole false c.args.rows.now c.write_next_rows.new.rows c.if-taken.false (reads-open e.2),
-      finishes-halting (left_of settings.rows (length taken.rows.items)) (unwrap_or settings.height 1) stream.lines.columns.total false
+      some-further settings.rows c.fewer-left.result (length taken.rows) (length e.0) taken.whole false left c.if-taken.false e.1,
+      reads-more taken.rows e.0 taken.whole false c.args.rows.now c.write_next_rows.new.rows c.if-taken.false (reads-open e.2),
+      finishes-halting (left_of settings.rows (length taken.rows)) (unwrap_or settings.height 1) stream.lines.columns.total false
           (map (map g.C.CellText.text) e.0) c.from_residual.result going c.in_err-write_next_rows.field-0.0 c.from_residual.ensures.1
           (rw c.unwrap_or-lines.ensures at e.3),
     )
@@ -49,19 +47,18 @@ returns g c =
     let stream = c.args.self.now in
     let settings = stream.lines.columns.settings.now in
     let taken = c.args.taken.now in
-    let long : c.len.result ≡ length taken.rows.items = omega (arith, c.len.ensures, taken.rows.ok.0) in
-    let left = c.fewer-left.ensures ∙ ap (left_of settings.rows) long in
+    let left = c.fewer-left.ensures ∙ ap (left_of settings.rows) c.len.ensures in
     let going = rw left at (c.is_none_left.ensures.going c.if-is_none_left.false) in
     let o = c.in_ok-write_next_rows.ensures.ok in
     let whole = c.in_ok-write_next_rows.field-0 in
     let texts = map (map g.C.CellText.text) o.0 in (
       o.0,
       whole,
-      some-further settings.rows c.fewer-left.result (length taken.rows.items) (length o.0) taken.whole whole left c.if-taken.false
+      some-further settings.rows c.fewer-left.result (length taken.rows) (length o.0) taken.whole whole left c.if-taken.false
           (limited-permitted c.fewer-left.result (length o.0) whole o.1),
-      reads-more (map (λ row. row.items) taken.rows.items) o.0 taken.whole whole c.args.rows.now c.write_next_rows.new.rows c.if-taken.false o.2,
-      finishes-ending (left_of settings.rows (length taken.rows.items)) (unwrap_or settings.height 1) stream.lines.columns.total whole
+      reads-more taken.rows o.0 taken.whole whole c.args.rows.now c.write_next_rows.new.rows c.if-taken.false o.2,
+      finishes-ending (left_of settings.rows (length taken.rows)) (unwrap_or settings.height 1) stream.lines.columns.total whole
           texts c.write_bottom-2.result going
-          (subst (λ n. IsLimited (left_of settings.rows (length taken.rows.items)) n whole) (sym (length-map o.0 (map g.C.CellText.text))) (rw left at o.1))
+          (subst (λ n. IsLimited (left_of settings.rows (length taken.rows)) n whole) (sym (length-map o.0 (map g.C.CellText.text))) (rw left at o.1))
           (rw c.unwrap_or-lines.ensures at o.3) (rw c.in_ok-write_next_rows.ensures.same at c.write_bottom-2.ensures.printed),
     )

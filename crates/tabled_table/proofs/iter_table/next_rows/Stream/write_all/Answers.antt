@@ -1,13 +1,12 @@
 use Rattle.std.proofs.Common.{◌∙◌, [], Result, Ok, Err, length, map, take, refl, sym, ap}
 use Rattle.std.proofs.lemmas.List.{length-map}
-use Rattle.tabled_base.specs.Cells.{texts_of}
 use Rattle.tabled_base.specs.declared.error.TableError.{TableError}
 use Rattle.tabled_table.specs.Stream.Progress.{left_of}
 use Rattle.tabled_table.specs.Stream.Streamed.{limited, sniffed}
 use Rattle.tabled_table.proofs.Stream.Going.{halts-top, none-further, reads-no-more}
 use Rattle.tabled_table.proofs.Stream.Finished.{put-finished, put-halted, top-put}
 use Rattle.tabled_table.proofs.Stream.FirstRows.{sniffed-shown}
-use Rattle.tabled_table.proofs.Stream.Measures.{shown-texts, sniffed-long, texts-long}
+use Rattle.tabled_table.proofs.Stream.Measures.{shown-texts, shown-within, sniffed-long, texts-long}
 use Rattle.tabled_table.proofs.iter_table.next_rows.Stream.write_all.Goals as goal
 
 pub returns-in_err-write_margin : goal.returns-in_err-write_margin
@@ -15,18 +14,17 @@ returns-in_err-write_margin g c =
     let settings = c.args.self.now.lines.columns.settings.now in
     let taken = c.args.taken.now in
     let text = g.C.CellText.text in
-    let items = taken.rows.items in
-    let kept = texts_of text items in
-    let value = c.as_slice-kept.ensures.value in
-    let shown = shown-texts text value settings.rows c.up_to.result c.up_to.ensures in (
+    let items = taken.rows in
+    let kept = map (map text) items in
+    let shown = shown-texts text items c.len-count.ensures settings.rows c.up_to-shown.result c.up_to-shown.ensures in (
       [],
       taken.whole,
       none-further settings.rows (length items) taken.whole,
-      reads-no-more (map (λ row. row.items) items) taken.whole c.args.rows.now,
+      reads-no-more items taken.whole c.args.rows.now,
       λ config laid total.
           let failed : Result (Unit {0}) TableError = Err c.in_err-write_margin.field-0.0 in
           put-halted c.requires.kept laid c.requires.some total c.requires.in_range c.from_residual.result c.in_err-write_margin.field-0.0
-          (texts_of text (take c.up_to.result c.as_slice-kept.result.now)) shown c.from_residual.ensures.1 (
+          (take c.up_to-shown.result kept) shown c.from_residual.ensures.1 (
             0,
             halts-top (top-put failed c.args.self.now.lines.columns.total (g.S.TextSink.sent c.args.sink.now) (g.S.TextSink.sent c.write_margin.new.sink)
                 c.args.self.now.first c.write_margin.new.self.begun laid total c.requires.first (rw c.requires.begun at c.in_err-write_margin.ensures.printed)),
@@ -38,21 +36,20 @@ returns-in_err-write_first_rows g c =
     let settings = c.args.self.now.lines.columns.settings.now in
     let taken = c.args.taken.now in
     let text = g.C.CellText.text in
-    let items = taken.rows.items in
-    let kept = texts_of text items in
-    let value = c.as_slice-kept.ensures.value in
-    let long = sniffed-long text value settings c.min-ahead.result c.ahead.result c.min-ahead.ensures c.ahead.ensures in
-    let shown = shown-texts text value settings.rows c.up_to.result c.up_to.ensures in
+    let items = taken.rows in
+    let kept = map (map text) items in
+    let long = sniffed-long text items c.len-count.ensures settings c.min-ahead.result c.ahead.result c.min-ahead.ensures c.ahead.ensures in
+    let shown = shown-texts text items c.len-count.ensures settings.rows c.up_to-shown.result c.up_to-shown.ensures in
     let done : Result (Unit {0}) TableError = Ok tt in
     let stops = rw c.in_ok-write_margin.ensures.same at c.in_err-write_first_rows.ensures.printed in (
       [],
       taken.whole,
       none-further settings.rows (length items) taken.whole,
-      reads-no-more (map (λ row. row.items) items) taken.whole c.args.rows.now,
+      reads-no-more items taken.whole c.args.rows.now,
       λ config laid total.
           put-halted c.requires.kept laid c.requires.some total c.requires.in_range c.from_residual-in_err-write_first_rows.result
           c.in_err-write_first_rows.field-0.0
-          (texts_of text (take c.up_to.result c.as_slice-kept.result.now)) shown c.from_residual-in_err-write_first_rows.ensures.1
+          (take c.up_to-shown.result kept) shown c.from_residual-in_err-write_first_rows.ensures.1
           (stops config (sniffed settings kept) (g.S.TextSink.sent c.args.sink.now) long
           (top-put done c.args.self.now.lines.columns.total (g.S.TextSink.sent c.args.sink.now) (g.S.TextSink.sent c.write_margin.new.sink)
           c.args.self.now.first c.write_margin.new.self.begun laid total c.requires.first (rw c.requires.begun at c.in_ok-write_margin.ensures.printed))),
@@ -63,11 +60,10 @@ returns g c =
     let settings = c.args.self.now.lines.columns.settings.now in
     let taken = c.args.taken.now in
     let text = g.C.CellText.text in
-    let items = taken.rows.items in
-    let kept = texts_of text items in
-    let value = c.as_slice-kept.ensures.value in
-    let long = sniffed-long text value settings c.min-ahead.result c.ahead.result c.min-ahead.ensures c.ahead.ensures in
-    let shown = shown-texts text value settings.rows c.up_to.result c.up_to.ensures in
+    let items = taken.rows in
+    let kept = map (map text) items in
+    let long = sniffed-long text items c.len-count.ensures settings c.min-ahead.result c.ahead.result c.min-ahead.ensures c.ahead.ensures in
+    let shown = shown-texts text items c.len-count.ensures settings.rows c.up_to-shown.result c.up_to-shown.ensures in
     let b = rw (c.in_ok-write_first_rows.ensures.same, c.in_ok-write_margin.ensures.same) at c.write_after_first.ensures in
     let puts = rw c.in_ok-write_margin.ensures.same at c.in_ok-write_first_rows.ensures.printed in
     let done : Result (Unit {0}) TableError = Ok tt in
@@ -86,3 +82,6 @@ returns g c =
           (λ going. sniffed-shown settings kept (λ e. going (ap (left_of settings.rows) (sym many) ∙ e))) refl c.requires.filled c.requires.some total
           (rw shown at put)),
     )
+
+pub write_first_rows-requires : goal.write_first_rows-requires
+write_first_rows-requires g c = shown-within g.C.CellText.text c.args.taken.now.rows c.len-count.ensures c.args.self.now.lines.columns.settings.now.rows c.up_to-shown.result c.up_to-shown.ensures

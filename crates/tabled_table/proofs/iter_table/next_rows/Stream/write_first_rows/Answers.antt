@@ -1,6 +1,5 @@
 use Rattle.std.proofs.Common.{◌≡◌, ◌<◌, ◌+◌, Ok, Err, nat_lt, length, map, sym, ap, ◌∙◌, take, get_or, [], arith}
-use Rattle.std.proofs.lemmas.List.{length-map, take_all}
-use Rattle.tabled_base.specs.Cells.{texts_of}
+use Rattle.std.proofs.lemmas.List.{get_or-take, length-map, length-take, take_all}
 use Rattle.tabled_table.proofs.Stream.Measures.{row-at}
 use Rattle.tabled_table.proofs.Stream.Going.{kept-next, match-err}
 use Rattle.tabled_table.proofs.iter_table.next_rows.Stream.write_first_rows.Goals as goal
@@ -9,17 +8,19 @@ pub returns-in_err-write_next_record-clause-printed : goal.returns-in_err-write_
 returns-in_err-write_next_record-clause-printed g c =
     λ config ahead_rows start e p.
     let rows = c.args.rows.now in
-    let texts = texts_of g.C.CellText.text rows in
+    let text = g.C.CellText.text in
+    let all = map (map text) rows in
+    let texts = take c.args.shown all in
     let k = c.rows.index in
     let layout = c.args.self.now.lines.columns.layout.now in
     let stream = c.rows.self in
-    let within : k < length texts = omega (arith, length-map rows (λ r. map g.C.CellText.text r.items)) in
-    let at : get_or texts k [] ≡ map g.C.CellText.text c.as_slice-cells.result.now =
-    row-at g.C.CellText.text rows k c.index-rows-index.result c.rows-test.true c.index-rows-index.is
-    ∙ ap (map g.C.CellText.text) (sym c.as_slice-cells.ensures.value) in
+    let within : k < length texts = omega (arith, length-take c.args.shown all, length-map rows (map text), c.requires, c.rows-test.true) in
+    let at : get_or texts k [] ≡ map text c.row-cells.result.now =
+    get_or-take c.args.shown all k [] c.rows-test.true
+    ∙ row-at text rows k c.row-cells.result.now (omega (arith, c.requires, c.rows-test.true)) c.row-cells.ensures in
     match-err c.from_residual.result c.in_err-write_next_record.field-0.0 _ _ c.from_residual.ensures.1 (
       k + 1,
-      kept-next {R = Unit {0}} texts k c.content_height-lines.result (map g.C.CellText.text c.as_slice-cells.result.now)
+      kept-next {R = Unit {0}} texts k c.content_height-lines.result (map text c.row-cells.result.now)
           (nat_lt k c.args.ahead) layout stream.first
           c.write_next_record.new.self.first stream.lines.begun c.write_next_record.new.self.lines.begun (g.S.TextSink.sent c.rows.sink) (g.S.TextSink.sent c.write_next_record.new.sink)
           (Err c.in_err-write_next_record.field-0.0) within at
@@ -33,15 +34,17 @@ rows-preserved g c =
       same = c.in_ok-write_next_record.ensures.same ∙ c.rows.invariant.same;
       puts = λ config ahead_rows start e p.
           let rows = c.args.rows.now in
-          let texts = texts_of g.C.CellText.text rows in
+          let text = g.C.CellText.text in
+          let all = map (map text) rows in
+          let texts = take c.args.shown all in
           let k = c.rows.index in
           let layout = c.args.self.now.lines.columns.layout.now in
           let stream = c.rows.self in
-          let within : k < length texts = omega (arith, length-map rows (λ r. map g.C.CellText.text r.items)) in
-          let at : get_or texts k [] ≡ map g.C.CellText.text c.as_slice-cells.result.now =
-          row-at g.C.CellText.text rows k c.index-rows-index.result c.rows-test.true c.index-rows-index.is
-          ∙ ap (map g.C.CellText.text) (sym c.as_slice-cells.ensures.value) in
-          kept-next texts k c.content_height-lines.result (map g.C.CellText.text c.as_slice-cells.result.now) (nat_lt k c.args.ahead) layout stream.first
+          let within : k < length texts = omega (arith, length-take c.args.shown all, length-map rows (map text), c.requires, c.rows-test.true) in
+          let at : get_or texts k [] ≡ map text c.row-cells.result.now =
+          get_or-take c.args.shown all k [] c.rows-test.true
+          ∙ row-at text rows k c.row-cells.result.now (omega (arith, c.requires, c.rows-test.true)) c.row-cells.ensures in
+          kept-next texts k c.content_height-lines.result (map text c.row-cells.result.now) (nat_lt k c.args.ahead) layout stream.first
           c.write_next_record.new.self.first stream.lines.begun c.write_next_record.new.self.lines.begun (g.S.TextSink.sent c.rows.sink) (g.S.TextSink.sent c.write_next_record.new.sink)
           (Ok c.in_ok-write_next_record.field-0) within at
           (rw c.rows.invariant.same at c.content_height-lines.ensures) (ap (nat_lt k) (sym e)) (c.rows.invariant.puts config ahead_rows start e p)
@@ -52,8 +55,7 @@ pub returns-clause-printed : goal.returns-clause-printed
 returns-clause-printed g c =
     λ config ahead_rows start e p.
     let rows = c.args.rows.now in
-    let texts = texts_of g.C.CellText.text rows in
-    let stream = c.rows.self in
-    let n = length-map rows (λ r. map g.C.CellText.text r.items) in
-    let all : take c.rows.index texts ≡ texts = take_all c.rows.index texts (omega arith) in
+    let texts = take c.args.shown (map (map g.C.CellText.text) rows) in
+    let many = length-take c.args.shown (map (map g.C.CellText.text) rows) in
+    let all : take c.rows.index texts ≡ texts = take_all c.rows.index texts (omega (arith, many)) in
     rw all at (c.rows.invariant.puts config ahead_rows start e p)

@@ -1,5 +1,4 @@
-use Rattle.std.proofs.Common.{◌≡◌, ℕ, List, [], length, take}
-use Rattle.tabled_base.specs.Cells.{texts_of}
+use Rattle.std.proofs.Common.{◌≡◌, ℕ, List, [], length, map, take}
 use Rattle.tabled_config.specs.declared.compact.CompactConfig.{CompactConfig}
 use Rattle.tabled_line.specs.Sent.{Sent}
 use Rattle.tabled_table.specs.Stream.Progress.{HasPut}
@@ -11,6 +10,6 @@ invariant-rows g l = record {
   puts : (config : CompactConfig) (ahead_rows : List (List (List ℕ))) (start : Sent) → length ahead_rows ≡ l.ahead
       → HasPut l.initial.self.lines.columns.settings.now config ahead_rows [] start l.initial.self.lines.columns.layout.now l.initial.self.first
       (g.S.TextSink.sent l.initial.sink) l.initial.self.lines.begun
-      → HasPut l.initial.self.lines.columns.settings.now config ahead_rows (take l.index (texts_of g.C.CellText.text l.rows)) start l.initial.self.lines.columns.layout.now
+      → HasPut l.initial.self.lines.columns.settings.now config ahead_rows (take l.index (take l.shown (map (map g.C.CellText.text) l.rows))) start l.initial.self.lines.columns.layout.now
       l.self.first (g.S.TextSink.sent l.sink) l.self.lines.begun;
 }

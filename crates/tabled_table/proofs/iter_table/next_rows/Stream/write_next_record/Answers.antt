@@ -1,14 +1,15 @@
-use Rattle.std.proofs.Common.{◌∙◌, ◌<◌, ◌^◌, ap, arith, min, sym}
+use Rattle.std.proofs.Common.{◌∙◌, ◌<◌, ◌^◌, ap, arith, min, refl, sym}
 use Rattle.std.proofs.lemmas.List.{length-map}
 use Rattle.tabled_base.specs.Cells.{lengthened}
+use Rattle.tabled_base.specs.declared.error.TableError.TheVariants.{Memory}
 use Rattle.tabled_table.proofs.Stream.Steps.{cut-put, next-put, next-refused}
 use Rattle.tabled_table.proofs.iter_table.next_rows.Stream.write_next_record.Goals as goal
 
 pub returns-in_err-cut-clause-printed : goal.returns-in_err-cut-clause-printed
 returns-in_err-cut-clause-printed g c =
     let stream = c.args.self.now in
-    next-refused c.from_residual.result c.in_err-cut.field-0.0 stream.lines.columns.layout.now stream.first stream.lines.begun
-    (g.S.TextSink.sent c.args.sink.now) c.args.lines _ c.from_residual.ensures.1 c.in_err-cut.ensures.only
+    next-refused c.from_residual.result Memory stream.lines.columns.layout.now stream.first stream.lines.begun
+    (g.S.TextSink.sent c.args.sink.now) c.args.lines _ c.from_residual.ensures.1 refl
 
 pub returns-clause-printed : goal.returns-clause-printed
 returns-clause-printed g c =

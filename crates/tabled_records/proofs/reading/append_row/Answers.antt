@@ -1,5 +1,5 @@
 use Rattle.tabled_records.proofs.PassRuns.{walked_given}
-use Rattle.tabled_records.proofs.reading.collect_cells.Goals as goal
+use Rattle.tabled_records.proofs.reading.append_row.Goals as goal
 
 pub returns-in-Err-clause-err : goal.returns-in-Err-clause-err
 returns-in-Err-clause-err g c =

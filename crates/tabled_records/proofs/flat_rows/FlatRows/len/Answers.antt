@@ -1,0 +1,7 @@
+use Rattle.std.proofs.Common.{◌∙◌, ap, length, sym}
+use Rattle.std.proofs.lemmas.List.{length-map}
+use Rattle.tabled_records.specs.JoinedRows.{part}
+use Rattle.tabled_records.proofs.flat_rows.FlatRows.len.Goals as goal
+
+pub returns : goal.returns
+returns g c = c.len.ensures ∙ sym (length-map c.self.inside.ranges (part c.self.inside.cells.items)) ∙ ap length c.self.view_is
