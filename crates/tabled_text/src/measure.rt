@@ -69,9 +69,8 @@ fn is_printable_tail(bytes: &[u8], start: usize) -> bool
     is_run(bytes, earlier, b' ', b'~') || is_run(bytes, start, b' ', b'~')
 }
 
-/// Returns the columns and the number of lines of any text.
-#[inline(never)]
-fn measures_of_any(text: &str) -> (usize, usize)
+/// Returns the columns and the number of lines of a text, line by line.
+fn measures_of_lines(text: &str) -> (usize, usize)
     ensures columns { result.0 ≡ text_columns text.now }
     ensures lines { result.1 ≡ length (lines_of text.now) }
     ensures bound { result.0 ≤ 2 * length text.now }
@@ -83,6 +82,20 @@ fn measures_of_any(text: &str) -> (usize, usize)
         count += 1;
     }
     (widest, count)
+}
+
+/// Returns the columns and the number of lines of any text. A text of one line isn't split.
+#[inline(never)]
+fn measures_of_any(text: &str) -> (usize, usize)
+    ensures columns { result.0 ≡ text_columns text.now }
+    ensures lines { result.1 ≡ length (lines_of text.now) }
+    ensures bound { result.0 ≤ 2 * length text.now }
+{
+    if text.as_bytes().contains(&b'\n') {
+        measures_of_lines(text)
+    } else {
+        (line_width(text), 1)
+    }
 }
 
 /// Returns the columns and the number of lines of a text. Printable ASCII is measured fastest.

@@ -1,7 +1,7 @@
 use Rattle.std.proofs.Common.{◌≡◌, ◌+◌, ◌*◌, ◌≤◌, length, max, map, All}
 use Rattle.tabled_text.specs.Lines.{lines_left}
 use Rattle.tabled_text.specs.Measure.{greatest, line_columns, lines_of, text_columns}
-use Rattle.tabled_text.proofs.measure.measures_of_any.Given as goal
+use Rattle.tabled_text.proofs.measure.measures_of_lines.Given as goal
 
 abbrev pub invariant-lines : goal.invariant-lines
 invariant-lines l = record {
