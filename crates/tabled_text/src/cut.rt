@@ -58,7 +58,8 @@ fn part_by_chars(text: &str, n: usize) -> Parts<'_>
 
 /// Cuts a text to n columns. If its first n bytes are printable ASCII, they are the cut text.
 fn part(text: &str, n: usize) -> Parts<'_>
-    ensures parted { IsParted n (chars text.now) (chars result.front.now) result.missing (chars result.after.now) }
+    ensures parted { IsParted n (chars text.now) (chars result.front.now) result.missing
+        (chars result.after.now) }
     ensures front { IsUtf8 result.front.now }
     ensures after { IsUtf8 result.after.now }
     ensures beginning { take (length result.front.now) text.now ≡ result.front.now }

@@ -326,7 +326,8 @@ pub fn wrap_text(alloc: Global, text: &str, n: usize, words: bool) -> Result<Str
 /// are then at least 1 if it isn't empty, leaves it as it is.
 #[inline]
 pub fn fits_printable(text: &str, n: usize) -> bool
-    ensures value { result ≡ (nat_le (length text.now) n && list_all (is_in_range 0x20 0x7E) text.now) }
+    ensures value { result
+        ≡ (nat_le (length text.now) n && list_all (is_in_range 0x20 0x7E) text.now) }
     ensures wrapped { (words : Bool) → result ≡ true → 0 < n → IsWrapped n words text.now text.now }
     ensures cut { result ≡ true → IsCut n text.now text.now }
 {
