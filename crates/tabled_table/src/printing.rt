@@ -1,6 +1,6 @@
 //! Prints a table with a minimum width and an alignment, and implements `Display`.
-ghost use Rattle.std.specs.Prelude.{◌≡◌, ◌⊎◌, ◌||◌, ◌+◌, ◌<◌, ◌^◌, IfErr, IfOk, None, Some, false};
-ghost use Rattle.std.specs.Prelude.{is_some, length, max, nat_lt};
+ghost use Rattle.std.specs.Prelude.{◌≡◌, ◌⊎◌, ◌+◌, ◌<◌, ◌^◌, IfErr, IfOk, None, Some, false};
+ghost use Rattle.std.specs.Prelude.{length, max};
 ghost use Rattle.tabled_text.specs.FramedLines.{IsSeparatorColumn};
 ghost use Rattle.tabled_text.specs.Plain.{IsAdditiveColumn};
 ghost use Rattle.tabled_base.specs.Cells.{columns};
@@ -34,13 +34,6 @@ fn left_part(align: Option<AlignmentHorizontal>, missing: usize) -> usize
         Some(AlignmentHorizontal::Center) => missing / 2,
         Some(AlignmentHorizontal::Right) => 0,
     }
-}
-
-/// Whether the settings have to change: an alignment is given, or columns are missing.
-fn is_changed(align: Option<AlignmentHorizontal>, missing: usize) -> bool
-    ensures { result ≡ (is_some align || nat_lt 0 missing) }
-{
-    align.is_some() || missing > 0
 }
 
 /// Returns a margin with the missing columns added to its sides.
@@ -149,7 +142,7 @@ impl Table {
             return Ok(());
         }
         let missing = self.missing_columns(width)?;
-        if !is_changed(align, missing) {
+        if align.is_none() && missing == 0 {
             return self.write_to(sink);
         }
         let config = shown_config(self.config.as_ref(), align, fill, missing)?;

@@ -1,4 +1,4 @@
-use Rattle.std.proofs.Common.{◌∙◌, ◌||◌, ap, is_some, nat_lt, sym}
+use Rattle.std.proofs.Common.{◌∙◌, ◌||◌, ap, is_some, nat_lt, not, sym}
 use Rattle.tabled_grid.proofs.Printing.{prints_nothing}
 use Rattle.tabled_table.specs.PrintedWith.{shown, shown_config}
 use Rattle.tabled_table.proofs.Shown.{prints_changed, prints_unchanged, refused_missing}
@@ -13,10 +13,11 @@ returns-in_err-missing-clause-printed g c =
     refused_missing c.args.self.now c.args.width c.args.align c.args.fill _ c.from_residual.result _
     (sym c.is_empty.ensures.value ∙ c.if-is_empty.false) c.in_err-missing.ensures.err c.from_residual.ensures.1
 
-pub returns-then-not-is_changed-clause-printed : goal.returns-then-not-is_changed-clause-printed
-returns-then-not-is_changed-clause-printed g c =
+pub returns-then-missing-eq0-clause-printed : goal.returns-then-missing-eq0-clause-printed
+returns-then-missing-eq0-clause-printed g c =
+    let none = c.is_none.ensures ∙ ap not c.if-is_none.true in
     prints_unchanged c.args.self.now c.args.width c.args.align c.args.fill _ _ c.write_to.result
-    (ap (λ n. is_some c.args.align || nat_lt 0 n) (sym c.in_ok-missing.ensures.ok) ∙ sym c.is_changed.ensures ∙ c.if-not-is_changed.true)
+    (ap (λ n. is_some c.args.align || nat_lt 0 n) (sym c.in_ok-missing.ensures.ok ∙ c.if-missing-eq0.true) ∙ ap (λ b. b || nat_lt 0 0) none)
     c.write_to.ensures
 
 pub returns-clause-printed : goal.returns-clause-printed
