@@ -2,7 +2,7 @@
 use Rattle.std.proofs.Common.{◌≡◌, ℕ, zero, suc, ◌+◌, ◌<◌, ◌≤◌, List, [], ◌∷◌, ◌++◌, length, map, max, min, take, refl, sym, ◌∙◌, ap, arith}
 use Rattle.std.proofs.Common.{get_or, ◌≢◌, below_more, ⊎_elim, MatchOption, Option, Some, None, ◌==◌, true, false, if◌then◌else◌}
 use Rattle.std.proofs.lemmas.Bool.{cases_lt}
-use Rattle.std.proofs.lemmas.List.{get_or-map, length-map, map-append, take_more, length-take, take-map, take_all}
+use Rattle.std.proofs.lemmas.List.{get_or-map, length-map, map-append, take_more, length-take, take_all}
 use Rattle.std.specs.Prelude.{Bool, unwrap_or}
 use Rattle.tabled_base.specs.Cells.{longest, cell_at, columns}
 use Rattle.tabled_text.specs.Measure.{greatest, lines_of, text_columns}

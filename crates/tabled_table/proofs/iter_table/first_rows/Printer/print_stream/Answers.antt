@@ -1,4 +1,4 @@
-use Rattle.std.proofs.Common.{◌≡◌, ◌⊎◌, ◌∙◌, ℕ, List, [], false, length, map, sym, ap, subst, arith, inl, inr, append-nil, refl, Ok, Err}
+use Rattle.std.proofs.Common.{◌≡◌, ◌⊎◌, ◌∙◌, ℕ, List, [], false, length, map, sym, subst, arith, inl, inr, append-nil, refl, Ok, Err}
 use Rattle.std.proofs.lemmas.List.{length-map}
 use Rattle.tabled_base.specs.declared.error.TableError.TheVariants.{Range}
 use Rattle.tabled_table.specs.Stream.Progress.{AreFirst, AreFurther}
