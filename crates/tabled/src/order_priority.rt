@@ -66,7 +66,8 @@ impl Peaker for OrderPriority {
 
     ghost ends = { λ s t values mins by fits named. Shrinks-done s t values mins by named };
 
-    ghost goes_on = { λ s t u values mins new by i fits above named rest. Shrinks-step s t u values mins new by i named rest };
+    ghost goes_on = { λ s t u values mins new by i fits above named rest. Shrinks-step s t u values
+        mins new by i named rest };
 
     ghost grows_nothing = { λ s values. tt };
 

@@ -66,7 +66,8 @@ fn print_blocked<'a, W: Write, B: WriterStart>(
 ) -> (Result<(), TableError>, BlockSink<'a, W>)
     requires name { (block W.contents sink).name ≡ B.name }
     requires held { IfSome (block W.contents sink).contents (λ held. held ≡ B.held) }
-    ensures put { PutsOutput plan (string_bytes text.now) (block_sent (block W.contents sink.entry)).bytes
+    ensures put { PutsOutput plan (string_bytes text.now)
+        (block_sent (block W.contents sink.entry)).bytes
         result.0 (block_sent (block W.contents result.1)).bytes }
     ensures advanced { IfSome (block W.contents sink.entry).contents
         (λ _. Advances (block W.contents sink.entry) (block W.contents result.1)) }

@@ -1,9 +1,11 @@
 //! `Builder`, which makes records row by row.
-ghost use Rattle.std.specs.Prelude.{◌≡◌, ◌≤◌, ℕ, List, [], IfOk, IfErr, OnErr, OnOk, length, map, vec_capacity};
+ghost use Rattle.std.specs.Prelude.{◌≡◌, ◌≤◌, ℕ, List, [], IfOk, IfErr, OnErr, OnOk, length, map};
+ghost use Rattle.std.specs.Prelude.{vec_capacity};
 ghost use Rattle.std.specs.Iterator.{IsFiniteIterable};
 ghost use Rattle.std.specs.Borrow.{RestsIfErr, sem};
 ghost use Rattle.std.specs.List.{All};
-ghost use Rattle.tabled_base.specs.Cells.{IsRectangular, longest, lengthened, lengthened_rows, row_texts, with_record};
+ghost use Rattle.tabled_base.specs.Cells.{IsRectangular, longest, lengthened, lengthened_rows};
+ghost use Rattle.tabled_base.specs.Cells.{row_texts, with_record};
 ghost use Rattle.tabled_base.specs.Given.{Given};
 ghost use Rattle.tabled_base.specs.declared.error.TableError.TheVariants.{Memory};
 

@@ -14,7 +14,8 @@ pub trait TableOption<R, C, D> {
     ghost changes: { Self → R → C → D → R → C → D → Type 0 };
 
     // The same relation for a change that fails with an error. By default no change fails.
-    ghost refuses: { Self → TableError → R → C → D → R → C → D → Type 0 } = { λ _ _ _ _ _ _ _ _. ⊥ };
+    ghost refuses: { Self → TableError → R → C → D → R → C → D
+        → Type 0 } = { λ _ _ _ _ _ _ _ _. ⊥ };
 
     // Holds if a sum or product of the change exceeds `usize::MAX`. By default none does.
     ghost out_of_range: { Self → R → C → D → Type 0 } = { λ _ _ _ _. ⊥ };

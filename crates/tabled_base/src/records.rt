@@ -1,5 +1,6 @@
 //! The traits of records and of their cells.
-ghost use Rattle.std.specs.Prelude.{◌≡◌, ◌++◌, ℕ, List, IfErr, OnErr, OnOk, length, string_bytes, take};
+ghost use Rattle.std.specs.Prelude.{◌≡◌, ◌++◌, ℕ, List, IfErr, OnErr, OnOk, length, string_bytes};
+ghost use Rattle.std.specs.Prelude.{take};
 ghost use Rattle.std.specs.Str.{IsCharBoundary};
 ghost use Rattle.tabled_base.specs.Cells.{IsInside, IsRectangular, cell_at, columns, with_cell};
 ghost use Rattle.tabled_base.specs.ShortOr.{FitsBehind};

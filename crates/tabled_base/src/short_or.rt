@@ -1,5 +1,6 @@
 //! `ShortOr`, a string that is stored inline if it is short.
-ghost use Rattle.std.specs.Prelude.{◌≡◌, ◌+◌, ◌++◌, ◌<◌, ◌≤◌, IfErr, IfOk, length, string_bytes, take};
+ghost use Rattle.std.specs.Prelude.{◌≡◌, ◌+◌, ◌++◌, ◌<◌, ◌≤◌, IfErr, IfOk, length, string_bytes};
+ghost use Rattle.std.specs.Prelude.{take};
 ghost use Rattle.std.specs.Str.{IsCharBoundary};
 ghost use Rattle.tabled_base.specs.ShortOr.{bytes_of};
 

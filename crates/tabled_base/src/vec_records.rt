@@ -1,6 +1,7 @@
 //! `VecRecords`, rows of equal length in vectors.
 ghost use Rattle.std.specs.Prelude.{◌≡◌, ℕ, List, IfErr, IfOk, OnErr, OnOk, map, string_bytes, ⊤};
-ghost use Rattle.tabled_base.specs.Cells.{IsInside, IsRectangular, cell_at, columns, texts_of, with_cell};
+ghost use Rattle.tabled_base.specs.Cells.{IsInside, IsRectangular, cell_at, columns, texts_of};
+ghost use Rattle.tabled_base.specs.Cells.{with_cell};
 ghost use Rattle.tabled_base.specs.declared.error.TableError.TheVariants.{Memory};
 
 use crate::error::TableError;

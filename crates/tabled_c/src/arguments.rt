@@ -58,8 +58,8 @@ fn order_of(number: u32) -> Option<Order>
     }
 }
 
-/// Returns the plan that these numbers ask for: its kind, the order in which columns shrink, and the
-/// total width in columns.
+/// Returns the plan that these numbers ask for: its kind, the order in which columns shrink, and
+/// the total width in columns.
 pub(crate) fn plan_of(kind: u32, order: u32, columns: usize) -> Option<Plan>
     ensures { (plan : Plan) → (result ≡ Some plan) ↔ Asks plan kind order columns }
 {

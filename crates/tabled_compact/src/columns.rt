@@ -1,12 +1,14 @@
 //! The columns of a compact table, and the cells in them.
-ghost use Rattle.std.specs.Prelude.{◌≡◌, ◌<◌, ◌≤◌, ◌+◌, ℕ, Bool, List, [], if◌then◌else◌, length, min, nat_lt, IfOk, IfErr, OnOk};
+ghost use Rattle.std.specs.Prelude.{◌≡◌, ◌<◌, ◌≤◌, ◌+◌, ℕ, Bool, List, [], if◌then◌else◌, length};
+ghost use Rattle.std.specs.Prelude.{min, nat_lt, IfOk, IfErr, OnOk};
 ghost use Rattle.std.specs.List.{slice_index};
 ghost use Rattle.tabled_base.specs.declared.error.TableError.TheVariants.{ShortWidths};
 ghost use Rattle.tabled_config.specs.Frame.{frame_of};
 ghost use Rattle.tabled_line.specs.Leading.{lines_after};
 ghost use Rattle.tabled_line.specs.Sent.{Sends, Sent, Writes};
 ghost use Rattle.tabled_size.specs.Reached.{reached};
-ghost use Rattle.tabled_compact.specs.CompactCells.{CompactSheet, columns_of, compact_piece, free_columns, sheet_by};
+ghost use Rattle.tabled_compact.specs.CompactCells.{CompactSheet, columns_of, compact_piece};
+ghost use Rattle.tabled_compact.specs.CompactCells.{free_columns, sheet_by};
 ghost use Rattle.tabled_compact.specs.CompactLines.{part_front, row_part};
 
 use std::marker::Model;

@@ -1,5 +1,6 @@
 //! Prints the rows of a source, one by one.
-ghost use Rattle.std.specs.Prelude.{◌≡◌, ◌==◌, ℕ, Bool, List, [], map, min, length, true, false, if◌then◌else◌, IfErr, IfOk, OnErr, OnOk};
+ghost use Rattle.std.specs.Prelude.{◌≡◌, ◌==◌, ℕ, Bool, List, [], map, min, length, true, false};
+ghost use Rattle.std.specs.Prelude.{if◌then◌else◌, IfErr, IfOk, OnErr, OnOk};
 ghost use Rattle.std.specs.Iterator.{IsFiniteIterable};
 ghost use Rattle.std.proofs.Props.{props};
 ghost use Rattle.tabled_base.specs.Given.{Given};
@@ -8,7 +9,8 @@ ghost use Rattle.tabled_line.specs.Leading.{WritesLines};
 ghost use Rattle.tabled_line.specs.LineCache.{IsCacheOf};
 ghost use Rattle.tabled_line.specs.Sent.{Sent, Writes};
 ghost use Rattle.tabled_compact.specs.CompactCells.{columns_of, sheet_by};
-ghost use Rattle.tabled_compact.specs.CompactLines.{above, compact_width, part_front, row_part, separator, tail_lines};
+ghost use Rattle.tabled_compact.specs.CompactLines.{above, compact_width, part_front, row_part};
+ghost use Rattle.tabled_compact.specs.CompactLines.{separator, tail_lines};
 ghost use Rattle.tabled_compact.specs.Printed.{IsPrintable, IsRefused, PrintsCompact};
 ghost use Rattle.tabled_compact.specs.RowsPut.{PutsRows};
 ghost use Rattle.tabled_compact.specs.Shown.{Came, IsSpent, window_after};

@@ -38,7 +38,8 @@ impl CompactMultilineConfig {
 
     /// Sets the margin around the frame.
     pub fn set_margin(&mut self, margin: Sides<Indent>)
-        ensures { self.new ≡ record self.old { config = record self.old.config { margin = margin } } }
+        ensures { self.new ≡ record
+            self.old { config = record self.old.config { margin = margin } } }
     {
         self.config = self.config.set_margin(margin);
     }
@@ -52,7 +53,8 @@ impl CompactMultilineConfig {
 
     /// Sets the padding of all cells.
     pub fn set_padding(&mut self, padding: Sides<Indent>)
-        ensures { self.new ≡ record self.old { config = record self.old.config { padding = padding } } }
+        ensures { self.new ≡ record
+            self.old { config = record self.old.config { padding = padding } } }
     {
         self.config = self.config.set_padding(padding);
     }
@@ -66,7 +68,8 @@ impl CompactMultilineConfig {
 
     /// Sets the borders.
     pub fn set_borders(&mut self, borders: Borders<char>)
-        ensures { self.new ≡ record self.old { config = record self.old.config { borders = borders } } }
+        ensures { self.new ≡ record
+            self.old { config = record self.old.config { borders = borders } } }
     {
         self.config = self.config.set_borders(borders);
     }
@@ -80,7 +83,8 @@ impl CompactMultilineConfig {
 
     /// Sets the colours of the borders.
     pub fn set_borders_color(&mut self, colors: Borders<ANSIStr<'static>>)
-        ensures { self.new ≡ record self.old { config = record self.old.config { borders_color = colors.entry } } }
+        ensures { self.new ≡ record
+            self.old { config = record self.old.config { borders_color = colors.entry } } }
     {
         self.config = self.config.set_borders_color(colors);
     }
@@ -94,7 +98,8 @@ impl CompactMultilineConfig {
 
     /// Sets the colours of the margin.
     pub fn set_margin_color(&mut self, colors: Sides<ANSIStr<'static>>)
-        ensures { self.new ≡ record self.old { config = record self.old.config { margin_color = colors.entry } } }
+        ensures { self.new ≡ record
+            self.old { config = record self.old.config { margin_color = colors.entry } } }
     {
         self.config = self.config.set_margin_color(colors);
     }
@@ -108,7 +113,8 @@ impl CompactMultilineConfig {
 
     /// Sets the colours of the padding.
     pub fn set_padding_color(&mut self, colors: Sides<ANSIStr<'static>>)
-        ensures { self.new ≡ record self.old { config = record self.old.config { padding_color = colors.entry } } }
+        ensures { self.new ≡ record
+            self.old { config = record self.old.config { padding_color = colors.entry } } }
     {
         self.config = self.config.set_padding_color(colors);
     }
@@ -122,7 +128,8 @@ impl CompactMultilineConfig {
 
     /// Sets the horizontal alignment of all cells.
     pub fn set_alignment_horizontal(&mut self, alignment: AlignmentHorizontal)
-        ensures { self.new ≡ record self.old { config = record self.old.config { alignment_horizontal = alignment } } }
+        ensures { self.new ≡ record
+            self.old { config = record self.old.config { alignment_horizontal = alignment } } }
     {
         self.config = self.config.set_alignment_horizontal(alignment);
     }

@@ -5,7 +5,7 @@
 //! - `borders`: the characters of a frame (`Borders`) and of one horizontal line
 //!   (`HorizontalLine`).
 //! - `frame`: the vertical lines and the margin of a table (`Frame`), as printers read them.
-//! - `lines`: the horizontal lines set by index.
+//! - `lines_by_index`: the horizontal lines set by index.
 //! - `sides`: one value for each of the four sides (`Sides`), and a run of one character
 //!   (`Indent`).
 //!
@@ -18,7 +18,7 @@
 //! Configurations:
 //! - `compact`, `compact_multiline`: one setting for all cells, of one line or of several.
 //! - `spanned`: settings for the whole table, rows, columns and cells (`SpannedConfig`).
-//!   - `spanned::entity_settings`: the padding, alignment and flags of an entity.
+//!   - `spanned::cell_settings`: the padding, alignment and flags of an entity.
 //!   - `spanned::alike`: whether cells or rows share their settings.
 //!   - `spanned::row_styles`: the styles of a row's cells.
 //! - `colored`: the configuration of a `Table`.
@@ -33,7 +33,7 @@ mod compact;
 mod compact_multiline;
 mod formatting;
 mod frame;
-mod lines;
+mod lines_by_index;
 mod options;
 mod sides;
 mod spanned;

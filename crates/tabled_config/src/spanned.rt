@@ -1,10 +1,11 @@
 //! The configuration of a table, with settings for rows, columns and cells (`SpannedConfig`).
-ghost use Rattle.std.specs.Prelude.{◌≡◌, ◌==◌, ℕ, if◌then◌else◌, IfErr, IfOk, IsSome, None, OnErr, OnOk, Some, []};
+ghost use Rattle.std.specs.Prelude.{◌≡◌, ◌==◌, ℕ, if◌then◌else◌, IfErr, IfOk, IsSome, None, OnErr};
+ghost use Rattle.std.specs.Prelude.{OnOk, Some, []};
 ghost use Rattle.tabled_base.specs.declared.error.TableError.TheVariants.{Memory};
 ghost use Rattle.tabled_config.specs.Lines.{line_set, with_line};
 
 mod alike;
-mod entity_settings;
+mod cell_settings;
 mod row_styles;
 
 use crate::alignment::{AlignmentHorizontal, AlignmentVertical};
@@ -12,7 +13,7 @@ use crate::borders::{Borders, HorizontalLine};
 use crate::compact::CompactConfig;
 use crate::compact_multiline::CompactMultilineConfig;
 use crate::frame::Frame;
-use crate::lines::HorizontalLines;
+use crate::lines_by_index::HorizontalLines;
 use crate::sides::{Indent, Sides};
 use crate::style::Style;
 pub use row_styles::{RowStyles, SetStyles};

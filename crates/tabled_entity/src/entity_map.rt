@@ -90,7 +90,8 @@ impl<T: Copy> EntityMap<T> {
     #[inline]
     pub fn shared(&self) -> Option<T>
         ensures value { result ≡ shared self.now }
-        ensures everywhere { IfSome result (λ value. (row column : ℕ) → setting_at self.now row column ≡ value) }
+        ensures everywhere { IfSome result (λ value. (row column : ℕ)
+            → setting_at self.now row column ≡ value) }
     {
         if self.changes.is_empty() {
             Some(self.global)
@@ -103,7 +104,8 @@ impl<T: Copy> EntityMap<T> {
     /// row, nor for one of their cells.
     #[inline]
     pub fn are_alike(&self, row: usize, other: usize) -> bool
-        ensures { result ≡ true → (column : ℕ) → setting_at self.now row column ≡ setting_at self.now other column }
+        ensures { result ≡ true → (column : ℕ)
+            → setting_at self.now row column ≡ setting_at self.now other column }
     {
         if self.changes.is_empty() {
             return true;
@@ -114,7 +116,8 @@ impl<T: Copy> EntityMap<T> {
     /// Whether all rows are known to have the same value in each column: nothing was set for any
     /// row or cell.
     pub fn are_all_alike(&self) -> bool
-        ensures { result ≡ true → (row other column : ℕ) → setting_at self.now row column ≡ setting_at self.now other column }
+        ensures { result ≡ true → (row other column : ℕ)
+            → setting_at self.now row column ≡ setting_at self.now other column }
     {
         self.places.are_all_alike()
     }
@@ -215,5 +218,6 @@ impl<T: Eq> Eq for EntityMap<T> {
     ghost use Rattle.tabled_base.specs.contracts.position.EntityEq.TheImpl.Laws.{laws-law as entity_eq};
 
     ghost laws = { and_equiv (on_equiv (λ m. m.global) T.Eq.laws) (on_equiv (λ m. reverse m.parts)
-        (lists_equiv (and_equiv (on_equiv (λ p. p.0) entity_eq) (on_equiv (λ p. p.1) T.Eq.laws)))) };
+        (lists_equiv (and_equiv (on_equiv (λ p. p.0) entity_eq)
+        (on_equiv (λ p. p.1) T.Eq.laws)))) };
 }

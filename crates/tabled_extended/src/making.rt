@@ -24,9 +24,11 @@ impl ExtendedTable<RecordTemplate> {
     ) -> Result<ExtendedTable<RecordTemplate>, TableError>
     where
         I::Item: Tabled + Drop,
-        requires { IsFiniteIterable I.into_iter_gives I.IntoIter.can_next I.IntoIter.remaining iter }
+        requires { IsFiniteIterable I.into_iter_gives I.IntoIter.can_next I.IntoIter.remaining
+            iter }
         ensures fields { IfOk result (λ table. table.fields.items ≡ map escaped I.Item.names) }
-        ensures records { IfOk result (λ table. (values : List I.Item) × (rows : List (List (List ℕ)))
+        ensures records { IfOk result (λ table. (values : List I.Item)
+            × (rows : List (List (List ℕ)))
             × Given I.into_iter_gives I.IntoIter.next_gives iter values
             × AllZip I.Item.shows values rows
             × (row_texts table.records.items ≡ map (map escaped) rows)) }

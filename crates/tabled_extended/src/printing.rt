@@ -209,7 +209,8 @@ impl<F: Template> ExtendedTable<F> {
             × (string_bytes text ≡ text_of parts)) }
         ensures in_range { OnOk result
             (IsTooWide self.now.fields.items (row_texts self.now.records.items) → ⊥) }
-        ensures err { IfErr result (λ e. ((e ≡ Memory) × (0 < length (row_texts self.now.records.items)))
+        ensures err { IfErr result (λ e. ((e ≡ Memory)
+            × (0 < length (row_texts self.now.records.items)))
             ⊎ ((e ≡ Range) × IsTooWide self.now.fields.items (row_texts self.now.records.items))) }
     {
         let mut text = String::new(*self.fields.allocator());

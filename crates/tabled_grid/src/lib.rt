@@ -11,7 +11,8 @@
 //! - `parts.rt`: the columns and rows of a grid, as `tabled_line` reads them.
 //! - `column_styles.rt`, `column_placements.rt`: what is looked up once for rows with the same
 //!   settings.
-//! - `plain.rt`: whether the settings make all lines equally wide, for plain cells or for any cells.
+//! - `plain.rt`: whether the settings make all lines equally wide, for plain cells or for any
+//!   cells.
 //! - `laws.rt`: facts about pictures.
 #![tactic(auto)]
 

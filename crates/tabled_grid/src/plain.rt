@@ -1,11 +1,13 @@
 //! Whether the settings of a table make all lines equally wide, for plain cells or for any cells.
-ghost use Rattle.std.specs.Prelude.{◌≡◌, ◌↔◌, ◌<◌, ◌≤◌, ℕ, IsTrue, Some, [], length, slice_index_or};
+ghost use Rattle.std.specs.Prelude.{◌≡◌, ◌↔◌, ◌<◌, ◌≤◌, ℕ, IsTrue, Some, [], length};
+ghost use Rattle.std.specs.Prelude.{slice_index_or};
 ghost use Rattle.std.specs.List.{All};
 ghost use Rattle.tabled_text.specs.Plain.{IsAdditiveColumn, IsPlain};
 ghost use Rattle.tabled_config.specs.Settings.{frame, rule_at, style_at};
 ghost use Rattle.tabled_config.specs.declared.borders.HorizontalLine.{HorizontalLine};
 ghost use Rattle.tabled_size.specs.PlainCells.{ArePlain};
-ghost use Rattle.tabled_line.specs.Apart.{AreApartCells, ArePaddedLeft, HasGaps, HasSteadyBars, IsApartFrame, IsApartStyle};
+ghost use Rattle.tabled_line.specs.Apart.{AreApartCells, ArePaddedLeft, HasGaps, HasSteadyBars};
+ghost use Rattle.tabled_line.specs.Apart.{IsApartFrame, IsApartStyle};
 ghost use Rattle.tabled_line.specs.Plain.{IsPlainFrame, IsPlainRule, IsPlainStyle};
 ghost use Rattle.tabled_grid.specs.ApartSheet.{IsApartConfig};
 ghost use Rattle.tabled_grid.specs.PlainSheet.{IsPlainConfig};

@@ -1,8 +1,8 @@
 -- What is cached for later lines.
 use Rattle.std.specs.Prelude.{◌≡◌, ◌∷◌, true, IfSome, Some}
 use Rattle.tabled_config.specs.declared.borders.HorizontalLine.{HorizontalLine}
-use Rattle.tabled_line.specs.declared.lines.LineCache.{LineCache}
-use Rattle.tabled_line.specs.declared.lines.CachedRule.{CachedRule}
+use Rattle.tabled_line.specs.declared.line_printer.LineCache.{LineCache}
+use Rattle.tabled_line.specs.declared.line_printer.CachedRule.{CachedRule}
 use Rattle.tabled_line.specs.Slots.{IsTemplateOf}
 use Rattle.tabled_line.specs.Buffers.{buffer_text}
 use Rattle.tabled_line.specs.Row.{ColumnSheet, rule_line}

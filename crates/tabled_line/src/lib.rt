@@ -12,7 +12,7 @@
 //!
 //! Pieces of a line:
 //! - `fill`: runs of one character: fills and padding.
-//! - `frame`: the columns of a table, vertical lines, margins and horizontal lines.
+//! - `rules`: the columns of a table, vertical lines, margins and horizontal lines.
 //! - `new_config`: the settings of a new table that is printed while its rows are read.
 //!
 //! The text of a cell:
@@ -27,7 +27,7 @@
 //! - `laws`: facts about the lines of a row.
 //!
 //! Lines below each other:
-//! - `lines`: `LinePrinter`, which writes rows, horizontal lines and margins with line feeds
+//! - `line_printer`: `LinePrinter`, which writes rows, horizontal lines and margins with line feeds
 //!   between them, and caches the last horizontal line and a row template.
 #![tactic(auto)]
 
@@ -35,10 +35,10 @@ mod block;
 mod buffer;
 mod content;
 mod fill;
-mod frame;
+mod rules;
 mod io_sink;
 pub mod laws;
-mod lines;
+mod line_printer;
 mod new_config;
 mod one_line_row;
 mod placement;
@@ -49,9 +49,9 @@ mod text_sink;
 pub use block::{CellBlock, before_text};
 pub use content::{Content, Cursor, FEW_CURSORS, MANY_CURSORS};
 pub use fill::{write_char, write_fill, write_indent, write_padded_text};
-pub use frame::{TableColumns, count_drawn, write_bar, write_left_edge, write_right_edge};
+pub use rules::{TableColumns, count_drawn, write_bar, write_left_edge, write_right_edge};
 pub use io_sink::{IoSink, WriterSink};
-pub use lines::{LinePrinter, write_break};
+pub use line_printer::{LinePrinter, write_break};
 pub use new_config::new_compact_config;
 pub use one_line_row::ColumnSeparator;
 pub use placement::{CellPlacement, KnownPlacements, Placement, UniformPlacement};

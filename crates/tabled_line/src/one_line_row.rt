@@ -11,7 +11,7 @@ ghost use Rattle.tabled_line.specs.Sent.{Sent, Writes};
 
 use crate::buffer::FixedBuffer;
 use crate::fill::write_spaces;
-use crate::frame::write_bar;
+use crate::rules::write_bar;
 use crate::placement::{KnownPlacements, RowPlacements, place_text};
 use crate::row::{CellLine, Row, write_cell};
 use crate::text_sink::TextSink;

@@ -1,5 +1,5 @@
-//! Row templates: a blank row with its vertical lines and edges is built once, and the texts of each
-//! line of a row are copied into its slots.
+//! Row templates: a blank row with its vertical lines and edges is built once, and the texts of
+//! each line of a row are copied into its slots.
 ghost use Rattle.std.specs.Prelude.{◌≡◌, ◌+◌, ◌<◌, ◌≤◌, ◌^◌, ◌++◌, [], ◌∷◌, length, take, drop};
 ghost use Rattle.std.specs.Prelude.{IfOk, IfSome, IsUtf8, MatchOption, string_bytes, true};
 ghost use Rattle.tabled_line.specs.BlankRow.{blank_row, first_offset};
@@ -8,7 +8,7 @@ ghost use Rattle.tabled_line.specs.Slots.{AreSlots, IsTemplateOf};
 ghost use Rattle.tabled_line.specs.Row.{piece, row_line};
 
 use crate::content::Cursor;
-use crate::frame::{TableColumns, write_left_edge, write_right_edge, write_rule_pieces};
+use crate::rules::{TableColumns, write_left_edge, write_right_edge, write_rule_pieces};
 use crate::placement::{KnownPlacements, RowPlacements, place_text};
 use crate::row::{CellLine, Row, place_cell};
 use crate::text_sink::TextSink;

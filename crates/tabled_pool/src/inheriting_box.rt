@@ -1,5 +1,5 @@
-//! What boxes inherit and pass on. No function of a box is inlined, so that the recursive walk has a
-//! small stack frame.
+//! What boxes inherit and pass on. No function of a box is inlined, so that the recursive walk has
+//! a small stack frame.
 ghost use Rattle.std.specs.Prelude.{◌++◌, ◌-◌, ◌==◌, ◌∷◌, ◌≡◌, IfOk, [], if◌then◌else◌, map};
 ghost use Rattle.tabled_pool.specs.Boxes.{box_along, box_of, pick};
 ghost use Rattle.tabled_pool.specs.Left.{CanSplit, given_in};

@@ -9,8 +9,8 @@
 //! - `pool_table`: `PoolTable`, its settings, its size, and how it is printed
 //! - `making`: tables of rows, and copies of tables
 //! - `applying`: options
-//! - `plain`: whether all characters are plain or the settings separate the texts, so that all lines
-//!   are equally wide; whether anything is coloured
+//! - `plain`: whether all characters are plain or the settings separate the texts, so that all
+//!   lines are equally wide; whether anything is coloured
 //!
 //! Trees, and the rectangles of their boxes:
 //! - `tree`: `TableValue`, a tree of texts, and how it is dropped

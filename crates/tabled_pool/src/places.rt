@@ -1,6 +1,7 @@
 //! Places the texts of a tree and the borders between its boxes in rectangles.
 ghost use Rattle.std.specs.Prelude.{◌++◌, ◌+◌, ◌<◌, ◌^◌, ◌∷◌, ◌≡◌, ◌≤◌, IfOk, Some, [], map};
-ghost use Rattle.tabled_pool.specs.Boxes.{behind_border, border_kind, border_part, box_along, IsSize};
+ghost use Rattle.tabled_pool.specs.Boxes.{behind_border, border_kind, border_part, box_along};
+ghost use Rattle.tabled_pool.specs.Boxes.{IsSize};
 ghost use Rattle.tabled_pool.specs.Boxes.{box_of, first_part, list_box, part_of, share};
 ghost use Rattle.tabled_pool.specs.Left.{CanSplit, given_in};
 ghost use Rattle.tabled_pool.specs.Shown.{Fits, shown};

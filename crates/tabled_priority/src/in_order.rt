@@ -4,7 +4,8 @@ ghost use Rattle.tabled_priority.specs.Permitted.{HasOneBetween, at, spare};
 ghost use Rattle.tabled_priority.specs.Shrunk.{IsSideShrunk, IsMinShrunk};
 ghost use Rattle.std.specs.Prelude.{◌≡◌, ℕ, ◌+◌, ◌*◌, ◌<◌, ◌≤◌, length};
 ghost use Rattle.tabled_priority.specs.Laws.Shrunk.{before};
-ghost use Rattle.tabled_priority.specs.Spares.{given, has_size, spare_up_to, spare_where, stands_beside};
+ghost use Rattle.tabled_priority.specs.Spares.{given, has_size, spare_up_to, spare_where};
+ghost use Rattle.tabled_priority.specs.Spares.{stands_beside};
 ghost use Rattle.tabled_priority.specs.Visits.{counted};
 
 use crate::choice::place_at;

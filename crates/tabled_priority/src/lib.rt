@@ -4,7 +4,7 @@
 //!
 //! - `peaker.rt`: `Peaker` chooses the size to change next; `TakesAll`.
 //! - `priority.rt`: `Priority` makes the five priorities; `PriorityNone` changes sizes in turn.
-//! - `stateless.rt`: the other four.
+//! - `by_size_or_side.rt`: the other four.
 //! - `choice.rt`: the size that comes first, and growing that one.
 //! - `schedule.rt`: the levels from which and up to which a size changes by one a level, and the
 //!   search for the level that is reached.
@@ -22,10 +22,10 @@ mod level;
 mod peaker;
 mod priority;
 mod schedule;
-mod stateless;
+mod by_size_or_side;
 
 pub use column::Steps;
 pub use level::is_level;
 pub use peaker::{Peaker, TakesAll};
 pub use priority::{Priority, PriorityNone};
-pub use stateless::{PriorityLeft, PriorityMax, PriorityMin, PriorityRight};
+pub use by_size_or_side::{PriorityLeft, PriorityMax, PriorityMin, PriorityRight};

@@ -1,6 +1,8 @@
 //! The traits of priorities.
-ghost use Rattle.std.specs.Prelude.{◌≡◌, ℕ, ◌+◌, ◌≤◌, ◌<◌, ◌^◌, List, [], sum, Option, Some, None, IfSome};
-ghost use Rattle.tabled_priority.specs.Permitted.{FitsMinimums, IsAbove, IsPermitted, IsTakenFrom, lowered, raised};
+ghost use Rattle.std.specs.Prelude.{◌≡◌, ℕ, ◌+◌, ◌≤◌, ◌<◌, ◌^◌, List, [], sum, Option, Some, None};
+ghost use Rattle.std.specs.Prelude.{IfSome};
+ghost use Rattle.tabled_priority.specs.Permitted.{FitsMinimums, IsAbove, IsPermitted, IsTakenFrom};
+ghost use Rattle.tabled_priority.specs.Permitted.{lowered, raised};
 ghost use Rattle.tabled_priority.specs.Grown.{IsNoneSmaller};
 ghost use Rattle.tabled_priority.specs.Visits.{changed, counted};
 

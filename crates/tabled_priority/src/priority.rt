@@ -4,16 +4,18 @@ ghost use Rattle.std.proofs.Common.{sym, subst};
 ghost use Rattle.tabled_priority.specs.Permitted.{HasEvenLosses, lowered, raised};
 ghost use Rattle.tabled_priority.specs.Peak.{NoneAbove, IsNext};
 ghost use Rattle.tabled_priority.specs.Shrunk.{IsRoundShrunk, place_after};
-ghost use Rattle.tabled_priority.specs.Laws.Round.{IsRoundShrunk-none, IsRoundShrunk-done, IsRoundShrunk-step};
+ghost use Rattle.tabled_priority.specs.Laws.Round.{IsRoundShrunk-none, IsRoundShrunk-done};
+ghost use Rattle.tabled_priority.specs.Laws.Round.{IsRoundShrunk-step};
 ghost use Rattle.tabled_priority.specs.Grown.{IsRoundGrown};
-ghost use Rattle.tabled_priority.specs.Laws.Grown.{IsRoundGrown-nothing, IsRoundGrown-none, IsRoundGrown-step};
+ghost use Rattle.tabled_priority.specs.Laws.Grown.{IsRoundGrown-nothing, IsRoundGrown-none};
+ghost use Rattle.tabled_priority.specs.Laws.Grown.{IsRoundGrown-step};
 ghost use Rattle.tabled_priority.specs.Changes.{Grows, Shrinks};
 
 use crate::change::{change_columns, place_after};
 use crate::column::{Steps, visit};
 use crate::peaker::{Peaker, TakesAll};
 use crate::schedule::Schedule;
-use crate::stateless::{PriorityLeft, PriorityMax, PriorityMin, PriorityRight};
+use crate::by_size_or_side::{PriorityLeft, PriorityMax, PriorityMin, PriorityRight};
 
 /// Makes priorities.
 #[derive(Debug, Clone, Copy, Default, PartialEq, Eq, PartialOrd, Ord, Hash)]

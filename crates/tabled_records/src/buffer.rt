@@ -1,7 +1,10 @@
 //! Records with some rows read ahead.
-ghost use Rattle.std.specs.Prelude.{◌≡◌, ◌<◌, ◌≤◌, List, Bool, length, false, true, MatchOption, None, ⊤, IfErr, IfOk, OnErr, is_none};
+ghost use Rattle.std.specs.Prelude.{◌≡◌, ◌<◌, ◌≤◌, List, Bool, length, false, true, MatchOption};
+ghost use Rattle.std.specs.Prelude.{None, ⊤, IfErr, IfOk, OnErr, is_none};
 ghost use Rattle.tabled_base.specs.declared.error.TableError.TheVariants.{Memory};
-ghost use Rattle.tabled_records.specs.Buffered.{BeginsSome, BufBegin, MayGiveLater, buf_cell_steps, buf_steps, can_cell, cells_ahead, cells_left, rows_left};
+ghost use Rattle.tabled_records.specs.Buffered.{BeginsSome, BufBegin, MayGiveLater, buf_cell_steps};
+ghost use Rattle.tabled_records.specs.Buffered.{buf_steps, can_cell, cells_ahead, cells_left};
+ghost use Rattle.tabled_records.specs.Buffered.{rows_left};
 
 use crate::reading::take_rows;
 use std::alloc::Global;
@@ -92,17 +95,24 @@ where
     /// no row after these, and none after the end. Error: `Memory`, only if there is a row.
     pub fn new(alloc: Global, records: R, count: usize) -> Result<BufRecords<R>, TableError>
         requires { R.ends records }
-        ensures ahead { IfOk result (λ view. R.begins records (cells_ahead view.ahead.items) (is_none view.rows)) }
+        ensures ahead { IfOk result
+            (λ view. R.begins records (cells_ahead view.ahead.items) (is_none view.rows)) }
         ensures most { IfOk result (λ view. length view.ahead.items ≤ count) }
         ensures fewer { IfOk result (λ view. length view.ahead.items < count → view.rows ≡ None) }
-        ensures unseen { IfOk result (λ view. length view.ahead.items ≡ count → is_none view.rows ≡ false) }
-        ensures ends { IfOk result (λ view. MayGiveLater R.IterRows.IntoIter.can_next R.IterRows.IntoIter.next_gives R.IterRows.IntoIter.remaining
+        ensures unseen { IfOk result (λ view. length view.ahead.items ≡ count
+            → is_none view.rows ≡ false) }
+        ensures ends { IfOk result (λ view. MayGiveLater R.IterRows.IntoIter.can_next
+            R.IterRows.IntoIter.next_gives R.IterRows.IntoIter.remaining
             R.IterColumns.into_iter_gives R.IterColumns.IntoIter.can_next R.IterColumns.IntoIter.remaining view.rows) }
-        ensures begins { IfOk result (λ view. (cells : List (List R.Cell)) (whole : Bool) → BufBegin R.IterRows.IntoIter.next_gives
-            R.IterColumns.into_iter_gives R.IterColumns.IntoIter.next_gives (cells_ahead view.ahead.items) view.rows cells whole
+        ensures begins { IfOk result (λ view. (cells : List (List R.Cell)) (whole : Bool)
+            → BufBegin R.IterRows.IntoIter.next_gives
+            R.IterColumns.into_iter_gives R.IterColumns.IntoIter.next_gives (cells_ahead
+            view.ahead.items) view.rows cells whole
             → R.begins records cells whole) }
-        ensures gives { IfOk result (λ view. (cells : List (List R.Cell)) → BufBegin R.IterRows.IntoIter.next_gives
-            R.IterColumns.into_iter_gives R.IterColumns.IntoIter.next_gives (cells_ahead view.ahead.items) view.rows cells true
+        ensures gives { IfOk result (λ view. (cells : List (List R.Cell))
+            → BufBegin R.IterRows.IntoIter.next_gives
+            R.IterColumns.into_iter_gives R.IterColumns.IntoIter.next_gives (cells_ahead
+            view.ahead.items) view.rows cells true
             → R.gives records cells) }
         ensures only { IfErr result (λ e. e ≡ Memory) }
         ensures err { OnErr result (BeginsSome (R.begins records) count) }
@@ -134,13 +144,16 @@ where
 
     type IterRows = BufRows<R::Cell, <R::IterRows as IntoIterator>::IntoIter>;
 
-    ghost ends = { λ view. MayGiveLater R.IterRows.IntoIter.can_next R.IterRows.IntoIter.next_gives R.IterRows.IntoIter.remaining
+    ghost ends = { λ view. MayGiveLater R.IterRows.IntoIter.can_next R.IterRows.IntoIter.next_gives
+        R.IterRows.IntoIter.remaining
         R.IterColumns.into_iter_gives R.IterColumns.IntoIter.can_next R.IterColumns.IntoIter.remaining view.rows };
 
-    ghost gives = { λ view cells. BufBegin R.IterRows.IntoIter.next_gives R.IterColumns.into_iter_gives R.IterColumns.IntoIter.next_gives
+    ghost gives = { λ view cells. BufBegin R.IterRows.IntoIter.next_gives
+        R.IterColumns.into_iter_gives R.IterColumns.IntoIter.next_gives
         (cells_ahead view.ahead.items) view.rows cells true };
 
-    ghost begins = { λ view. BufBegin R.IterRows.IntoIter.next_gives R.IterColumns.into_iter_gives R.IterColumns.IntoIter.next_gives
+    ghost begins = { λ view. BufBegin R.IterRows.IntoIter.next_gives R.IterColumns.into_iter_gives
+        R.IterColumns.IntoIter.next_gives
         (cells_ahead view.ahead.items) view.rows };
 
     fn iter_rows(self) -> BufRows<R::Cell, <R::IterRows as IntoIterator>::IntoIter> {

@@ -1,5 +1,6 @@
 //! What a cell of other records has become. It takes 24 bytes, and more only for a long text.
-ghost use Rattle.std.specs.Prelude.{◌≡◌, ◌+◌, ◌++◌, ◌≤◌, ℕ, IfErr, IfOk, List, MatchOption, drop, length, string_bytes, take};
+ghost use Rattle.std.specs.Prelude.{◌≡◌, ◌+◌, ◌++◌, ◌≤◌, ℕ, IfErr, IfOk, List, MatchOption, drop};
+ghost use Rattle.std.specs.Prelude.{length, string_bytes, take};
 ghost use Rattle.std.specs.Str.{IsCharBoundary};
 ghost use Rattle.tabled_base.specs.ShortOr.{FitsBehind};
 ghost use Rattle.tabled_base.specs.declared.error.TableError.TheVariants.{Memory};

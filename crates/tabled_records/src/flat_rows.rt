@@ -1,5 +1,6 @@
 //! Rows whose cells are in one list.
-ghost use Rattle.std.specs.Prelude.{◌≡◌, ◌<◌, ◌≤◌, [], false, length, map, slice_index_or, true, IfErr, IfOk, OnErr};
+ghost use Rattle.std.specs.Prelude.{◌≡◌, ◌<◌, ◌≤◌, [], false, length, map, slice_index_or, true};
+ghost use Rattle.std.specs.Prelude.{IfErr, IfOk, OnErr};
 ghost use Rattle.tabled_base.specs.declared.error.TableError.TheVariants.{Memory};
 ghost use Rattle.tabled_records.specs.Reading.{MayGive, ReadsSome, ReadsTo};
 ghost use Rattle.tabled_text.specs.Measure.{greatest};
@@ -63,8 +64,10 @@ pub fn take_flat_rows<I: Iterator<Item = W>, W: IntoIterator<Item = C>, C: Drop>
     rows: &mut I,
     count: usize,
 ) -> Result<Taken<FlatRows<C>>, TableError>
-    requires { MayGive I.can_next I.next_gives I.remaining W.into_iter_gives W.IntoIter.can_next W.IntoIter.remaining rows.old }
-    ensures ok { IfOk result (λ taken. ReadsTo I.next_gives W.into_iter_gives W.IntoIter.next_gives rows.old
+    requires { MayGive I.can_next I.next_gives I.remaining W.into_iter_gives W.IntoIter.can_next
+        W.IntoIter.remaining rows.old }
+    ensures ok { IfOk result (λ taken. ReadsTo I.next_gives W.into_iter_gives W.IntoIter.next_gives
+        rows.old
         taken.rows taken.whole rows.new) }
     ensures open { IfOk result (λ taken. taken.whole ≡ false → (length taken.rows ≡ count)
         × MayGive I.can_next I.next_gives I.remaining W.into_iter_gives W.IntoIter.can_next W.IntoIter.remaining rows.new) }

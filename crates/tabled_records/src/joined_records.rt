@@ -1,5 +1,6 @@
 //! Texts that are joined in one buffer, and records of them.
-ghost use Rattle.std.specs.Prelude.{◌≡◌, ℕ, ◌+◌, ◌<◌, ◌≤◌, ◌++◌, [], ◌∷◌, IfErr, OnErr, OnOk, length, List, map};
+ghost use Rattle.std.specs.Prelude.{◌≡◌, ℕ, ◌+◌, ◌<◌, ◌≤◌, ◌++◌, [], ◌∷◌, IfErr, OnErr, OnOk};
+ghost use Rattle.std.specs.Prelude.{length, List, map};
 ghost use Rattle.std.specs.List.{slice_index_or};
 ghost use Rattle.tabled_base.specs.Cells.{IsInside, cell_at, with_record};
 ghost use Rattle.tabled_base.specs.declared.error.TableError.TheVariants.{Memory};
@@ -43,8 +44,8 @@ fn lines_at(lines: &[usize], place: usize) -> usize
     lines.get(place).copied().unwrap_or(1)
 }
 
-/// Stores the end, the columns and the lines of a text. If it fails, those of the texts before it are
-/// unchanged.
+/// Stores the end, the columns and the lines of a text. If it fails, those of the texts before it
+/// are unchanged.
 fn push_ends(
     ends: &mut Pairs,
     lines: &mut Vec<usize>,

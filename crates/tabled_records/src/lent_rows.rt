@@ -1,5 +1,6 @@
 //! Rows whose cells borrow one text or the cells of other records.
-ghost use Rattle.std.specs.Prelude.{◌≡◌, ℕ, List, length, [], ◌<◌, ◌≤◌, IfErr, IfOk, OnErr, map, true};
+ghost use Rattle.std.specs.Prelude.{◌≡◌, ℕ, List, length, [], ◌<◌, ◌≤◌, IfErr, IfOk, OnErr, map};
+ghost use Rattle.std.specs.Prelude.{true};
 ghost use Rattle.std.specs.Prelude.{slice_index_or};
 ghost use Rattle.tabled_records.specs.Joined.{AreKept, texts_from};
 ghost use Rattle.tabled_records.specs.JoinedRows.{AreRanges, rows_in};

@@ -111,7 +111,8 @@ where
 
     ghost gives = { λ view. AreChanged (R.gives view.records) (drop view.count) };
 
-    ghost begins = { λ view cells whole. AreChanged (λ all. R.begins view.records all whole) (drop view.count) cells };
+    ghost begins = { λ view cells whole. AreChanged (λ all. R.begins view.records all whole)
+        (drop view.count) cells };
 
     fn iter_rows(self) -> LaterRows<<R::IterRows as IntoIterator>::IntoIter> {
         LaterRows {
@@ -120,7 +121,9 @@ where
         }
     }
 
-    ghost whole_rows = { λ view cells begun. record { all = begun.all; given = R.whole_rows view.records begun.all begun.given; changed = begun.changed } };
+    ghost whole_rows = { λ view cells begun.
+        record { all = begun.all; given = R.whole_rows view.records begun.all begun.given; changed =
+        begun.changed } };
 }
 
 /// The first cells of each row. The other cells are read and dropped when the iterator is asked for
@@ -187,7 +190,8 @@ where
     ghost can_next = { λ s. I.can_next s.rows };
 
     ghost next_gives = { λ s r t. (t.limit ≡ s.limit) × RowOfRow I.next_gives
-        (λ row cells. I.Item.into_iter_gives row cells.cells × (cells.left ≡ s.limit)) s.rows r t.rows };
+        (λ row cells. I.Item.into_iter_gives row cells.cells
+        × (cells.left ≡ s.limit)) s.rows r t.rows };
 
     ghost remaining = { λ s. I.remaining s.rows };
 
@@ -214,7 +218,8 @@ where
 
     ghost gives = { λ view. AreChanged (R.gives view.records) (map (take view.limit)) };
 
-    ghost begins = { λ view cells whole. AreChanged (λ all. R.begins view.records all whole) (map (take view.limit)) cells };
+    ghost begins = { λ view cells whole. AreChanged (λ all. R.begins view.records all whole)
+        (map (take view.limit)) cells };
 
     fn iter_rows(self) -> NarrowRows<<R::IterRows as IntoIterator>::IntoIter> {
         NarrowRows {
@@ -223,5 +228,7 @@ where
         }
     }
 
-    ghost whole_rows = { λ view cells begun. record { all = begun.all; given = R.whole_rows view.records begun.all begun.given; changed = begun.changed } };
+    ghost whole_rows = { λ view cells begun.
+        record { all = begun.all; given = R.whole_rows view.records begun.all begun.given; changed =
+        begun.changed } };
 }

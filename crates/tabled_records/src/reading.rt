@@ -1,11 +1,13 @@
 //! Reading rows one by one, and cells to their end.
-ghost use Rattle.std.specs.Prelude.{◌≡◌, ◌<◌, ◌≤◌, ◌∷◌, ◌++◌, List, [], false, true, length, IfErr, IfOk, OnErr};
+ghost use Rattle.std.specs.Prelude.{◌≡◌, ◌<◌, ◌≤◌, ◌∷◌, ◌++◌, List, [], false, true, length, IfErr};
+ghost use Rattle.std.specs.Prelude.{IfOk, OnErr};
 ghost use Rattle.std.specs.Prelude.{OnOk, MatchOption, Some, None};
 ghost use Rattle.std.specs.Iterator.{IsFinite, IsFiniteIterable, YieldsThen, size};
 ghost use Rattle.tabled_base.specs.declared.error.TableError.TheVariants.{Memory};
 ghost use Rattle.tabled_base.specs.Given.{Given};
 ghost use Rattle.tabled_records.specs.Buffered.{cells_ahead};
-ghost use Rattle.tabled_records.specs.Reading.{IsAppended, MayGive, Reads, ReadsSome, ReadsTo, Walked};
+ghost use Rattle.tabled_records.specs.Reading.{IsAppended, MayGive, Reads, ReadsSome, ReadsTo};
+ghost use Rattle.tabled_records.specs.Reading.{Walked};
 
 use std::alloc::Global;
 use tabled_base::TableError;
@@ -17,7 +19,8 @@ fn keep_cells<I: Iterator<Item = C>, C: Drop>(
 ) -> Result<(), TableError>
     requires can { I.can_next cells.old }
     requires finite { IsFinite (I.remaining cells.old) }
-    ensures ok { OnOk result ((items : List C) × YieldsThen I.next_gives cells.old items None cells.new
+    ensures ok { OnOk result ((items : List C)
+        × YieldsThen I.next_gives cells.old items None cells.new
         × (row.new.items ≡ row.old.items ++ items)) }
     ensures err { OnErr result (Walked I.can_next I.next_gives I.remaining cells.old cells.new) }
     ensures only { IfErr result (λ e. e ≡ Memory) }
@@ -28,14 +31,15 @@ fn keep_cells<I: Iterator<Item = C>, C: Drop>(
     Ok(())
 }
 
-/// Appends the cells of a row to a list. Error: `Memory`; the other cells are read and dropped then,
-/// so that a source whose rows share their input goes on with its next row.
+/// Appends the cells of a row to a list. Error: `Memory`; the other cells are read and dropped
+/// then, so that a source whose rows share their input goes on with its next row.
 fn append_row<I: IntoIterator<Item = C>, C: Drop>(
     list: &mut Vec<C>,
     cells: I,
 ) -> Result<(), TableError>
     requires { IsFiniteIterable I.into_iter_gives I.IntoIter.can_next I.IntoIter.remaining cells }
-    ensures ok { OnOk result ((row : List C) × Given I.into_iter_gives I.IntoIter.next_gives cells row
+    ensures ok { OnOk result ((row : List C)
+        × Given I.into_iter_gives I.IntoIter.next_gives cells row
         × (list.new.items ≡ list.old.items ++ row)) }
     ensures err { OnErr result ((row : List C)
         × Given I.into_iter_gives I.IntoIter.next_gives cells row) }
@@ -55,8 +59,10 @@ pub fn append_cells<I: Iterator<Item = W>, W: IntoIterator<Item = C>, C: Drop>(
     list: &mut Vec<C>,
     rows: &mut I,
 ) -> Result<bool, TableError>
-    requires { MayGive I.can_next I.next_gives I.remaining W.into_iter_gives W.IntoIter.can_next W.IntoIter.remaining rows.old }
-    ensures ok { IfOk result (λ more. IsAppended I.next_gives W.into_iter_gives W.IntoIter.next_gives
+    requires { MayGive I.can_next I.next_gives I.remaining W.into_iter_gives W.IntoIter.can_next
+        W.IntoIter.remaining rows.old }
+    ensures ok { IfOk result (λ more. IsAppended I.next_gives W.into_iter_gives
+        W.IntoIter.next_gives
         rows.old list.old.items more list.new.items rows.new) }
     ensures goes { IfOk result (λ more. more ≡ true
         → MayGive I.can_next I.next_gives I.remaining W.into_iter_gives W.IntoIter.can_next W.IntoIter.remaining rows.new
@@ -80,11 +86,14 @@ pub fn next_cells<I: Iterator<Item = W>, W: IntoIterator<Item = C>, C: Drop>(
     alloc: Global,
     rows: &mut I,
 ) -> Result<Option<Vec<C>>, TableError>
-    requires { MayGive I.can_next I.next_gives I.remaining W.into_iter_gives W.IntoIter.can_next W.IntoIter.remaining rows.old }
+    requires { MayGive I.can_next I.next_gives I.remaining W.into_iter_gives W.IntoIter.can_next
+        W.IntoIter.remaining rows.old }
     ensures ok { IfOk result (λ next. MatchOption next (I.next_gives rows.old None rows.new)
-        (λ row. Reads I.next_gives W.into_iter_gives W.IntoIter.next_gives rows.old (row.items ∷ []) rows.new)) }
+        (λ row. Reads I.next_gives W.into_iter_gives W.IntoIter.next_gives rows.old
+        (row.items ∷ []) rows.new)) }
     ensures goes { IfOk result (λ next. MatchOption next (Unit {0})
-        (λ row. MayGive I.can_next I.next_gives I.remaining W.into_iter_gives W.IntoIter.can_next W.IntoIter.remaining rows.new
+        (λ row. MayGive I.can_next I.next_gives I.remaining W.into_iter_gives W.IntoIter.can_next
+        W.IntoIter.remaining rows.new
         × (size (I.remaining rows.new) < size (I.remaining rows.old)))) }
     ensures err { OnErr result ((row : List C)
         × Reads I.next_gives W.into_iter_gives W.IntoIter.next_gives rows.old (row ∷ []) rows.new) }
@@ -111,8 +120,10 @@ pub fn take_rows<I: Iterator<Item = W>, W: IntoIterator<Item = C>, C: Drop>(
     rows: &mut I,
     count: usize,
 ) -> Result<Taken<Vec<Vec<C>>>, TableError>
-    requires { MayGive I.can_next I.next_gives I.remaining W.into_iter_gives W.IntoIter.can_next W.IntoIter.remaining rows.old }
-    ensures ok { IfOk result (λ taken. ReadsTo I.next_gives W.into_iter_gives W.IntoIter.next_gives rows.old
+    requires { MayGive I.can_next I.next_gives I.remaining W.into_iter_gives W.IntoIter.can_next
+        W.IntoIter.remaining rows.old }
+    ensures ok { IfOk result (λ taken. ReadsTo I.next_gives W.into_iter_gives W.IntoIter.next_gives
+        rows.old
         (cells_ahead taken.rows.items) taken.whole rows.new) }
     ensures open { IfOk result (λ taken. taken.whole ≡ false → (length taken.rows.items ≡ count)
         × MayGive I.can_next I.next_gives I.remaining W.into_iter_gives W.IntoIter.can_next W.IntoIter.remaining rows.new) }
@@ -146,7 +157,8 @@ where
     I::Item: Drop,
     requires can { I.can_next cells.old }
     requires finite { IsFinite (I.remaining cells.old) }
-    ensures walked { (items : List I.Item) × YieldsThen I.next_gives cells.old items None cells.new }
+    ensures walked { (items : List I.Item)
+        × YieldsThen I.next_gives cells.old items None cells.new }
     ensures finite { IsFinite (I.remaining cells.new) }
 {
     while let Some(_cell) = cells.next() {}

@@ -24,8 +24,10 @@ impl<C: CellText> CutCell<C> {
     /// Returns the text of the cell, cut to its width if it has one. The text is borrowed unless it
     /// ends with such a U+FFFD; then it is allocated. Error: `Memory`.
     pub fn text(&self, alloc: Global) -> Result<CowStr<'_, Global>, TableError>
-        ensures text { IfOk result (λ answer. IsShown self.now.width (C.text self.now.cell) (cow_str_bytes answer)) }
-        ensures owned { IfOk result (λ answer. IsOwnedStr answer → WantsFill self.now.width (C.text self.now.cell)) }
+        ensures text { IfOk result (λ answer. IsShown self.now.width (C.text self.now.cell)
+            (cow_str_bytes answer)) }
+        ensures owned { IfOk result (λ answer. IsOwnedStr answer
+            → WantsFill self.now.width (C.text self.now.cell)) }
         ensures only { IfErr result (λ e. e ≡ Memory) }
         ensures err { OnErr result (WantsFill self.now.width (C.text self.now.cell)) }
     {
@@ -100,7 +102,8 @@ where
     ghost can_next = { λ s. I.can_next s.rows };
 
     ghost next_gives = { λ s r t. (t.widths.now ≡ s.widths.now) × RowOfRow I.next_gives
-        (λ row cells. I.Item.into_iter_gives row cells.cells × (cells.widths.now ≡ s.widths.now)) s.rows r t.rows };
+        (λ row cells. I.Item.into_iter_gives row cells.cells
+        × (cells.widths.now ≡ s.widths.now)) s.rows r t.rows };
 
     ghost remaining = { λ s. I.remaining s.rows };
 
@@ -134,5 +137,7 @@ impl<'a, R: IntoRecords> IntoRecords for TruncateContent<'a, R> {
         }
     }
 
-    ghost whole_rows = { λ view cells begun. record { all = begun.all; given = R.whole_rows view.records begun.all begun.given; changed = begun.changed } };
+    ghost whole_rows = { λ view cells begun.
+        record { all = begun.all; given = R.whole_rows view.records begun.all begun.given; changed =
+        begun.changed } };
 }

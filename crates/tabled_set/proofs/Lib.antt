@@ -7,6 +7,6 @@ pub mod JoinedLines
 pub mod NarrowingTables
 pub mod Picking
 pub mod PromisedSizes
-pub mod Promises
+pub mod WrappedAndTruncated
 pub mod Stopping
 pub mod TruncatedTexts

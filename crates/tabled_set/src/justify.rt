@@ -1,7 +1,8 @@
 //! The option `Justify`, which makes all cells equally wide.
 ghost use Rattle.std.specs.Prelude.{◌≡◌};
 ghost use Rattle.tabled_set.specs.Common.{Global};
-ghost use Rattle.tabled_set.specs.CellChanges.{ChangesEntity, StopsEntity, if_taken, never_in_place, NotAsWide};
+ghost use Rattle.tabled_set.specs.CellChanges.{ChangesEntity, StopsEntity, if_taken};
+ghost use Rattle.tabled_set.specs.CellChanges.{never_in_place, NotAsWide};
 ghost use Rattle.tabled_set.specs.TextLines.{IsJustified};
 
 use crate::measurement::{Max, Measurement, Min, Width};

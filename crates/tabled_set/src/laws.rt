@@ -1,7 +1,8 @@
 //! Facts about truncated texts, stated as contracts.
 ghost use Rattle.std.specs.Prelude.{ℕ, Bool, true, false, List, []};
 ghost use Rattle.tabled_set.specs.Common.{FitsIn, IsAdditive, IsCut, IsExactLine, IsLongestCut};
-ghost use Rattle.tabled_set.specs.Truncated.{HasLongestLines, IsAdditiveLimit, IsTruncated, SuffixLimit};
+ghost use Rattle.tabled_set.specs.Truncated.{HasLongestLines, IsAdditiveLimit, IsTruncated};
+ghost use Rattle.tabled_set.specs.Truncated.{SuffixLimit};
 ghost use Rattle.tabled_text.specs.Room.{StaysWithin};
 
 /// States what holds for a truncated text:

@@ -1,11 +1,14 @@
 //! The trait `Measurement`, the numbers that options read from a table, and the measurements `Max`,
 //! `Min` and `Percent`.
-ghost use Rattle.std.specs.Prelude.{◌≡◌, ℕ, ◌+◌, ◌<◌, ◌≤◌, ◌^◌, IfErr, IfOk, List, MatchOption, OnOk, [], false, length, map};
+ghost use Rattle.std.specs.Prelude.{◌≡◌, ℕ, ◌+◌, ◌<◌, ◌≤◌, ◌^◌, IfErr, IfOk, List, MatchOption};
+ghost use Rattle.std.specs.Prelude.{OnOk, [], false, length, map};
 ghost use Rattle.std.specs.Iterator.{IsFiniteIterable};
 ghost use Rattle.std.specs.List.{range_with_len};
-ghost use Rattle.tabled_set.specs.Common.{cell_at, estimated, IsInside, Memory, Range, SpannedConfig};
+ghost use Rattle.tabled_set.specs.Common.{cell_at, estimated, IsInside, Memory, Range};
+ghost use Rattle.tabled_set.specs.Common.{SpannedConfig};
 ghost use Rattle.tabled_base.specs.Given.{Given};
-ghost use Rattle.tabled_set.specs.Extremes.{extent_of, min_of, picked, picked_in_row, picked_of_rows, HasNoPercent, percent_of, total_of};
+ghost use Rattle.tabled_set.specs.Extremes.{extent_of, min_of, picked, picked_in_row};
+ghost use Rattle.tabled_set.specs.Extremes.{picked_of_rows, HasNoPercent, percent_of, total_of};
 ghost use Rattle.tabled_set.specs.Extremes.{Greatest, TextMeasure, Columns, Lines};
 ghost use Rattle.tabled_set.specs.Truncated.{Cut};
 

@@ -1,8 +1,11 @@
 //! Narrows a table to a total width, and changes its cells to fit.
-ghost use Rattle.std.specs.Prelude.{◌≡◌, ◌⊎◌, IfErr, IfOk, ◌<◌, ◌≤◌, MatchOption, OnErr, Some, false, is_some, true, None, if◌then◌else◌, ◌-◌, OnOk};
-ghost use Rattle.tabled_set.specs.Common.{at, effective, is_empty, IsRectangular, Memory, Range, total_width, widths_of};
+ghost use Rattle.std.specs.Prelude.{◌≡◌, ◌⊎◌, IfErr, IfOk, ◌<◌, ◌≤◌, MatchOption, OnErr, Some};
+ghost use Rattle.std.specs.Prelude.{false, is_some, true, None, if◌then◌else◌, ◌-◌, OnOk};
+ghost use Rattle.tabled_set.specs.Common.{at, effective, is_empty, IsRectangular, Memory, Range};
+ghost use Rattle.tabled_set.specs.Common.{total_width, widths_of};
 ghost use Rattle.tabled_set.specs.CellChanges.{if_taken};
-ghost use Rattle.tabled_set.specs.Narrowed.{is_permitted, WiderOutOfRange, Narrows, NarrowingOutOfRange, StopsNarrowing, IsFound};
+ghost use Rattle.tabled_set.specs.Narrowed.{is_permitted, WiderOutOfRange, Narrows};
+ghost use Rattle.tabled_set.specs.Narrowed.{NarrowingOutOfRange, StopsNarrowing, IsFound};
 ghost use Rattle.tabled_set.specs.Minimums.{emptied, side_padding};
 
 use crate::measurement::{Measurement, Width};

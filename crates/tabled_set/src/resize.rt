@@ -1,10 +1,12 @@
 //! `Resize`, the type of the options that change widths and heights: their transforms of one text,
 //! the cells that they are for, and the change of one, in place if possible.
-ghost use Rattle.std.specs.Prelude.{◌≡◌, ℕ, Option, Some, true, IfErr, IfNone, IfOk, IfSome, List, OnErr, OnOk, string_bytes};
+ghost use Rattle.std.specs.Prelude.{◌≡◌, ℕ, Option, Some, true, IfErr, IfNone, IfOk, IfSome, List};
+ghost use Rattle.std.specs.Prelude.{OnErr, OnOk, string_bytes};
 ghost use Rattle.std.specs.Str.{IsCharBoundary};
 ghost use Rattle.tabled_set.specs.Common.{Cell, cell_at, covers, IsInside, Memory};
 ghost use Rattle.tabled_base.specs.ShortOr.{FitsBehind};
-ghost use Rattle.tabled_set.specs.CellChanges.{is_taken, AreChanged, CellFilter, IsCutInPlace, leaves, needs, ChangesEntity, StopsEntity, if_taken};
+ghost use Rattle.tabled_set.specs.CellChanges.{is_taken, AreChanged, CellFilter, IsCutInPlace};
+ghost use Rattle.tabled_set.specs.CellChanges.{leaves, needs, ChangesEntity, StopsEntity, if_taken};
 ghost use Rattle.tabled_set.specs.Truncated.{ended_text};
 
 use crate::measurement::Measurement;

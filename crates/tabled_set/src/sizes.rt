@@ -1,10 +1,12 @@
-//! Lists of sizes: those of a table with their total, lists that a priority has shrunk or grown, and
-//! the options `WidthList` and `HeightList`, which store given sizes.
+//! Lists of sizes: those of a table with their total, lists that a priority has shrunk or grown,
+//! and the options `WidthList` and `HeightList`, which store given sizes.
 ghost use Rattle.std.specs.Iterator.{IsFiniteIterable};
 ghost use Rattle.std.specs.List.{slice_index};
-ghost use Rattle.std.specs.Prelude.{◌≡◌, ◌⊎◌, ◌+◌, ◌<◌, ◌≤◌, ◌^◌, IfErr, IfOk, length, sum, None, Some, false, is_some, true};
+ghost use Rattle.std.specs.Prelude.{◌≡◌, ◌⊎◌, ◌+◌, ◌<◌, ◌≤◌, ◌^◌, IfErr, IfOk, length, sum, None};
+ghost use Rattle.std.specs.Prelude.{Some, false, is_some, true};
 ghost use Rattle.tabled_base.specs.Given.{Given};
-ghost use Rattle.tabled_set.specs.Common.{effective, estimated, estimated_heights, FitsMinimums, is_empty, IsTooHigh, Memory, Range};
+ghost use Rattle.tabled_set.specs.Common.{effective, estimated, estimated_heights, FitsMinimums};
+ghost use Rattle.tabled_set.specs.Common.{is_empty, IsTooHigh, Memory, Range};
 ghost use Rattle.tabled_set.specs.Common.{total_height, total_width, widths_of};
 ghost use Rattle.tabled_set.specs.Increased.{IsGrownBy};
 ghost use Rattle.tabled_set.specs.Extremes.{StoresSizes};

@@ -1,11 +1,14 @@
-//! The option `Truncate`, which truncates cells and narrows tables, and the suffix that ends a text.
+//! The option `Truncate`, which truncates cells and narrows tables, and the suffix that ends a
+//! text.
 ghost use Rattle.std.specs.Cow.{cow_str_bytes, IsOwnedStr};
-ghost use Rattle.std.specs.Prelude.{◌≡◌, ◌-◌, [], IfErr, IfNone, IfOk, IfSome, None, OnErr, OnOk, Some, false, if◌then◌else◌};
+ghost use Rattle.std.specs.Prelude.{◌≡◌, ◌-◌, [], IfErr, IfNone, IfOk, IfSome, None, OnErr, OnOk};
+ghost use Rattle.std.specs.Prelude.{Some, false, if◌then◌else◌};
 ghost use Rattle.std.specs.Prelude.{nat_lt, string_bytes};
 ghost use Rattle.tabled_set.specs.Common.{effective, is_empty, IsCut, Memory, NeedsFill};
 ghost use Rattle.tabled_set.specs.CellChanges.{truncating, if_wider, Wider};
 ghost use Rattle.tabled_set.specs.Narrowed.{Narrows, NarrowingOutOfRange, StopsNarrowing};
-ghost use Rattle.tabled_set.specs.Truncated.{AddsEnded, Cut, HasEndedLines, IsMade, IsTruncated, IsUsed, suffix_columns, truncating_in_place};
+ghost use Rattle.tabled_set.specs.Truncated.{AddsEnded, Cut, HasEndedLines, IsMade, IsTruncated};
+ghost use Rattle.tabled_set.specs.Truncated.{IsUsed, suffix_columns, truncating_in_place};
 ghost use Rattle.tabled_set.specs.Promised.{AfterClearing, TruncatesAsPromised};
 
 use crate::measurement::{Measurement, Width};

@@ -1,8 +1,10 @@
 //! Changes the cells of an entity, one after another.
 ghost use Rattle.std.specs.Prelude.{◌≡◌, ◌≤◌, ◌<◌, ◌==◌, ◌&&◌, ℕ, IfErr, OnErr, OnOk, length, true};
 ghost use Rattle.tabled_set.specs.Common.{columns, covers, IsInside, Memory};
-ghost use Rattle.tabled_set.specs.CellChanges.{line_of, place_of, AreChanged, AreChangedBefore, ByRow};
-ghost use Rattle.tabled_set.specs.CellChanges.{AreCutInPlace, is_within, leaves, lines_in, needs, on_line, places_in};
+ghost use Rattle.tabled_set.specs.CellChanges.{line_of, place_of, AreChanged, AreChangedBefore};
+ghost use Rattle.tabled_set.specs.CellChanges.{ByRow};
+ghost use Rattle.tabled_set.specs.CellChanges.{AreCutInPlace, is_within, leaves, lines_in, needs};
+ghost use Rattle.tabled_set.specs.CellChanges.{on_line, places_in};
 
 use crate::resize::{Change, ContentSizes, TextTransform};
 use std::ops::Range;
@@ -83,7 +85,8 @@ fn change_line<T: TextTransform, M: ContentSizes, R: RecordsMut>(
     ensures ok { let it = by.now in OnOk result (AreChanged (on_line order line band.now)
         (leaves it.cell_filter (T.makes it.transform.now) (M.content_size_at it.content_sizes.now))
         (R.cells records.old) (R.cells records.new)) }
-    ensures err { let it = by.now in OnErr result (AreChangedBefore order (on_line order line band.now)
+    ensures err { let it = by.now in
+        OnErr result (AreChangedBefore order (on_line order line band.now)
         (needs it.cell_filter (T.shortens it.transform.now)
         (M.content_size_at it.content_sizes.now))
         (leaves it.cell_filter (T.makes it.transform.now) (M.content_size_at it.content_sizes.now))

@@ -1,5 +1,6 @@
 //! The option `Wrap`, which wraps cells and narrows tables.
-ghost use Rattle.std.specs.Prelude.{◌≡◌, ◌<◌, IfErr, IfOk, OnErr, Some, false, length, string_bytes};
+ghost use Rattle.std.specs.Prelude.{◌≡◌, ◌<◌, IfErr, IfOk, OnErr, Some, false, length};
+ghost use Rattle.std.specs.Prelude.{string_bytes};
 ghost use Rattle.tabled_set.specs.Common.{effective, is_empty, Memory, Row};
 ghost use Rattle.tabled_set.specs.CellChanges.{never_in_place, wrapping, Every, Wider};
 ghost use Rattle.tabled_set.specs.Narrowed.{Narrows, NarrowingOutOfRange, StopsNarrowing};

@@ -5,7 +5,7 @@ use Rattle.std.proofs.lemmas.List.FromFn.{get_or-map-range_with_len}
 use Rattle.tabled_base.specs.Cells.{columns}
 use Rattle.tabled_config.specs.declared.spanned.SpannedConfig.{SpannedConfig}
 use Rattle.tabled_size.specs.Added.{PassesRange, added_at}
-use Rattle.tabled_size.specs.declared.padding.Extent.{Extent}
+use Rattle.tabled_size.specs.declared.added_padding.Extent.{Extent}
 use Rattle.tabled_size.specs.Estimates.{IsTooHigh, IsTooWide, column_width, estimated_heights}
 use Rattle.tabled_size.specs.Estimates.{estimated_widths, needed_height, needed_width, row_height}
 use Rattle.tabled_priority.specs.Sums.{sum_below}

@@ -5,10 +5,10 @@ use Rattle.tabled_config.specs.declared.sides.Indent.{Indent}
 use Rattle.tabled_config.specs.declared.sides.Sides.{Sides}
 use Rattle.tabled_config.specs.declared.spanned.SpannedConfig.{SpannedConfig}
 use Rattle.tabled_config.specs.Settings.{style_at}
-use Rattle.tabled_size.specs.declared.padding.Extent.{Extent}
-use Rattle.tabled_size.specs.declared.padding.KnownAdded.{KnownAdded}
-use Rattle.tabled_size.specs.declared.padding.ListedRow.{ListedRow}
-use Rattle.tabled_size.specs.declared.padding.KnownAdded.TheVariants as known
+use Rattle.tabled_size.specs.declared.added_padding.Extent.{Extent}
+use Rattle.tabled_size.specs.declared.added_padding.KnownAdded.{KnownAdded}
+use Rattle.tabled_size.specs.declared.added_padding.ListedRow.{ListedRow}
+use Rattle.tabled_size.specs.declared.added_padding.KnownAdded.TheVariants as known
 
 -- what a padding adds
 abbrev pub added_by : Sides Indent → Extent

@@ -1,7 +1,9 @@
 //! Sizes that are stored or not (`CompleteDimension`).
-ghost use Rattle.std.specs.Prelude.{◌≡◌, ◌&&◌, ◌⊎◌, IfErr, IfOk, IsSome, None, OnErr, Some, is_none, is_some, option_map};
+ghost use Rattle.std.specs.Prelude.{◌≡◌, ◌&&◌, ◌⊎◌, IfErr, IfOk, IsSome, None, OnErr, Some};
+ghost use Rattle.std.specs.Prelude.{is_none, is_some, option_map};
 ghost use Rattle.tabled_base.specs.declared.error.TableError.TheVariants.{Memory};
-ghost use Rattle.tabled_size.specs.Entries.{clears_heights, clears_widths, stored_at, unless_cleared};
+ghost use Rattle.tabled_size.specs.Entries.{clears_heights, clears_widths, stored_at};
+ghost use Rattle.tabled_size.specs.Entries.{unless_cleared};
 ghost use Rattle.tabled_size.specs.Stored.{heights_of, is_stored, widths_of};
 
 use crate::dimension::Dimension;
@@ -88,8 +90,10 @@ impl CompleteDimension {
     /// Removes the stored sizes that a change may have made wrong: the widths for a column, the
     /// heights for a row, both for a cell or the whole table, none without a hint.
     pub fn reastimate(&mut self, hint: Option<Entity>)
-        ensures widths { widths_of self.new ≡ unless_cleared (clears_widths hint) (widths_of self.old) }
-        ensures heights { heights_of self.new ≡ unless_cleared (clears_heights hint) (heights_of self.old) }
+        ensures widths { widths_of self.new
+            ≡ unless_cleared (clears_widths hint) (widths_of self.old) }
+        ensures heights { heights_of self.new
+            ≡ unless_cleared (clears_heights hint) (heights_of self.old) }
     {
         match hint {
             None => {}

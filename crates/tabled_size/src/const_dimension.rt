@@ -1,7 +1,8 @@
 //! Sizes that never change (`ConstDimension`, `StaticDimension`, `ZeroDimension`).
 ghost use Rattle.std.specs.Prelude.{◌≡◌, ◌⊎◌, IfErr, IfOk, OnErr, OnOk, Some, is_some, true, ℕ};
 ghost use Rattle.tabled_base.specs.declared.error.TableError.TheVariants.{Memory, Range};
-ghost use Rattle.tabled_size.specs.declared.const_dimension.ConstSize.TheVariants.{List as Listed, Value};
+ghost use Rattle.tabled_size.specs.declared.const_dimension.ConstSize.TheVariants.{List as Listed};
+ghost use Rattle.tabled_size.specs.declared.const_dimension.ConstSize.TheVariants.{Value};
 ghost use Rattle.tabled_size.specs.FixedSizes.{HasList, IsSameValue, listed_at, size_at, value_at};
 
 use crate::dimension::{Dimension, Estimate};

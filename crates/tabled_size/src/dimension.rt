@@ -1,5 +1,6 @@
 //! The traits of sizes (`Dimension`, `Estimate`).
-ghost use Rattle.std.specs.Prelude.{◌≡◌, ◌≤◌, ◌⊎◌, ℕ, Option, Some, IfErr, IfSome, OnOk, OnErr, is_some, true};
+ghost use Rattle.std.specs.Prelude.{◌≡◌, ◌≤◌, ◌⊎◌, ℕ, Option, Some, IfErr, IfSome, OnOk, OnErr};
+ghost use Rattle.std.specs.Prelude.{is_some, true};
 ghost use Rattle.tabled_base.specs.declared.error.TableError.TheVariants.{Memory, Range};
 
 use tabled_base::TableError;
@@ -35,7 +36,8 @@ pub trait Dimension {
     /// they have none either. Callers then handle these columns at once. Returning `None` is always
     /// safe.
     fn alike_from(&self) -> Option<usize>
-        ensures { IfSome result (λ from. (column : ℕ) → from ≤ column → width_at self.now column ≡ width_at self.now from) }
+        ensures { IfSome result (λ from. (column : ℕ) → from ≤ column
+            → width_at self.now column ≡ width_at self.now from) }
     {
         None
     }
@@ -54,5 +56,6 @@ pub trait Estimate<R, C> {
     fn estimate(&mut self, records: &R, config: &C) -> Result<(), TableError>
         ensures ok { OnOk result (estimates self.old records.now config.now self.new) }
         ensures err { OnErr result (self.new ≡ self.old) }
-        ensures only { IfErr result (λ e. (e ≡ Memory) ⊎ ((e ≡ Range) × out_of_range self.old records.now config.now)) };
+        ensures only { IfErr result (λ e. (e ≡ Memory)
+            ⊎ ((e ≡ Range) × out_of_range self.old records.now config.now)) };
 }

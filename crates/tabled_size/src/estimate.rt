@@ -1,18 +1,21 @@
-//! The widths and heights that the cells of a table need, and estimates for sizes that aren't stored.
-ghost use Rattle.std.specs.Prelude.{◌≡◌, ◌⊎◌, ◌<◌, ◌≤◌, ◌^◌, IfOk, IfErr, IfNone, IfSome, MatchOption};
+//! The widths and heights that the cells of a table need, and estimates for sizes that aren't
+//! stored.
+ghost use Rattle.std.specs.Prelude.{◌≡◌, ◌⊎◌, ◌<◌, ◌≤◌, ◌^◌, IfOk, IfErr, IfNone, IfSome};
+ghost use Rattle.std.specs.Prelude.{MatchOption};
 ghost use Rattle.std.specs.Prelude.{length, IsOk, IsTrue, OnErr, OnOk};
 ghost use Rattle.tabled_base.specs.Cells.{IsInside, columns};
 ghost use Rattle.tabled_base.specs.declared.error.TableError.TheVariants.{Memory, Range};
 ghost use Rattle.tabled_config.specs.Settings.{style_at};
 ghost use Rattle.tabled_size.specs.Added.{DescribesAdded, KnowsAdded};
 ghost use Rattle.tabled_size.specs.Estimates.{IsMeasured, IsTooHigh, IsTooLarge, IsTooWide};
-ghost use Rattle.tabled_size.specs.Estimates.{estimated_heights, estimated_widths, needed_width, raised, row_height};
+ghost use Rattle.tabled_size.specs.Estimates.{estimated_heights, estimated_widths, needed_width};
+ghost use Rattle.tabled_size.specs.Estimates.{raised, row_height};
 ghost use Rattle.tabled_size.specs.FilledIn.{HasNoEstimate, IsFilledIn};
 ghost use Rattle.tabled_size.specs.Stored.{is_stored};
 
 use crate::complete_dimension::CompleteDimension;
 use crate::dimension::Estimate;
-use crate::padding::{KnownAdded, RowPadding, row_added};
+use crate::added_padding::{KnownAdded, RowPadding, row_added};
 use std::alloc::Global;
 use tabled_base::{PeekableRecords, Position, TableError};
 use tabled_config::{ColoredConfig, Indent, Sides, SpannedConfig};
@@ -230,12 +233,15 @@ impl<R: PeekableRecords> Estimate<R, SpannedConfig> for CompleteDimension {
 }
 
 impl<R: PeekableRecords> Estimate<R, ColoredConfig> for CompleteDimension {
-    ghost estimates = { λ old records config new. IsFilledIn old (R.cells records) config.config new };
+    ghost estimates = { λ old records config new. IsFilledIn old
+        (R.cells records) config.config new };
 
-    ghost out_of_range = { λ old records config. HasNoEstimate old (R.cells records) config.config };
+    ghost out_of_range = { λ old records config. HasNoEstimate old
+        (R.cells records) config.config };
 
     fn estimate(&mut self, records: &R, config: &ColoredConfig) -> Result<(), TableError>
-        ensures ok { OnOk result (IsFilledIn self.old (R.cells records.now) config.now.config self.new) }
+        ensures ok { OnOk result (IsFilledIn self.old
+            (R.cells records.now) config.now.config self.new) }
         ensures stored { IsTrue (is_stored self.old) → IsOk result }
         ensures err { OnErr result (self.new ≡ self.old) }
         ensures only { IfErr result (λ e. (e ≡ Memory)

@@ -7,7 +7,7 @@
 //! - `pool_table_dimension.rt`: which boxes of a pool table are made wider or taller
 //!   (`PoolTableDimension`).
 //! - `estimate.rt`: the widest cell of each column and the tallest of each row.
-//! - `padding.rt`: what padding adds to the size of a cell.
+//! - `added_padding.rt`: what padding adds to the size of a cell.
 //! - `total.rt`: the total width and height, with borders and margins: of given sizes, of the
 //!   effective ones (stored, else estimated), of estimates. Checks that each size is known.
 #![tactic(auto)]
@@ -16,7 +16,7 @@ mod complete_dimension;
 mod const_dimension;
 mod dimension;
 mod estimate;
-mod padding;
+mod added_padding;
 mod pool_table_dimension;
 mod total;
 

@@ -1,18 +1,23 @@
 //! The total width and height of a table: of given sizes, of its effective sizes (stored ones, else
 //! estimates), and of estimates alone.
 ghost use Rattle.std.specs.List.{slice_index};
-ghost use Rattle.std.specs.Prelude.{◌≡◌, ◌⊎◌, ◌<◌, ◌≤◌, ◌^◌, ℕ, IfErr, MatchOption, None, Ok, OnOk, false, length, true};
+ghost use Rattle.std.specs.Prelude.{◌≡◌, ◌⊎◌, ◌<◌, ◌≤◌, ◌^◌, ℕ, IfErr, MatchOption, None, Ok, OnOk};
+ghost use Rattle.std.specs.Prelude.{false, length, true};
 ghost use Rattle.tabled_base.specs.Cells.{IsRectangular, columns};
-ghost use Rattle.tabled_base.specs.declared.error.TableError.TheVariants.{Memory, Range, ShortHeights, ShortWidths};
+ghost use Rattle.tabled_base.specs.declared.error.TableError.TheVariants.{Memory, Range};
+ghost use Rattle.tabled_base.specs.declared.error.TableError.TheVariants.{ShortHeights};
+ghost use Rattle.tabled_base.specs.declared.error.TableError.TheVariants.{ShortWidths};
 ghost use Rattle.tabled_priority.specs.Sums.{one_if, sum_below};
 ghost use Rattle.tabled_size.specs.Effective.{effective};
 ghost use Rattle.tabled_size.specs.EffectiveTotals.{AnswersHeight, AnswersWidth};
-ghost use Rattle.tabled_size.specs.Estimates.{IsTooHigh, IsTooWide, column_width, estimated_heights};
+ghost use Rattle.tabled_size.specs.Estimates.{IsTooHigh, IsTooWide, column_width};
+ghost use Rattle.tabled_size.specs.Estimates.{estimated_heights};
 ghost use Rattle.tabled_size.specs.Estimates.{estimated_widths};
 ghost use Rattle.tabled_size.specs.Reached.{reached};
 ghost use Rattle.tabled_size.specs.Sheet.{is_empty, estimated};
 ghost use Rattle.tabled_size.specs.Stored.{heights_of, widths_of};
-ghost use Rattle.tabled_size.specs.Totals.{filled_height, filled_width, framed_height, framed_width};
+ghost use Rattle.tabled_size.specs.Totals.{filled_height, filled_width, framed_height};
+ghost use Rattle.tabled_size.specs.Totals.{framed_width};
 ghost use Rattle.tabled_size.specs.Totals.{part_height, total_height, total_width};
 
 use crate::complete_dimension::CompleteDimension;

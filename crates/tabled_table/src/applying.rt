@@ -149,8 +149,8 @@ impl Table {
     }
 }
 
-/// Returns a copy of the configuration if there are several parts, which is restored when the option
-/// fails at one of them. Fails only if an allocation fails (`Memory`).
+/// Returns a copy of the configuration if there are several parts, which is restored when the
+/// option fails at one of them. Fails only if an allocation fails (`Memory`).
 fn copy_config(
     entities: &[Entity],
     config: &ColoredConfig,

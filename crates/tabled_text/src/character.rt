@@ -1,10 +1,12 @@
 //! What a character counts, and whether it is plain, additive or a separator.
-ghost use Rattle.std.specs.Prelude.{◌≡◌, ◌<◌, ◌≤◌, ◌∷◌, [], ◌++◌, chars, encode_utf8, length, MatchOption, ◌↔◌};
+ghost use Rattle.std.specs.Prelude.{◌≡◌, ◌<◌, ◌≤◌, ◌∷◌, [], ◌++◌, chars, encode_utf8, length};
+ghost use Rattle.std.specs.Prelude.{MatchOption, ◌↔◌};
 ghost use Rattle.std.specs.Prelude.{IsTrue};
 ghost use Rattle.tabled_text.specs.Letters.{is_narrow_letter, is_wide_letter};
 ghost use Rattle.tabled_text.specs.Measure.{char_count};
 ghost use Rattle.std.specs.List.{list_all};
-ghost use Rattle.tabled_text.specs.Plain.{is_listed, is_drawn, has_plain_width, is_plain_character, is_plain_or_feed};
+ghost use Rattle.tabled_text.specs.Plain.{is_listed, is_drawn, has_plain_width, is_plain_character};
+ghost use Rattle.tabled_text.specs.Plain.{is_plain_or_feed};
 ghost use Rattle.tabled_text.specs.Plain.{IsPlain, IsPlainColumn, is_listed_or_drawn, is_additive};
 ghost use Rattle.tabled_text.specs.Plain.{is_additive_or_feed, IsAdditive, IsAdditiveColumn};
 ghost use Rattle.tabled_text.specs.FramedLines.{IsSeparatorColumn};

@@ -1,5 +1,6 @@
 //! Cuts texts to n columns.
-ghost use Rattle.std.specs.Prelude.{◌≡◌, ◌++◌, ◌<◌, chars, length, replicate, take, encode_utf8_all, IfNone, IfOk, IfSome, OnErr, IsUtf8};
+ghost use Rattle.std.specs.Prelude.{◌≡◌, ◌++◌, ◌<◌, chars, length, replicate, take};
+ghost use Rattle.std.specs.Prelude.{encode_utf8_all, IfNone, IfOk, IfSome, OnErr, IsUtf8};
 ghost use Rattle.std.specs.Str.{IsCharBoundary};
 ghost use Rattle.std.specs.Cow.{cow_str_bytes, IsOwnedStr};
 ghost use Rattle.tabled_text.specs.Cut.{IsCut, IsSplit, IsParted, NeedsFill};
@@ -20,7 +21,8 @@ struct Parts<'a> {
 
 /// Cuts a text to n columns. `missing` is the number of columns that a dropped character leaves.
 fn part_by_chars(text: &str, n: usize) -> Parts<'_>
-    ensures parted { IsParted n (chars text.now) (chars result.front.now) result.missing (chars result.after.now) }
+    ensures parted { IsParted n (chars text.now) (chars result.front.now) result.missing
+        (chars result.after.now) }
     ensures front { IsUtf8 result.front.now }
     ensures after { IsUtf8 result.after.now }
     ensures beginning { take (length result.front.now) text.now ≡ result.front.now }

@@ -1,5 +1,6 @@
 //! Checks whether a text is another one wrapped: the wrapping walk compares instead of writing.
-ghost use Rattle.std.specs.Prelude.{◌≡◌, ◌++◌, ◌↔◌, ◌<◌, ℕ, List, [], Some, None, chars, encode_utf8, IsTrue};
+ghost use Rattle.std.specs.Prelude.{◌≡◌, ◌++◌, ◌↔◌, ◌<◌, ℕ, List, [], Some, None, chars};
+ghost use Rattle.std.specs.Prelude.{encode_utf8, IsTrue};
 ghost use Rattle.std.specs.List.{list_all};
 ghost use Rattle.std.specs.Option.{option_copied};
 ghost use Rattle.tabled_text.specs.Breaking.{HasFewestLines, IsLeastBreaking};

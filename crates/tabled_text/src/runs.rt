@@ -1,5 +1,6 @@
 //! Finds the end of a run of bytes within a range, 16 bytes at a time.
-ghost use Rattle.std.specs.Prelude.{◌≡◌, ◌+◌, ◌-◌, ◌%◌, ◌<◌, ◌≤◌, drop, false, length, map, nat_lt, not, slice_index};
+ghost use Rattle.std.specs.Prelude.{◌≡◌, ◌+◌, ◌-◌, ◌%◌, ◌<◌, ◌≤◌, drop, false, length, map, nat_lt};
+ghost use Rattle.std.specs.Prelude.{not, slice_index};
 ghost use Rattle.std.specs.Int.{is_in_range};
 ghost use Rattle.std.specs.List.{list_all};
 ghost use Rattle.std.specs.Simd.Lanes.{chunk, mask_l};
@@ -40,7 +41,8 @@ fn greater(block: u8x16, than: u8) -> u64
 fn outside(bytes: &[u8], at: usize, first: u8, last: u8) -> u64
     requires room { at + BLOCK ≤ length bytes.now }
     requires range { first ≤ last }
-    ensures { result ≡ mask_l (map (λ byte. not (is_in_range first last byte)) (chunk at BLOCK bytes.now)) }
+    ensures { result ≡ mask_l (map (λ byte. not (is_in_range first last byte))
+        (chunk at BLOCK bytes.now)) }
 {
     greater(lowered(block_at(bytes, at), first), last - first)
 }
@@ -52,7 +54,8 @@ fn run_in_block(bytes: &[u8], at: usize, first: u8, last: u8) -> usize
     requires range { first ≤ last }
     ensures bound { result ≤ BLOCK }
     ensures passed { LieWithin first last bytes.now at (at + result) }
-    ensures stops { result < BLOCK → is_in_range first last (slice_index bytes.now (at + result)) ≡ false }
+    ensures stops { result < BLOCK → is_in_range first last (slice_index bytes.now (at + result))
+        ≡ false }
 {
     let outside = outside(bytes, at, first, last);
     if outside == 0 {

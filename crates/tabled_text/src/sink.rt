@@ -1,5 +1,6 @@
 //! The trait of what wrapping writes to, and copies of a character.
-ghost use Rattle.std.specs.Prelude.{◌≡◌, ◌++◌, encode_utf8, encode_utf8_all, replicate, List, ℕ, IfOk, OnOk, [], string_bytes};
+ghost use Rattle.std.specs.Prelude.{◌≡◌, ◌++◌, encode_utf8, encode_utf8_all, replicate, List, ℕ};
+ghost use Rattle.std.specs.Prelude.{IfOk, OnOk, [], string_bytes};
 ghost use Rattle.std.proofs.Common.{sym, ap, ◌∙◌, append-nil, append_assoc};
 
 use std::alloc::{AllocError, Global};
@@ -19,7 +20,8 @@ pub(crate) trait Sink {
 
     ghost adds_nothing: { (s : Self) → adds s [] s };
 
-    ghost adds_more: { (s t u : Self) (x y : List ℕ) → adds s x t → adds t y u → adds s (x ++ y) u };
+    ghost adds_more: { (s t u : Self) (x y : List ℕ) → adds s x t → adds t y u
+        → adds s (x ++ y) u };
 }
 
 impl Sink for String {
@@ -37,7 +39,8 @@ impl Sink for String {
 
     ghost adds_nothing = { λ s. sym (append-nil (string_bytes s)) };
 
-    ghost adds_more = { λ s t u x y h k. k ∙ ap (λ l. l ++ y) h ∙ append_assoc (string_bytes s) x y };
+    ghost adds_more = { λ s t u x y h k. k ∙ ap (λ l. l ++ y) h ∙ append_assoc
+        (string_bytes s) x y };
 }
 
 /// Writes n copies of a character.
@@ -53,7 +56,8 @@ pub(crate) fn append_copies<S: Sink>(out: &mut S, c: char, n: usize) -> Result<(
 /// Appends n copies of a character to a text. Fails if an allocation fails. All memory is allocated
 /// before the first copy, so an excessive n fails at once.
 pub fn push_copies(text: &mut String, c: char, n: usize) -> Result<(), AllocError>
-    ensures { OnOk result (string_bytes text.new ≡ string_bytes text.old ++ encode_utf8_all (replicate n c)) }
+    ensures { OnOk result (string_bytes text.new
+        ≡ string_bytes text.old ++ encode_utf8_all (replicate n c)) }
 {
     text.reserve(n.saturating_mul(c.len_utf8()))?;
     append_copies(text, c, n)

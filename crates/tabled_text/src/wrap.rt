@@ -1,13 +1,17 @@
 //! Wraps texts to n columns. One walk writes unit after unit to a `Sink`.
-ghost use Rattle.std.specs.Prelude.{◌≡◌, ◌&&◌, Bool, nat_le, ◌<◌, ◌≤◌, ◌+◌, ◌-◌, slice_index, ◌∷◌, chars, encode_utf8_all, length, map, IfOk, OnOk, IfSome, IsUtf8, string_bytes, OnErr, false, true};
+ghost use Rattle.std.specs.Prelude.{◌≡◌, ◌&&◌, Bool, nat_le, ◌<◌, ◌≤◌, ◌+◌, ◌-◌, slice_index, ◌∷◌};
+ghost use Rattle.std.specs.Prelude.{chars, encode_utf8_all, length, map, IfOk, OnOk, IfSome};
+ghost use Rattle.std.specs.Prelude.{IsUtf8, string_bytes, OnErr, false, true};
 ghost use Rattle.std.specs.Int.{is_in_range};
 ghost use Rattle.std.specs.List.{list_all};
 ghost use Rattle.tabled_text.specs.Cut.{IsCut};
 ghost use Rattle.tabled_text.specs.Measure.{lines_of};
-ghost use Rattle.tabled_text.specs.Units.{unit_of_char, words_of, units, units_of_word, units_of_words};
+ghost use Rattle.tabled_text.specs.Units.{unit_of_char, words_of, units, units_of_word};
+ghost use Rattle.tabled_text.specs.Units.{units_of_words};
 ghost use Rattle.tabled_text.specs.Breaking.{EachUnitFits, HasFewestLines, IsLeastBreaking};
 ghost use Rattle.tabled_text.specs.Wrapping.{IsWrapped};
-ghost use Rattle.tabled_text.specs.Walk.{BreaksAt, words_in, begin_at, begin_text, append_text, append_used, append_all, used_after, pending};
+ghost use Rattle.tabled_text.specs.Walk.{BreaksAt, words_in, begin_at, begin_text, append_text};
+ghost use Rattle.tabled_text.specs.Walk.{append_used, append_all, used_after, pending};
 
 use crate::character::{char_count, split_first};
 use crate::measure::{is_printable, is_printable_within, line_width, lines};
@@ -40,7 +44,8 @@ fn append_word<S: Sink>(
     ensures used { IfOk result (λ column.
         column ≡ append_used n used (record { text = chars word.now; width = width })) }
     ensures text { OnOk result (S.adds out.old
-        (encode_utf8_all (append_text n used (record { text = chars word.now; width = width }))) out.new) }
+        (encode_utf8_all (append_text n used
+        (record { text = chars word.now; width = width }))) out.new) }
 {
     let column = begin(out, used, n, width)?;
     out.append_str(word)?;
@@ -52,7 +57,8 @@ fn append_word<S: Sink>(
 fn append_char<S: Sink>(out: &mut S, used: usize, n: usize, c: char) -> Result<usize, S::Error>
     requires { 0 < n }
     ensures used { IfOk result (λ column. column ≡ append_used n used (unit_of_char c)) }
-    ensures text { OnOk result (S.adds out.old (encode_utf8_all (append_text n used (unit_of_char c))) out.new) }
+    ensures text { OnOk result (S.adds out.old
+        (encode_utf8_all (append_text n used (unit_of_char c))) out.new) }
 {
     let count = char_count(c);
     if count <= n {
@@ -68,7 +74,8 @@ fn append_char<S: Sink>(out: &mut S, used: usize, n: usize, c: char) -> Result<u
 /// Writes the characters of a text, and returns the columns then used.
 fn append_chars<S: Sink>(out: &mut S, used: usize, n: usize, text: &str) -> Result<usize, S::Error>
     requires { 0 < n }
-    ensures used { IfOk result (λ column. column ≡ used_after n used (map unit_of_char (chars text.now))) }
+    ensures used { IfOk result (λ column. column
+        ≡ used_after n used (map unit_of_char (chars text.now))) }
     ensures text { OnOk result (S.adds out.old
         (encode_utf8_all (append_all n used (map unit_of_char (chars text.now)))) out.new) }
 {
@@ -84,7 +91,8 @@ fn append_chars<S: Sink>(out: &mut S, used: usize, n: usize, text: &str) -> Resu
 /// Writes a word, or its characters if it is wider than n columns. Returns the columns then used.
 fn append_unit<S: Sink>(out: &mut S, used: usize, n: usize, word: &str) -> Result<usize, S::Error>
     requires { 0 < n }
-    ensures used { IfOk result (λ column. column ≡ used_after n used (units_of_word n (chars word.now))) }
+    ensures used { IfOk result (λ column. column
+        ≡ used_after n used (units_of_word n (chars word.now))) }
     ensures text { OnOk result (S.adds out.old
         (encode_utf8_all (append_all n used (units_of_word n (chars word.now)))) out.new) }
 {
@@ -103,7 +111,8 @@ fn append_unit<S: Sink>(out: &mut S, used: usize, n: usize, word: &str) -> Resul
 pub(crate) fn split_word(text: &str) -> (&str, Option<&str>)
     ensures words { words_of (chars text.now) ≡ chars result.0.now ∷ words_in result.1 }
     ensures word { IsUtf8 result.0.now }
-    ensures after { IfSome result.1 (λ after. IsUtf8 after.now × (length after.now < length text.now)) }
+    ensures after { IfSome result.1 (λ after. IsUtf8 after.now
+        × (length after.now < length text.now)) }
 {
     split_at_byte(text, b' ')
 }

@@ -1,6 +1,7 @@
 //! The strings of fields: as lists, or measured and appended to a row.
 ghost use Rattle.std.specs.Cow.{cow_str_bytes};
-ghost use Rattle.std.specs.Prelude.{◌≡◌, ◌∷◌, ◌++◌, ◌+◌, [], IfErr, IfOk, OnOk, map, replicate, vec_len};
+ghost use Rattle.std.specs.Prelude.{◌≡◌, ◌∷◌, ◌++◌, ◌+◌, [], IfErr, IfOk, OnOk, map, replicate};
+ghost use Rattle.std.specs.Prelude.{vec_len};
 ghost use Rattle.tabled_base.specs.declared.error.TableError.TheVariants.{Memory};
 ghost use Rattle.tabled_value.specs.Fields.{CellsAdded, Says};
 

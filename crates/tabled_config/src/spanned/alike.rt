@@ -11,7 +11,8 @@ impl SpannedConfig {
     /// either row, nor for one of their cells.
     #[tactic(auto, unfolding(crate::specs::Settings::style_at))]
     pub fn are_alike(&self, row: usize, other: usize) -> bool
-        ensures { result ≡ true → (column : ℕ) → style_at self.now row column ≡ style_at self.now other column }
+        ensures { result ≡ true → (column : ℕ)
+            → style_at self.now row column ≡ style_at self.now other column }
     {
         self.padding.are_alike(row, other)
             && self.alignment_horizontal.are_alike(row, other)
@@ -23,7 +24,8 @@ impl SpannedConfig {
     /// row or a cell.
     #[tactic(auto, unfolding(crate::specs::Settings::style_at))]
     pub fn are_all_alike(&self) -> bool
-        ensures { result ≡ true → (row other column : ℕ) → style_at self.now row column ≡ style_at self.now other column }
+        ensures { result ≡ true → (row other column : ℕ)
+            → style_at self.now row column ≡ style_at self.now other column }
     {
         self.padding.are_all_alike()
             && self.alignment_horizontal.are_all_alike()
@@ -36,7 +38,8 @@ impl SpannedConfig {
     #[inline]
     #[tactic(auto, unfolding(crate::specs::Settings::style_at))]
     pub fn are_padded_alike(&self, row: usize, other: usize) -> bool
-        ensures { result ≡ true → (column : ℕ) → (style_at self.now row column).padding ≡ (style_at self.now other column).padding }
+        ensures { result ≡ true → (column : ℕ)
+            → (style_at self.now row column).padding ≡ (style_at self.now other column).padding }
     {
         self.padding.are_alike(row, other)
     }
@@ -55,7 +58,8 @@ impl SpannedConfig {
     #[tactic(auto, unfolding(crate::specs::Settings::shared_style, crate::specs::Settings::style_at))]
     pub fn shared_style(&self) -> Option<CellStyle>
         ensures value { result ≡ shared_style self.now }
-        ensures everywhere { IfSome result (λ style. (row column : ℕ) → style_at self.now row column ≡ style) }
+        ensures everywhere { IfSome result (λ style. (row column : ℕ)
+            → style_at self.now row column ≡ style) }
     {
         Some(CellStyle {
             padding: self.padding.shared()?,
@@ -70,7 +74,8 @@ impl SpannedConfig {
     #[tactic(auto, unfolding(crate::specs::Settings::style_at))]
     pub fn shared_padding(&self) -> Option<Sides<Indent>>
         ensures value { result ≡ shared self.now.padding }
-        ensures everywhere { IfSome result (λ padding. (row column : ℕ) → (style_at self.now row column).padding ≡ padding) }
+        ensures everywhere { IfSome result (λ padding. (row column : ℕ)
+            → (style_at self.now row column).padding ≡ padding) }
     {
         self.padding.shared()
     }

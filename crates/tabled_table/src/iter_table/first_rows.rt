@@ -1,5 +1,6 @@
 //! Reads the first rows of a stream, lays out its columns by them, and prints it.
-ghost use Rattle.std.specs.Prelude.{◌≡◌, ◌<◌, ◌≤◌, ◌^◌, ◌⊎◌, ℕ, Bool, List, IfErr, IfOk, map, slice_index_or};
+ghost use Rattle.std.specs.Prelude.{◌≡◌, ◌<◌, ◌≤◌, ◌^◌, ◌⊎◌, ℕ, Bool, List, IfErr, IfOk, map};
+ghost use Rattle.std.specs.Prelude.{slice_index_or};
 ghost use Rattle.tabled_base.specs.declared.error.TableError.TheVariants.{Memory, Range};
 ghost use Rattle.tabled_records.specs.Reading.{MayGive, ReadsTo};
 ghost use Rattle.tabled_table.specs.Stream.Progress.{IsLaidOut};
@@ -44,8 +45,8 @@ impl<'a> Printer<'a> {
         }
     }
 
-    /// Returns the layout of `count` columns, at least one. Fails with `Memory`, and with `Range` if
-    /// the side padding exceeds `usize::MAX`, as then the total width does.
+    /// Returns the layout of `count` columns, at least one. Fails with `Memory`, and with `Range`
+    /// if the side padding exceeds `usize::MAX`, as then the total width does.
     fn lay_out<C: CellText>(&self, rows: &FlatRows<C>, count: usize) -> Result<Layout, TableError>
         requires count { count ≡ column_count self.now.settings.now
             (sniffed self.now.settings.now (map (map C.text) rows.now)) }

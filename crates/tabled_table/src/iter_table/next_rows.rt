@@ -28,7 +28,8 @@ pub(crate) struct Stream<'a> {
     lines: LinePrinter<StreamColumns<'a>>,
     // Whether no row was printed so far.
     first: bool,
-    ghost kept: { IsCacheOf (layout_columns lines.columns.layout.now) lines.kept } by { Prim.hlevel props },
+    ghost kept: { IsCacheOf (layout_columns lines.columns.layout.now) lines.kept } by { Prim.hlevel
+        props },
 }
 
 impl<'a> Stream<'a> {

@@ -1,7 +1,8 @@
 //! `Tabled` for strings, characters, booleans and integers: one field, named after the type.
 ghost use Rattle.std.specs.Cow.{cow_str_bytes};
 ghost use Rattle.std.specs.Fmt.{signed_decimal};
-ghost use Rattle.std.specs.Prelude.{◌≡◌, ◌∷◌, [], IfErr, IfOk, codes, decimal, encode_utf8, if◌then◌else◌, map, string_bytes, vec_len};
+ghost use Rattle.std.specs.Prelude.{◌≡◌, ◌∷◌, [], IfErr, IfOk, codes, decimal, encode_utf8};
+ghost use Rattle.std.specs.Prelude.{if◌then◌else◌, map, string_bytes, vec_len};
 ghost use Rattle.tabled_base.specs.declared.error.TableError.TheVariants.{Memory};
 
 use super::Tabled;

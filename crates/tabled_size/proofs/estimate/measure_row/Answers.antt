@@ -2,7 +2,7 @@ use Rattle.std.proofs.Common.{◌≡◌, ◌∙◌, ◌<◌, ◌≤◌, ◌^◌,
 use Rattle.std.specs.List.{slice_index}
 use Rattle.std.proofs.lemmas.List.FromFn.{fill_by_all}
 use Rattle.tabled_base.specs.Cells.{columns}
-use Rattle.tabled_size.specs.declared.padding.Extent.{Extent}
+use Rattle.tabled_size.specs.declared.added_padding.Extent.{Extent}
 use Rattle.tabled_size.specs.Estimates.{needed_height, needed_width, row_height}
 use Rattle.tabled_size.proofs.Greatest.{greatest_below, greatest_more}
 use Rattle.tabled_size.proofs.Passing.{added_passes, if_none}

@@ -4,7 +4,7 @@ use Rattle.tabled_set.specs.Common.{is_empty, SpannedConfig, TableError}
 use Rattle.tabled_set.specs.CellChanges.{if_wider, truncating, Wider}
 use Rattle.tabled_set.specs.Truncated.{truncating_in_place}
 use Rattle.tabled_set.specs.Narrowed.{Narrows, StopsNarrowing}
-use Rattle.tabled_set.proofs.Promises.{truncates}
+use Rattle.tabled_set.proofs.WrappedAndTruncated.{truncates}
 use Rattle.tabled_set.proofs.Stopping.{stops-filled}
 use Rattle.tabled_set.proofs.truncate.TruncateTableOptionColoredConfigCompleteDimension.change.Goals as goal
 

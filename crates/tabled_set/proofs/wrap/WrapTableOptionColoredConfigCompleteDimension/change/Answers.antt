@@ -3,7 +3,7 @@ use Rattle.std.proofs.lemmas.Result.{on_ok_weaker}
 use Rattle.tabled_set.specs.Common.{is_empty, SpannedConfig, TableError}
 use Rattle.tabled_set.specs.CellChanges.{never_in_place, wrapping, Every}
 use Rattle.tabled_set.specs.Narrowed.{Narrows, StopsNarrowing}
-use Rattle.tabled_set.proofs.Promises.{wraps}
+use Rattle.tabled_set.proofs.WrappedAndTruncated.{wraps}
 use Rattle.tabled_set.proofs.Stopping.{stops-filled}
 use Rattle.tabled_set.proofs.wrap.WrapTableOptionColoredConfigCompleteDimension.change.Goals as goal
 

@@ -1,0 +1,17 @@
+use Rattle.std.proofs.Common.{◌≡◌, map}
+use Rattle.std.specs.List.{range_with_len}
+use Rattle.tabled_line.specs.Leading.{LineSends}
+use Rattle.tabled_line.specs.LineCache.{IsCacheOf}
+use Rattle.tabled_line.specs.Cursors.{AreCursors}
+use Rattle.tabled_line.specs.Row.{row_line}
+use Rattle.tabled_line.proofs.line_printer.LinePrinter.write_row.Given as goal
+
+abbrev pub invariant-lines : goal.invariant-lines
+invariant-lines g l =
+    record {
+      printed : LineSends (g.S.TextSink.sent l.initial.sink) l.initial.self.begun (g.S.TextSink.sent l.sink) l.self.begun
+          (map (row_line (g.R.Row.sheet l.row)) (range_with_len 0 l.index));
+      same : l.self.columns ≡ l.initial.self.columns;
+      kept : IsCacheOf (g.C.TableColumns.sheet l.self.columns) l.self.kept;
+      cursors : AreCursors (g.R.Row.sheet l.row).text l.cursors;
+    }

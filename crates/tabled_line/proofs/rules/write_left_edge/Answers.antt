@@ -1,0 +1,12 @@
+use Rattle.std.proofs.Common.{refl}
+use Rattle.tabled_line.proofs.Sending.{finished, stopped-first}
+use Rattle.tabled_line.specs.Row.{left_edge}
+use Rattle.tabled_line.proofs.rules.write_left_edge.Goals as goal
+
+pub returns-in_err-write_indent : goal.returns-in_err-write_indent
+unfolding left_edge
+returns-in_err-write_indent g c = stopped-first _ _ _ c.in_err-write_indent.ensures c.from_residual.ensures.1 refl
+
+pub returns : goal.returns
+unfolding left_edge
+returns g c = finished _ _ _ _ c.in_ok-write_indent.ensures c.write_bar.ensures refl

@@ -1,0 +1,13 @@
+use Rattle.std.proofs.Common.{refl}
+use Rattle.tabled_line.proofs.Sending.{finished, stopped-first}
+use Rattle.tabled_line.specs.Row.{right_edge}
+use Rattle.tabled_line.specs.Fill.{indent}
+use Rattle.tabled_line.proofs.rules.write_right_edge.Goals as goal
+
+pub returns-in_err-write_bar : goal.returns-in_err-write_bar
+unfolding right_edge
+returns-in_err-write_bar g c = stopped-first _ _ (indent c.args.frame.now.margin.right) c.in_err-write_bar.ensures c.from_residual.ensures.1 refl
+
+pub returns : goal.returns
+unfolding right_edge
+returns g c = finished _ _ _ _ c.in_ok-write_bar.ensures c.write_indent.ensures refl
