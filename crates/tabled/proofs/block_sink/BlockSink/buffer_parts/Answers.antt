@@ -1,4 +1,4 @@
-use Rattle.std.proofs.Common.{append-nil, length, sym}
+use Rattle.std.proofs.Common.{append-nil, sym}
 use Rattle.tabled_line.proofs.Sending.{further, sends-along, stopped, took-more, took-none}
 use Rattle.tabled.specs.BlockSent.{block, waiting}
 use Rattle.tabled.proofs.BytesSince.{advances_none, advances_then, buffered, waits}
