@@ -11,9 +11,9 @@ ghost use Rattle.tabled_line.specs.Sent.{Sent, Writes};
 
 use crate::buffer::FixedBuffer;
 use crate::fill::write_spaces;
-use crate::rules::write_bar;
 use crate::placement::{KnownPlacements, RowPlacements, place_text};
 use crate::row::{CellLine, Row, write_cell};
+use crate::rules::write_bar;
 use crate::text_sink::TextSink;
 use tabled_base::TableError;
 use tabled_config::VerticalLine;

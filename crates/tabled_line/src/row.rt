@@ -9,9 +9,9 @@ ghost use Rattle.tabled_line.specs.Sent.{Sent, Writes};
 
 use crate::block::CellBlock;
 use crate::content::{Content, Cursor, cursor_at, keep_cursor};
-use crate::rules::{write_bar, write_left_edge, write_right_edge};
 use crate::one_line_row::{ColumnSeparator, write_spaced_row};
 use crate::placement::{KnownPlacements, PlacedText};
+use crate::rules::{write_bar, write_left_edge, write_right_edge};
 use crate::text_sink::TextSink;
 use tabled_base::TableError;
 use tabled_config::{CellStyle, Frame, RowStyles};

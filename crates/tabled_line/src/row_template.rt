@@ -8,9 +8,9 @@ ghost use Rattle.tabled_line.specs.Slots.{AreSlots, IsTemplateOf};
 ghost use Rattle.tabled_line.specs.Row.{piece, row_line};
 
 use crate::content::Cursor;
-use crate::rules::{TableColumns, write_left_edge, write_right_edge, write_rule_pieces};
 use crate::placement::{KnownPlacements, RowPlacements, place_text};
 use crate::row::{CellLine, Row, place_cell};
+use crate::rules::{TableColumns, write_left_edge, write_right_edge, write_rule_pieces};
 use crate::text_sink::TextSink;
 use std::alloc::Global;
 use tabled_base::TableError;

@@ -14,6 +14,7 @@
 //! - `column.rt`: reads a size, and counts these reads.
 #![tactic(auto)]
 
+mod by_size_or_side;
 mod change;
 mod choice;
 mod column;
@@ -22,10 +23,9 @@ mod level;
 mod peaker;
 mod priority;
 mod schedule;
-mod by_size_or_side;
 
+pub use by_size_or_side::{PriorityLeft, PriorityMax, PriorityMin, PriorityRight};
 pub use column::Steps;
 pub use level::is_level;
 pub use peaker::{Peaker, TakesAll};
 pub use priority::{Priority, PriorityNone};
-pub use by_size_or_side::{PriorityLeft, PriorityMax, PriorityMin, PriorityRight};

@@ -11,11 +11,11 @@ ghost use Rattle.tabled_priority.specs.Laws.Grown.{IsRoundGrown-nothing, IsRound
 ghost use Rattle.tabled_priority.specs.Laws.Grown.{IsRoundGrown-step};
 ghost use Rattle.tabled_priority.specs.Changes.{Grows, Shrinks};
 
+use crate::by_size_or_side::{PriorityLeft, PriorityMax, PriorityMin, PriorityRight};
 use crate::change::{change_columns, place_after};
 use crate::column::{Steps, visit};
 use crate::peaker::{Peaker, TakesAll};
 use crate::schedule::Schedule;
-use crate::by_size_or_side::{PriorityLeft, PriorityMax, PriorityMin, PriorityRight};
 
 /// Makes priorities.
 #[derive(Debug, Clone, Copy, Default, PartialEq, Eq, PartialOrd, Ord, Hash)]

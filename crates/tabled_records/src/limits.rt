@@ -122,8 +122,12 @@ where
     }
 
     ghost whole_rows = { λ view cells begun.
-        record { all = begun.all; given = R.whole_rows view.records begun.all begun.given; changed =
-        begun.changed } };
+        record {
+          all = begun.all;
+          given = R.whole_rows view.records begun.all begun.given;
+          changed =
+              begun.changed;
+        } };
 }
 
 /// The first cells of each row. The other cells are read and dropped when the iterator is asked for
@@ -229,6 +233,10 @@ where
     }
 
     ghost whole_rows = { λ view cells begun.
-        record { all = begun.all; given = R.whole_rows view.records begun.all begun.given; changed =
-        begun.changed } };
+        record {
+          all = begun.all;
+          given = R.whole_rows view.records begun.all begun.given;
+          changed =
+              begun.changed;
+        } };
 }

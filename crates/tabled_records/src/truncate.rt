@@ -138,6 +138,10 @@ impl<'a, R: IntoRecords> IntoRecords for TruncateContent<'a, R> {
     }
 
     ghost whole_rows = { λ view cells begun.
-        record { all = begun.all; given = R.whole_rows view.records begun.all begun.given; changed =
-        begun.changed } };
+        record {
+          all = begun.all;
+          given = R.whole_rows view.records begun.all begun.given;
+          changed =
+              begun.changed;
+        } };
 }

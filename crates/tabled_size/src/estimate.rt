@@ -13,9 +13,9 @@ ghost use Rattle.tabled_size.specs.Estimates.{raised, row_height};
 ghost use Rattle.tabled_size.specs.FilledIn.{HasNoEstimate, IsFilledIn};
 ghost use Rattle.tabled_size.specs.Stored.{is_stored};
 
+use crate::added_padding::{KnownAdded, RowPadding, row_added};
 use crate::complete_dimension::CompleteDimension;
 use crate::dimension::Estimate;
-use crate::added_padding::{KnownAdded, RowPadding, row_added};
 use std::alloc::Global;
 use tabled_base::{PeekableRecords, Position, TableError};
 use tabled_config::{ColoredConfig, Indent, Sides, SpannedConfig};

@@ -12,11 +12,11 @@
 //!   effective ones (stored, else estimated), of estimates. Checks that each size is known.
 #![tactic(auto)]
 
+mod added_padding;
 mod complete_dimension;
 mod const_dimension;
 mod dimension;
 mod estimate;
-mod added_padding;
 mod pool_table_dimension;
 mod total;
 
