@@ -37,16 +37,6 @@ impl<'a> Model for LentRows<'a> {
     ghost invariant = { λ r. AreKept 1 r.text.now r.cells [] × AreRanges (length r.cells) r.rows };
 }
 
-impl<'a> LentRows<'a> {
-    pub(crate) fn new(text: &'a str, cells: Pairs, rows: RowRanges) -> LentRows<'a>
-        requires kept { AreKept 1 text.now cells [] }
-        requires ranges { AreRanges (length cells) rows }
-        ensures { result ≡ rows_in (texts_from 1 text.now 0 cells) rows }
-    {
-        LentRows { text, cells, rows }
-    }
-}
-
 impl<'a> ExactRecords for LentRows<'a> {
     ghost cells = { λ r. r };
 
@@ -92,7 +82,11 @@ pub fn text_rows(alloc: Global, text: &str) -> Result<LentRows<'_>, TableError>
     ensures only { IfErr result (λ e. e ≡ Memory) }
 {
     if text.is_empty() {
-        return Ok(LentRows::new(text, Pairs::new(alloc), RowRanges::new(alloc)));
+        return Ok(LentRows {
+            text,
+            cells: Pairs::new(alloc),
+            rows: RowRanges::new(alloc),
+        });
     }
     let last = text.len() - 1;
     let ends_line = text.as_bytes()[last] == b'\n';
@@ -137,7 +131,7 @@ fn split_rows(alloc: Global, text: &str) -> Result<LentRows<'_>, TableError>
     cells.push((end, columns))?;
     let count = cells.len() - first;
     rows.push(first, count)?;
-    Ok(LentRows::new(text, cells, rows))
+    Ok(LentRows { text, cells, rows })
 }
 
 /// Returns the columns of the cell between two byte offsets: in printable ASCII the number of

@@ -125,24 +125,20 @@ overflow_sub-count-2 c =
     let more = length-append c.bytes.cells ((length c.as_bytes-bytes.result.now, c.cell_columns-columns-2.result) ∷ []) in
     omega (arith, reached, c.len-2.ensures, ap length c.in_ok-push-3.ensures.ok, more)
 
-pub new-requires-clause-kept : goal.new-requires-clause-kept
-new-requires-clause-kept c =
-    let cut = c.bytes.invariant.cut in
-    rw c.in_ok-push-3.ensures.ok
-    (lent-next c.args.text.now c.bytes.cells c.bytes.start (length c.as_bytes-bytes.result.now, c.cell_columns-columns-2.result) cut.kept cut.starts
-    c.cell_columns-columns-2.ensures)
-
-pub new-requires-clause-ranges : goal.new-requires-clause-ranges
-new-requires-clause-ranges c =
+pub invariant_of-result : goal.invariant_of-result
+invariant_of-result c =
     let cut = c.bytes.invariant.cut in
     let reached = cut.reached in
     let cell : ℕ × ℕ = (length c.as_bytes-bytes.result.now, c.cell_columns-columns-2.result) in
     let pushed : c.push-2.new.self ≡ c.bytes.cells ++ cell ∷ [] = c.in_ok-push-3.ensures.ok in
     let more = length-append c.bytes.cells (cell ∷ []) in
+    let kept = lent-next c.args.text.now c.bytes.cells c.bytes.start cell cut.kept cut.starts c.cell_columns-columns-2.ensures in
     let all = placed-next c.bytes.cells c.bytes.rows cell c.bytes.first (c.len-2.result - c.bytes.first) cut.placed
-    (omega (arith, reached, c.len-2.ensures, ap length pushed, more)) in
-    subst (λ n. AreRanges n c.push-3.new.self) (sym (ap length pushed))
-    (subst (AreRanges (length (c.bytes.cells ++ cell ∷ []))) (sym c.in_ok-push-4.ensures.ok) all)
+    (omega (arith, reached, c.len-2.ensures, ap length pushed, more)) in (
+      rw pushed kept,
+      subst (λ n. AreRanges n c.push-3.new.self) (sym (ap length pushed))
+          (subst (AreRanges (length (c.bytes.cells ++ cell ∷ []))) (sym c.in_ok-push-4.ensures.ok) all),
+    )
 
 pub returns-clause-ok : goal.returns-clause-ok
 returns-clause-ok c =
@@ -158,6 +154,6 @@ returns-clause-ok c =
     let cut = rows-cut text c.bytes.cells c.bytes.rows c.bytes.start c.bytes.first columns count c.bytes.invariant.cut
     (subst (IsWithin text c.bytes.start) size within)
     (omega (arith, reached, c.len-2.ensures, ap length pushed, length-append c.bytes.cells ((length text, columns) ∷ []))) in
-    c.new.ensures ∙ ap (λ cells. rows_in (texts_from 1 text 0 cells) c.push-3.new.self) pushed
+    ap (λ cells. rows_in (texts_from 1 text 0 cells) c.push-3.new.self) pushed
     ∙ ap (rows_in (texts_from 1 text 0 cells)) c.in_ok-push-4.ensures.ok
     ∙ ap lengthened_rows cut ∙ rows-lines (lines_of text)
