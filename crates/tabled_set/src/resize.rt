@@ -176,6 +176,14 @@ pub trait TextTransform {
     fn new() -> Self
         ensures { is_new result };
 
+    /// Whether the text is known to stay as it is. Returning `false` is always safe: the text is
+    /// then made anew.
+    fn keeps(&self, text: &str, content_size: usize) -> bool
+        ensures { result ≡ true → makes self.now content_size text.now text.now }
+    {
+        false
+    }
+
     /// Returns what the text becomes if it is cut in place.
     fn beginning(&self, text: &str, content_size: usize) -> Option<Beginning<'_>>
         ensures made { IfSome result (λ kept.
@@ -240,6 +248,9 @@ impl<'a, T: TextTransform, M: ContentSizes> Change<'a, T, M> {
             return Ok(());
         };
         if !self.cell_filter.takes(records, at, content_size) {
+            return Ok(());
+        }
+        if self.transform.keeps(records.get_text(at), content_size) {
             return Ok(());
         }
         let _columns = records.count_columns();
