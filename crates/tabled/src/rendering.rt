@@ -65,11 +65,28 @@ fn narrow<R: RecordsMut>(
     }
 }
 
+/// Wraps or truncates the cells of a table, as a plan says, and prints it.
+fn print_narrowed<R: RecordsMut + Drop, S: TextSink>(
+    alloc: Global,
+    mut records: R,
+    mut config: ColoredConfig,
+    plan: Plan,
+    sink: &mut S,
+) -> Result<(), TableError>
+    requires texts { AreTexts (R.cells records) }
+    requires rectangular { IsRectangular (R.cells records) }
+    ensures { IsRenderedOf (measured plan) (estimated (R.cells records) config.config)
+        (S.sent sink.old) result (S.sent sink.new) }
+{
+    let sizes = narrow(alloc, plan, &mut records, &mut config)?;
+    print_standing(sink, &records, config.as_ref(), &sizes)
+}
+
 /// Prints the table of some records and settings under a plan. Measures all of it first.
 fn print_measured<R: PeekableRecords, S: TextSink>(
     alloc: Global,
     rows: &R,
-    mut config: ColoredConfig,
+    config: ColoredConfig,
     plan: Plan,
     sink: &mut S,
 ) -> Result<(), TableError>
@@ -78,12 +95,16 @@ fn print_measured<R: PeekableRecords, S: TextSink>(
     ensures { IsRenderedOf (measured plan) (estimated (R.cells rows.now) config.config)
         (S.sent sink.old) result (S.sent sink.new) }
 {
-    if let Plan::Buffered | Plan::Streamed = plan {
-        return print_estimated(alloc, sink, rows, config.as_ref());
+    match plan {
+        Plan::Buffered | Plan::Streamed => print_estimated(alloc, sink, rows, config.as_ref()),
+        // Cutting reads each cell several times, which cells of their own make cheaper.
+        Plan::Shortened { .. } => {
+            print_narrowed(alloc, lend_cells(alloc, rows)?, config, plan, sink)
+        }
+        Plan::Wrapped { .. } => {
+            print_narrowed(alloc, ChangedRecords::new(alloc, rows)?, config, plan, sink)
+        }
     }
-    let mut records = ChangedRecords::new(alloc, rows)?;
-    let sizes = narrow(alloc, plan, &mut records, &mut config)?;
-    print_standing(sink, &records, config.as_ref(), &sizes)
 }
 
 /// Prints records as an `IterTable` that reads all rows ahead.

@@ -1,15 +1,13 @@
-use Rattle.std.proofs.Common.{◌≡◌, ap, not, subst, sym, true, ⊎_elim}
+use Rattle.std.proofs.Common.{◌≡◌, ap, subst, sym, true, ⊎_elim}
 use Rattle.tabled_base.specs.Cells.{IsRectangular}
 use Rattle.tabled_config.specs.declared.spanned.SpannedConfig.{SpannedConfig}
 use Rattle.tabled_grid.specs.Printed.{Prints}
-use Rattle.tabled_size.specs.Effective.{effective}
 use Rattle.tabled_size.specs.Sheet.{estimated}
-use Rattle.tabled_size.specs.Stored.{is_stored}
 use Rattle.tabled_size.specs.TextCells.{AreTexts}
 use Rattle.tabled.specs.declared.plan.Plan.{Plan}
 use Rattle.tabled.specs.declared.plan.Plan.TheVariants.{Buffered}
 use Rattle.tabled.specs.Planned.{Cells, measured}
-use Rattle.tabled.specs.Rendered.{IsMade, IsRenderedOf}
+use Rattle.tabled.specs.Rendered.{IsRenderedOf}
 use Rattle.tabled.proofs.RenderedTables.{buffered_made, prints_made}
 use Rattle.tabled.proofs.rendering.print_measured.Goals as goal
 
@@ -25,22 +23,24 @@ returns-in-Buffered g c =
     subst (λ (p : Plan). IsRenderedOf p (estimated cells config) old r new) (sym plan)
     (prints_made Buffered (estimated cells config) true (estimated cells config) old r new (buffered_made cells config c.requires.rectangular c.requires.texts) shown)
 
-pub narrow-requires-clause-texts : goal.narrow-requires-clause-texts
-narrow-requires-clause-texts g c = subst AreTexts (sym c.in_ok-records.ensures.ok) c.requires.texts
+pub print_narrowed-requires-clause-texts : goal.print_narrowed-requires-clause-texts
+print_narrowed-requires-clause-texts g c = subst AreTexts (sym c.in_ok-lend_cells-in-Shortened.ensures.ok) c.requires.texts
 
-pub narrow-requires-clause-rectangular : goal.narrow-requires-clause-rectangular
-narrow-requires-clause-rectangular g c = subst IsRectangular (sym c.in_ok-records.ensures.ok) c.requires.rectangular
+pub print_narrowed-requires-clause-rectangular : goal.print_narrowed-requires-clause-rectangular
+print_narrowed-requires-clause-rectangular g c = subst IsRectangular (sym c.in_ok-lend_cells-in-Shortened.ensures.ok) c.requires.rectangular
 
-pub returns : goal.returns
-returns g c =
-    let sizes = c.in_ok-sizes.sizes in
-    let after = c.narrow.new.records in
-    let config = c.args.config.config in
-    let old = g.S.TextSink.sent c.args.sink.now in
-    let new = g.S.TextSink.sent c.print_standing.new.sink in
-    let whole = estimated (g.R.ExactRecords.cells c.args.rows.now) config in
-    let prints = subst (λ (d : SpannedConfig). Prints (not (is_stored sizes)) (effective after d sizes) old c.print_standing.result new)
-    c.as_ref-2.ensures c.print_standing.ensures in
-    let made = subst (λ (rows : Cells). IsMade (measured c.args.plan) (estimated rows config) (effective after c.narrow.new.config.config sizes))
-    c.in_ok-records.ensures.ok c.in_ok-sizes.ensures.made in
-    prints_made (measured c.args.plan) whole (not (is_stored sizes)) (effective after c.narrow.new.config.config sizes) old c.print_standing.result new made prints
+pub print_narrowed-requires-in-Wrapped-clause-texts : goal.print_narrowed-requires-in-Wrapped-clause-texts
+print_narrowed-requires-in-Wrapped-clause-texts g c = subst AreTexts (sym c.in_ok-new-in-Wrapped.ensures.ok) c.requires.texts
+
+pub print_narrowed-requires-in-Wrapped-clause-rectangular : goal.print_narrowed-requires-in-Wrapped-clause-rectangular
+print_narrowed-requires-in-Wrapped-clause-rectangular g c = subst IsRectangular (sym c.in_ok-new-in-Wrapped.ensures.ok) c.requires.rectangular
+
+pub returns-in_ok-lend_cells-in-Shortened : goal.returns-in_ok-lend_cells-in-Shortened
+returns-in_ok-lend_cells-in-Shortened g c =
+    subst (λ (cells : Cells). IsRenderedOf (measured c.args.plan) (estimated cells c.args.config.config) (g.S.TextSink.sent c.args.sink.now)
+    c.print_narrowed.result (g.S.TextSink.sent c.print_narrowed.new.sink)) c.in_ok-lend_cells-in-Shortened.ensures.ok c.print_narrowed.ensures
+
+pub returns-in_ok-new-in-Wrapped : goal.returns-in_ok-new-in-Wrapped
+returns-in_ok-new-in-Wrapped g c =
+    subst (λ (cells : Cells). IsRenderedOf (measured c.args.plan) (estimated cells c.args.config.config) (g.S.TextSink.sent c.args.sink.now)
+    c.print_narrowed-in-Wrapped.result (g.S.TextSink.sent c.print_narrowed-in-Wrapped.new.sink)) c.in_ok-new-in-Wrapped.ensures.ok c.print_narrowed-in-Wrapped.ensures
