@@ -116,7 +116,7 @@ All-lines_push P cs y e h p =
 pub All-last_line : (P : List ℕ → Type 0) (cs : List ℕ) → All P (lines_of cs) → P (last_line cs)
 All-last_line P cs h = let k = IsCons-lines cs in subst (λ S. All P S → P (last_of S)) (sym k.is) (All-last_of P k.first k.rest) h
 
-count_of-push : (cs : List ℕ) (y : ℕ) → count_of (cs ++ y ∷ []) ≡ count_of cs + char_count y
+pub count_of-push : (cs : List ℕ) (y : ℕ) → count_of (cs ++ y ∷ []) ≡ count_of cs + char_count y
 count_of-push cs y = sum_by_push char_count cs y
 
 -- a reached beginning, as long as it can be so far

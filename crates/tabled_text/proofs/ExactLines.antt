@@ -1,17 +1,16 @@
 -- Texts of one line whose characters count as many as its columns: where they find room, they aren't cut, and else they are cut to the
 -- longest beginning that does.
-use Rattle.std.proofs.Common.{◌≡◌, ℕ, zero, suc, ◌<◌, ◌≤◌, true, List, [], ◌∷◌, ◌++◌, length, take, map, replicate, chars, refl, sym, ◌∙◌, ap, subst, arith, append-nil, encode_utf8_all, All}
+use Rattle.std.proofs.Common.{◌≡◌, ℕ, zero, suc, ◌≤◌, true, List, [], ◌∷◌, ◌++◌, length, take, map, replicate, chars, refl, sym, ◌∙◌, ap, subst, arith, append-nil, encode_utf8_all}
 use Rattle.std.specs.List.{list_all, slice_index_or}
 use Rattle.std.specs.Str.{IsUtf8}
 use Rattle.std.proofs.lemmas.Bool.{and_from, and_parts}
 use Rattle.std.proofs.lemmas.List.{take_all}
-use Rattle.std.proofs.lemmas.List.Elements.{All-cons, All-nil}
-use Rattle.std.proofs.lemmas.List.Sums.{sum_by-cons}
 use Rattle.std.proofs.lemmas.Str.{encodes-chars}
-use Rattle.tabled_text.specs.Cut.{IsCut, IsReached, last_line, last_of, missing_columns}
+use Rattle.tabled_text.specs.Cut.{IsCut, IsReached, missing_columns}
 use Rattle.tabled_text.specs.Longest.{IsLongestCut}
-use Rattle.tabled_text.specs.Measure.{char_count, columns_of, count_of, greatest, line_columns, lines_of, text_columns}
+use Rattle.tabled_text.specs.Measure.{columns_of, count_of, greatest, line_columns, lines_of, text_columns}
 use Rattle.tabled_text.specs.Plain.{IsAdditive, is_additive}
+use Rattle.tabled_text.proofs.CutWhole.{IsReached-counted}
 use Rattle.tabled_text.proofs.LongestLemmas.{longest_counted, no_rest}
 use Rattle.tabled_text.proofs.PlainLemmas.{columns_of-plain, count_of-plain}
 use Rattle.tabled_text.proofs.PlainLines.{plain_line-each, text_columns-plain_line}
@@ -34,28 +33,12 @@ feedless-take (suc k) (c ∷ cs) h =
     let parts = and_parts (is_no_feed c) (list_all is_no_feed cs) h in
     and_from (is_no_feed c) (list_all is_no_feed (take k cs)) parts.0 (feedless-take k cs parts.1)
 
--- each character counts
-fewer-count : (k : ℕ) (cs : List ℕ) → k < length cs → count_of (take k cs) < count_of cs
-fewer-count k [] h = absurd (omega arith)
-fewer-count zero (c ∷ cs) h = omega (arith, sum_by-cons char_count c cs)
-fewer-count (suc k) (c ∷ cs) h =
-    let fewer = fewer-count k cs (omega arith) in omega (arith, sum_by-cons char_count c cs, sum_by-cons char_count c (take k cs))
-
-reached-whole : (n : ℕ) (cs : List ℕ) → list_all is_no_feed cs ≡ true → count_of cs ≤ n → IsReached n cs
-reached-whole n cs h room = record {
-  fits = subst (All (λ l. count_of l ≤ n)) (sym (lines_of-feedless cs h))
-      (All-cons (λ l. count_of l ≤ n) cs [] room (All-nil (λ l. count_of l ≤ n)));
-  shorter = λ k b.
-      let last : last_line (take k cs) ≡ take k cs = ap last_of (lines_of-feedless (take k cs) (feedless-take k cs h)) in
-      let fewer = fewer-count k cs b in subst (λ l. count_of l < n) (sym last) (omega arith);
-}
-
 pub exact-kept : (n : ℕ) (text answer : List ℕ) → IsExactLine text → text_columns text ≤ n → IsCut n text answer → answer ≡ text
 exact-kept n text answer e room cut =
     let cs = chars text in
     let whole : take (length cs) cs ≡ cs = take_all (length cs) cs (omega arith) in
     let counted = e.counted in
-    let reached = reached-whole n cs (feedless text e.utf8 e.one) (omega arith) in
+    let reached = IsReached-counted n cs (omega arith) in
     let all : length cs ≤ length cut.front = cut.longest.longest (length cs) (omega arith) (subst (IsReached n) (sym whole) reached) in
     let none : cut.rest ≡ [] = no_rest cut.front cut.rest (omega (arith, ap length cut.longest.parts)) in
     let front : cut.front ≡ cs = sym (cut.longest.parts ∙ ap (λ r. cut.front ++ r) none ∙ append-nil cut.front) in

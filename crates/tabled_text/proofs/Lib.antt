@@ -1,3 +1,4 @@
+pub mod AsciiLines
 pub mod Beside
 pub mod Blocks
 pub mod BoundLemmas
@@ -8,6 +9,7 @@ pub mod CutBound
 pub mod CutLemmas
 pub mod CutOnce
 pub mod CutRoom
+pub mod CutWhole
 pub mod Each
 pub mod Ends
 pub mod ExactBeginnings
@@ -19,7 +21,6 @@ pub mod FitLemmas
 pub mod FittingLaws
 pub mod JoinLemmas
 pub mod Joining
-pub mod Kept
 pub mod LetterLemmas
 pub mod LineLaws
 pub mod Listed
@@ -43,4 +44,5 @@ pub mod WordLemmas
 pub mod WrapBound
 pub mod WrapKept
 pub mod WrapRoom
+pub mod WrapWhole
 pub mod WriteLemmas

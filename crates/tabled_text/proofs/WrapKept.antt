@@ -19,7 +19,7 @@ use Rattle.tabled_text.proofs.OwnBreaking.{text_of-units, text_from-narrow, unit
 use Rattle.tabled_text.proofs.PlainLemmas.{columns_of-plain}
 use Rattle.tabled_text.proofs.WrapRoom.{EachGood, EachGood-units, EachPlain, EachPlain-lines}
 
-fits-sum : (n used : ℕ) (g : List TextUnit) → used + width_of g ≤ n → Fits n used g
+pub fits-sum : (n used : ℕ) (g : List TextUnit) → used + width_of g ≤ n → Fits n used g
 fits-sum n used [] h = tt
 fits-sum n used (u ∷ g) h =
     let e = sum_by-cons (λ (v : TextUnit). v.width) u g in

@@ -58,7 +58,8 @@ fn part_by_chars(text: &str, n: usize) -> Parts<'_>
     }
 }
 
-/// Cuts a text to n columns. If its first n bytes are printable ASCII, they are the cut text.
+/// Cuts a text to n columns. A text of at most n bytes isn't cut, and if the first n bytes are
+/// printable ASCII, they are the cut text.
 fn part(text: &str, n: usize) -> Parts<'_>
     ensures parted { IsParted n (chars text.now) (chars result.front.now) result.missing
         (chars result.after.now) }
@@ -67,10 +68,16 @@ fn part(text: &str, n: usize) -> Parts<'_>
     ensures beginning { take (length result.front.now) text.now ≡ result.front.now }
     ensures boundary { IsCharBoundary text.now (length result.front.now) }
 {
-    let end = n.min(text.len());
-    let (bytes, _) = text.as_bytes().split_at(end);
+    if text.len() <= n {
+        return Parts {
+            front: text,
+            missing: 0,
+            after: "",
+        };
+    }
+    let (bytes, _) = text.as_bytes().split_at(n);
     if is_run(bytes, 0, b' ', b'~') {
-        let (front, after) = text.split_at(end);
+        let (front, after) = text.split_at(n);
         return Parts {
             front,
             missing: 0,

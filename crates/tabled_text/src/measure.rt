@@ -84,6 +84,41 @@ fn measures_of_lines(text: &str) -> (usize, usize)
     (widest, count)
 }
 
+/// Whether a byte is printable ASCII.
+#[inline(always)]
+fn is_printable_byte(byte: u8) -> bool
+    ensures { result ≡ is_in_range 0x20 0x7E byte }
+{
+    matches!(byte, b' '..=b'~')
+}
+
+/// Returns the columns and the number of lines of printable ASCII, or `None` if another byte than a
+/// line feed is in the text.
+fn measures_of_ascii(text: &str) -> Option<(usize, usize)>
+    ensures columns { IfSome result (λ measures. measures.0 ≡ text_columns text.now) }
+    ensures lines { IfSome result (λ measures. measures.1 ≡ length (lines_of text.now)) }
+    ensures bound { IfSome result (λ measures. measures.0 ≤ 2 * length text.now) }
+{
+    let mut widest: usize = 0;
+    let mut columns: usize = 0;
+    let mut count: usize = 1;
+    let mut rest = text.as_bytes();
+    'bytes: while let Some((&byte, after)) = rest.split_first() {
+        rest = after;
+        if is_printable_byte(byte) {
+            columns += 1;
+            continue;
+        }
+        if byte != b'\n' {
+            return None;
+        }
+        widest = widest.max(columns);
+        columns = 0;
+        count += 1;
+    }
+    Some((widest.max(columns), count))
+}
+
 /// Returns the columns and the number of lines of any text. A text of one line isn't split.
 #[inline(never)]
 fn measures_of_any(text: &str) -> (usize, usize)
@@ -91,6 +126,9 @@ fn measures_of_any(text: &str) -> (usize, usize)
     ensures lines { result.1 ≡ length (lines_of text.now) }
     ensures bound { result.0 ≤ 2 * length text.now }
 {
+    if let Some(measures) = measures_of_ascii(text) {
+        return measures;
+    }
     if text.as_bytes().contains(&b'\n') {
         measures_of_lines(text)
     } else {

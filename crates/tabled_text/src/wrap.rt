@@ -4,8 +4,8 @@ ghost use Rattle.std.specs.Prelude.{chars, encode_utf8_all, length, map, IfOk, O
 ghost use Rattle.std.specs.Prelude.{IsUtf8, string_bytes, OnErr, false, true};
 ghost use Rattle.std.specs.Int.{is_in_range};
 ghost use Rattle.std.specs.List.{list_all};
-ghost use Rattle.tabled_text.specs.Cut.{IsCut};
-ghost use Rattle.tabled_text.specs.Measure.{lines_of};
+ghost use Rattle.tabled_text.specs.Cut.{IsCut, NeedsFill};
+ghost use Rattle.tabled_text.specs.Measure.{char_count, lines_of};
 ghost use Rattle.tabled_text.specs.Units.{unit_of_char, words_of, units, units_of_word};
 ghost use Rattle.tabled_text.specs.Units.{units_of_words};
 ghost use Rattle.tabled_text.specs.Breaking.{EachUnitFits, HasFewestLines, IsLeastBreaking};
@@ -52,6 +52,26 @@ fn append_word<S: Sink>(
     Ok(column + width)
 }
 
+/// Writes a character of at most n columns, and returns the columns then used.
+#[inline(always)]
+fn append_narrow<S: Sink>(
+    out: &mut S,
+    used: usize,
+    n: usize,
+    c: char,
+    count: usize,
+) -> Result<usize, S::Error>
+    requires count { count ≡ char_count c }
+    requires fits { count ≤ n }
+    ensures used { IfOk result (λ column. column ≡ append_used n used (unit_of_char c)) }
+    ensures text { OnOk result (S.adds out.old
+        (encode_utf8_all (append_text n used (unit_of_char c))) out.new) }
+{
+    let column = begin(out, used, n, count)?;
+    out.append_char(c)?;
+    Ok(column + count)
+}
+
 /// Writes a character, and returns the columns then used. If it is wider than n, writes U+FFFD in
 /// the columns left; the line is then full.
 fn append_char<S: Sink>(out: &mut S, used: usize, n: usize, c: char) -> Result<usize, S::Error>
@@ -62,9 +82,7 @@ fn append_char<S: Sink>(out: &mut S, used: usize, n: usize, c: char) -> Result<u
 {
     let count = char_count(c);
     if count <= n {
-        let column = begin(out, used, n, count)?;
-        out.append_char(c)?;
-        return Ok(column + count);
+        return append_narrow(out, used, n, c, count);
     }
     let column = begin(out, used, n, 1)?;
     append_copies(out, '\u{FFFD}', n - column)?;
@@ -138,19 +156,21 @@ fn append_words<S: Sink>(out: &mut S, n: usize, line: &str) -> Result<(), S::Err
     }
 }
 
-/// The most bytes that are written one by one.
-const FEW_BYTES: usize = 3;
+/// The widest lines of printable ASCII that are written byte by byte, without calls to copy them.
+const FEW_COLUMNS: usize = 4;
 
-/// Writes a text. Few bytes are written one by one, without a call to copy them.
-fn append_piece<S: Sink>(out: &mut S, piece: &str) -> Result<(), S::Error>
-    ensures { OnOk result (S.adds out.old piece.now out.new) }
+/// Writes printable ASCII byte by byte, with a line feed after each n bytes that more bytes follow.
+#[inline(always)]
+fn append_bytes<S: Sink>(out: &mut S, n: usize, line: &str) -> Result<(), S::Error>
+    requires some { 0 < n }
+    requires printable { list_all (is_in_range 0x20 0x7E) line.now ≡ true }
+    ensures { OnOk result (S.adds out.old
+        (encode_utf8_all (append_all n 0 (map unit_of_char (chars line.now)))) out.new) }
 {
-    if piece.len() > FEW_BYTES {
-        return out.append_str(piece);
-    }
-    let mut rest = piece;
-    'bytes: while let Some((c, after)) = split_first(rest) {
-        out.append_char(c)?;
+    let mut column = 0;
+    let mut rest = line.as_bytes();
+    'bytes: while let Some((&byte, after)) = rest.split_first() {
+        column = append_narrow(out, column, n, byte as char, 1)?;
         rest = after;
     }
     Ok(())
@@ -163,14 +183,17 @@ fn append_pieces<S: Sink>(out: &mut S, n: usize, line: &str) -> Result<(), S::Er
     ensures { OnOk result (S.adds out.old
         (encode_utf8_all (append_all n 0 (map unit_of_char (chars line.now)))) out.new) }
 {
+    if n <= FEW_COLUMNS {
+        return append_bytes(out, n, line);
+    }
     let mut rest = line;
     'pieces: while rest.len() > n {
         let (piece, after) = rest.split_at(n);
-        append_piece(out, piece)?;
+        out.append_str(piece)?;
         out.append_char('\n')?;
         rest = after;
     }
-    append_piece(out, rest)
+    out.append_str(rest)
 }
 
 /// Returns the index after the last space before `end`, or `None` if there is none.
@@ -326,9 +349,24 @@ pub fn wrap_text(alloc: Global, text: &str, n: usize, words: bool) -> Result<Str
     if n == 0 || text.is_empty() {
         return Ok(out);
     }
+    if fits_bytes(text, n) {
+        return String::from_str(alloc, text);
+    }
     out.reserve_exact(text.len().saturating_add(text.len() / n))?;
     append_lines(&mut out, n, words, text)?;
     Ok(out)
+}
+
+/// Whether a text has at most n bytes. Wrapping or cutting it to n columns, which are then at least
+/// 1 if it isn't empty, leaves it as it is. The text isn't read.
+#[inline(always)]
+pub fn fits_bytes(text: &str, n: usize) -> bool
+    ensures value { result ≡ nat_le (length text.now) n }
+    ensures wrapped { (words : Bool) → result ≡ true → 0 < n → IsWrapped n words text.now text.now }
+    ensures cut { result ≡ true → IsCut n text.now text.now }
+    ensures unfilled { result ≡ true → NeedsFill n text.now → ⊥ }
+{
+    text.len() <= n
 }
 
 /// Whether a text is printable ASCII of at most n bytes. Wrapping or cutting it to n columns, which

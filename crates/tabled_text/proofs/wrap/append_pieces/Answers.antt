@@ -19,9 +19,9 @@ pieces-preserved g c =
     let at = IsCharBoundary-from_ascii rest n (IsAscii-printable rest c.pieces.invariant.1) (omega arith) in (
       (λ t h. c.pieces.invariant.0 t
           (subst (λ x. g.S.Sink.adds c.pieces.out x t) (written-piece n rest c.requires.some c.pieces.invariant.1 (omega arith))
-          (g.met.S.Sink.adds_more c.pieces.out c.append_piece.new.out t (take n rest) (encode_utf8 10 ++ next)
-          (subst (λ x. g.S.Sink.adds c.pieces.out x c.append_piece.new.out) c.split_at.ensures.front c.in_ok-append_piece.ensures)
-          (g.met.S.Sink.adds_more c.append_piece.new.out c.append_char.new.self t (encode_utf8 10) next c.in_ok-append_char.ensures
+          (g.met.S.Sink.adds_more c.pieces.out c.append_str.new.self t (take n rest) (encode_utf8 10 ++ next)
+          (subst (λ x. g.S.Sink.adds c.pieces.out x c.append_str.new.self) c.split_at.ensures.front c.in_ok-append_str.ensures)
+          (g.met.S.Sink.adds_more c.append_str.new.self c.append_char.new.self t (encode_utf8 10) next c.in_ok-append_char.ensures
           (subst (λ l. g.S.Sink.adds c.append_char.new.self (encode_utf8_all (append_all n 0 (map unit_of_char (chars l)))) t) back h))))),
       ap is_printable back ∙ (parts-printable n rest c.pieces.invariant.1).1,
       subst IsUtf8 (sym back) (IsUtf8-drop rest n c.pieces.invariant.2 at),
@@ -33,7 +33,7 @@ pieces-smaller g c = omega (arith, c.split_at.ensures.back_len, c.requires.some)
 pub returns : goal.returns
 returns g c =
     let rest = c.pieces.rest.now in
-    on_ok_weaker c.append_piece-2.result
-    (λ h. c.pieces.invariant.0 c.append_piece-2.new.out (subst (λ x. g.S.Sink.adds c.pieces.out x c.append_piece-2.new.out)
+    on_ok_weaker c.append_str-2.result
+    (λ h. c.pieces.invariant.0 c.append_str-2.new.self (subst (λ x. g.S.Sink.adds c.pieces.out x c.append_str-2.new.self)
     (written-last c.args.n rest c.pieces.invariant.1 (omega arith)) h))
-    c.append_piece-2.ensures
+    c.append_str-2.ensures

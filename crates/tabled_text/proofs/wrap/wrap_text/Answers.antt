@@ -1,7 +1,9 @@
-use Rattle.std.proofs.Common.{◌++◌, ◌∙◌, ap, false, chars, length, string_bytes, encode_utf8_all, arith, inl, inr}
+use Rattle.std.proofs.Common.{◌≡◌, ◌++◌, ◌∙◌, IfOk, ap, sym, subst, false, chars, length, string_bytes, encode_utf8_all, arith, inl, inr}
 use Rattle.std.proofs.lemmas.Bool.{eqb-true}
 use Rattle.std.proofs.lemmas.List.{nil_from_length}
+use Rattle.std.proofs.lemmas.Result.{IfOk-weaker}
 use Rattle.std.proofs.lemmas.Str.{IsUtf8-string_bytes}
+use Rattle.tabled_text.specs.Breaking.{HasFewestLines, IsLeastBreaking}
 use Rattle.tabled_text.specs.Measure.{lines_of}
 use Rattle.tabled_text.specs.Walk.{pending}
 use Rattle.tabled_text.specs.Wrapping.{IsWrapped}
@@ -9,7 +11,7 @@ use Rattle.tabled_text.proofs.FewestLines.{fewest-wrapped}
 use Rattle.tabled_text.proofs.OwnBreaking.{least_breaking}
 use Rattle.tabled_text.proofs.WriteLemmas.{IsWrapped-written, IsWrapped-nothing}
 use Rattle.tabled_text.proofs.wrap.wrap_text.Goals as goal
-use Rattle.tabled_text.proofs.wrap.wrap_text.Goals.{then-n-eq0-via-then-n-eq0, then-n-eq0-via-else-n-eq0+then-is_empty}
+use Rattle.tabled_text.proofs.wrap.wrap_text.Goals.{After-drop-out, then-n-eq0-via-then-n-eq0, then-n-eq0-via-else-n-eq0+then-is_empty}
 
 nothing : (c : goal.Joined-then-n-eq0) → IsWrapped c.args.n c.args.words c.args.text.now (string_bytes c.new-out.result)
 nothing c =
@@ -32,6 +34,28 @@ returns-then-n-eq0-clause-fewest c =
 pub returns-then-n-eq0-clause-least : goal.returns-then-n-eq0-clause-least
 returns-then-n-eq0-clause-least c = λ pos fits.
     least_breaking c.args.n c.args.words c.args.text.now (string_bytes c.new-out.result) pos fits (nothing c)
+
+copied : (c : After-drop-out) → IfOk c.from_str.result (λ answer. IsWrapped c.args.n c.args.words c.args.text.now (string_bytes answer))
+copied c =
+    IfOk-weaker c.from_str.result (λ answer. string_bytes answer ≡ c.args.text.now)
+    (λ answer. IsWrapped c.args.n c.args.words c.args.text.now (string_bytes answer))
+    (λ answer e. subst (IsWrapped c.args.n c.args.words c.args.text.now) (sym e)
+    (c.fits_bytes.ensures.wrapped c.args.words c.if-fits_bytes.true (omega arith))) c.from_str.ensures.ok
+
+pub returns-then-fits_bytes-clause-wrapped : goal.returns-then-fits_bytes-clause-wrapped
+returns-then-fits_bytes-clause-wrapped c = copied c
+
+pub returns-then-fits_bytes-clause-fewest : goal.returns-then-fits_bytes-clause-fewest
+returns-then-fits_bytes-clause-fewest c =
+    IfOk-weaker c.from_str.result (λ answer. IsWrapped c.args.n c.args.words c.args.text.now (string_bytes answer))
+    (λ answer. HasFewestLines c.args.n c.args.words c.args.text.now (string_bytes answer))
+    (λ answer w. fewest-wrapped c.args.n c.args.words c.args.text.now (string_bytes answer) w) (copied c)
+
+pub returns-then-fits_bytes-clause-least : goal.returns-then-fits_bytes-clause-least
+returns-then-fits_bytes-clause-least c = λ pos fits.
+    IfOk-weaker c.from_str.result (λ answer. IsWrapped c.args.n c.args.words c.args.text.now (string_bytes answer))
+    (λ answer. IsLeastBreaking c.args.n c.args.words c.args.text.now (string_bytes answer))
+    (λ answer w. least_breaking c.args.n c.args.words c.args.text.now (string_bytes answer) pos fits w) (copied c)
 
 written : (c : goal.In_ok-append_lines) → IsWrapped c.args.n c.args.words c.args.text.now (string_bytes c.append_lines.new.out)
 written c =

@@ -1,0 +1,90 @@
+-- A text of at most n bytes is cut to itself: no character counts more columns than it has bytes.
+use Rattle.std.proofs.Common.{◌≡◌, ℕ, ◌+◌, ◌≤◌, ◌<◌, false, ◌==◌, List, [], ◌∷◌, ◌++◌, append-nil, append_assoc, ap, arith, chars, encode_utf8, encode_utf8_all}
+use Rattle.std.proofs.Common.{inl, inr, length, length-append, refl, subst, sym, ◌∙◌, ⊎_elim}
+use Rattle.std.specs.Char.{len_utf8}
+use Rattle.std.specs.Str.{IsUtf8}
+use Rattle.std.proofs.lemmas.Bool.{cases_Bool, cases_lt, eqb-false, eqb-true}
+use Rattle.std.proofs.lemmas.Bool.Decides.{nat_tests}
+use Rattle.std.proofs.lemmas.List.Sums.{sum_by-cons}
+use Rattle.std.proofs.lemmas.Str.{chars-nil, encodes-chars, len_utf8_bounds, length-encode}
+use Rattle.unicode_width.specs.declared.kind.Kind.{Kind}
+use Rattle.unicode_width.specs.declared.kind.Kind.TheVariants as kinds
+use Rattle.unicode_width.specs.Kind.{kind}
+use Rattle.unicode_width.specs.Width.{alone, char_width, of_kind, single}
+use Rattle.unicode_width.proofs.Rules.{width_or_zero-le}
+use Rattle.tabled_text.specs.Cut.{IsCut, IsParted, IsReached, last_line}
+use Rattle.tabled_text.specs.Measure.{char_columns, char_count, count_of}
+use Rattle.tabled_text.proofs.CountBound.{count-some}
+use Rattle.tabled_text.proofs.CutLemmas.{IsCut-filled, IsReached-feed, IsReached-nil, IsReached-push, count_of-push}
+use Rattle.tabled_text.proofs.CutLemmas.{last_line-feed, last_line-push, longest_at_end}
+
+-- only one character takes three columns, and it has three bytes
+single-two : (c : ℕ) → (c == 0x17D8) ≡ false → (single false c).0 ≤ 2
+single-two c h = grind arith
+
+of_kind-two : (c : ℕ) (k : Kind) → (c == 0x17D8) ≡ false → (of_kind false c k).0 ≤ 2
+of_kind-two c kinds.Single h = single-two c h
+of_kind-two c _ h = omega arith
+
+columns-two : (c : ℕ) → (c == 0x17D8) ≡ false → char_columns c ≤ 2
+unfolding char_width alone
+columns-two c h = grind (arith, of_kind-two c (kind c) h)
+
+columns-one : (c : ℕ) → c < 128 → char_columns c ≤ 1
+unfolding char_width
+columns-one c h = grind (arith, nat_tests)
+
+count-bytes : (c : ℕ) → char_count c ≤ len_utf8 c
+count-bytes c = elim (cases_lt c 128) [
+  | inl low ↦ omega (arith, columns-one c low, len_utf8_bounds c)
+  | inr high ↦
+      ⊎_elim
+      (λ yes. let is = eqb-true c 0x17D8 yes in let most : char_columns c ≤ 3 = width_or_zero-le false c in grind (arith, nat_tests))
+      (λ no. let most = columns-two c no in grind (arith, nat_tests)) (cases_Bool (c == 0x17D8))
+]
+
+count_of-encoded : (cs : List ℕ) → count_of cs ≤ length (encode_utf8_all cs)
+count_of-encoded [] = omega arith
+count_of-encoded (c ∷ cs) =
+    omega
+    (arith, sum_by-cons char_count c cs, count-bytes c, length-encode c, length-append (encode_utf8 c) (encode_utf8_all cs), count_of-encoded cs)
+
+-- the characters of a text count at most its bytes
+pub count_of-bytes : (text : List ℕ) → IsUtf8 text → count_of (chars text) ≤ length text
+count_of-bytes text u = omega (arith, count_of-encoded (chars text), ap length (encodes-chars text u))
+
+reached-on : (n : ℕ) (front rest : List ℕ) → IsReached n front → count_of (last_line front) + count_of rest ≤ n → IsReached n (front ++ rest)
+reached-on n front [] r le = subst (IsReached n) (sym (append-nil front)) r
+reached-on n front (c ∷ rest) r le =
+    let sum = sum_by-cons char_count c rest in
+    let some = count-some c in
+    let more = front ++ c ∷ [] in
+    let on : IsReached n more → count_of (last_line more) + count_of rest ≤ n → IsReached n (front ++ c ∷ rest) =
+    λ s room. subst (IsReached n) (append_assoc front (c ∷ []) rest) (reached-on n more rest s room) in
+    ⊎_elim
+    (λ feed.
+    let is = eqb-true c 10 feed in
+    let last : count_of (last_line more) ≡ 0 = ap (λ y. count_of (last_line (front ++ y ∷ []))) is ∙ ap count_of (last_line-feed front) in
+    on (subst (λ y. IsReached n (front ++ y ∷ [])) (sym is) (IsReached-feed n front r (omega arith))) (omega arith))
+    (λ other.
+    let last = ap count_of (last_line-push front c other) ∙ count_of-push (last_line front) c in
+    on (IsReached-push n front c (eqb-false c 10 other) r (omega arith) (omega arith)) (omega arith))
+    (cases_Bool (c == 10))
+
+-- where the characters of a text count at most n, all of it is reached
+pub IsReached-counted : (n : ℕ) (cs : List ℕ) → count_of cs ≤ n → IsReached n cs
+IsReached-counted n cs le = reached-on n [] cs (IsReached-nil n) (omega arith)
+
+pub IsReached-short : (n : ℕ) (text : List ℕ) → IsUtf8 text → length text ≤ n → IsReached n (chars text)
+IsReached-short n text u le = IsReached-counted n (chars text) (omega (arith, count_of-bytes text u))
+
+pub IsParted-short : (n : ℕ) (text : List ℕ) → IsUtf8 text → length text ≤ n → IsParted n (chars text) (chars text) 0 (chars [])
+IsParted-short n text u le = record {
+  rest = [];
+  longest = longest_at_end n (chars text) (IsReached-short n text u le);
+  columns = refl;
+  dropped = chars-nil;
+}
+
+pub IsCut-short : (n : ℕ) (text : List ℕ) → IsUtf8 text → length text ≤ n → IsCut n text text
+IsCut-short n text u le = IsCut-filled u (IsParted-short n text u le) (sym (append-nil text))

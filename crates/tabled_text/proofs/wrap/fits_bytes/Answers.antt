@@ -1,0 +1,16 @@
+use Rattle.std.proofs.Common.{length}
+use Rattle.std.proofs.lemmas.Bool.{leb-true}
+use Rattle.tabled_text.proofs.CutOnce.{no_fill}
+use Rattle.tabled_text.proofs.CutWhole.{IsCut-short, IsParted-short}
+use Rattle.tabled_text.proofs.WrapWhole.{IsWrapped-short}
+use Rattle.tabled_text.proofs.wrap.fits_bytes.Goals as goal
+
+pub returns-clause-wrapped : goal.returns-clause-wrapped
+returns-clause-wrapped c = λ words yes some.
+    IsWrapped-short c.args.n words c.args.text.now c.utf8.text some (leb-true (length c.args.text.now) c.args.n yes)
+
+pub returns-clause-cut : goal.returns-clause-cut
+returns-clause-cut c = λ yes. IsCut-short c.args.n c.args.text.now c.utf8.text (leb-true (length c.args.text.now) c.args.n yes)
+
+pub returns-clause-unfilled : goal.returns-clause-unfilled
+returns-clause-unfilled c = λ yes. no_fill (IsParted-short c.args.n c.args.text.now c.utf8.text (leb-true (length c.args.text.now) c.args.n yes))
