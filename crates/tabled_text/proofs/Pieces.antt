@@ -1,22 +1,22 @@
 -- Printable ASCII, whose characters are its bytes and take a column each, broken between bytes.
-use Rattle.std.proofs.Common.{◌≡◌, ℕ, ◌+◌, ◌<◌, ◌≤◌, Bool, true, false, cond, max, nat_le, List, [], ◌∷◌, ◌++◌, length, take, drop, map, refl, sym, ap, subst, ◌∙◌, arith, chars, encode_utf8, encode_utf8_all, replicate, ◌-◌, All, inl, inr, min}
+use Rattle.std.proofs.Common.{◌≡◌, ℕ, ◌+◌, ◌<◌, ◌≤◌, Bool, true, false, cond, max, nat_le, List, [], ◌∷◌, ◌++◌, length, take, drop, map, refl, sym, ap, subst, ◌∙◌, arith, chars, encode_utf8, encode_utf8_all, replicate, ◌-◌, All}
 use Rattle.std.specs.Int.{is_in_range}
 use Rattle.std.specs.List.{list_all}
 use Rattle.std.specs.Str.{IsAscii}
-use Rattle.std.proofs.lemmas.Bool.{and_parts, cases_lt, le-leb}
+use Rattle.std.proofs.lemmas.Bool.{and_parts, le-leb}
 use Rattle.std.proofs.lemmas.Bool.Decides.{nat_tests}
-use Rattle.std.proofs.lemmas.List.{append-nil, drop_all, take-append-drop, length-take-le, length-drop}
+use Rattle.std.proofs.lemmas.List.{append-nil, take-append-drop, length-take-le, length-drop}
 use Rattle.std.proofs.lemmas.List.Elements.{All-cons, All-nil}
 use Rattle.std.proofs.lemmas.List.Folds.{list_all-append}
 use Rattle.std.proofs.lemmas.List.Sums.{sum_by-cons}
-use Rattle.std.proofs.lemmas.Str.{IsUtf8-from_ascii, chars-nil, chars-IsAscii, encodes-IsAscii, encodes-append}
+use Rattle.std.proofs.lemmas.Str.{IsUtf8-from_ascii, chars-IsAscii, encodes-IsAscii, encodes-append}
 use Rattle.std.proofs.lemmas.Str.Ascii.{IsAscii-nil, IsAscii-cons}
 use Rattle.tabled_text.specs.Cut.{IsParted, IsReached, last_line, last_of}
 use Rattle.tabled_text.specs.Measure.{char_count, count_of, lines_of}
 use Rattle.tabled_text.specs.Units.{unit_of_char, units}
 use Rattle.tabled_text.specs.Walk.{append_all, append_used, pending, used_after}
 use Rattle.tabled_text.specs.Wrapping.{needed, shown}
-use Rattle.tabled_text.proofs.CutLemmas.{IsParted-end, IsParted-full, Walked}
+use Rattle.tabled_text.proofs.CutLemmas.{IsParted-full, Walked}
 use Rattle.tabled_text.proofs.Filling.{append_all-append, append_all-breaks, append_text-fits}
 use Rattle.tabled_text.proofs.LetterLemmas.{columns-printable}
 use Rattle.tabled_text.proofs.PlainLines.{one_line, plain_line-printable}
@@ -100,13 +100,7 @@ pieces-more n cs some h long =
     ∙ ap (λ k. front ++ append_all n k (map unit_of_char back)) full
     ∙ ap (λ l. front ++ l) (broken-one n back some parts.1 left)
 
--- what is written of the last bytes of a line, and of n bytes before more
-pub written-last : (n : ℕ) (rest : List ℕ) → is_printable rest ≡ true → length rest ≤ n
-    → rest ≡ encode_utf8_all (append_all n 0 (map unit_of_char (chars rest)))
-written-last n rest h le =
-    sym (ap (λ l. encode_utf8_all (append_all n 0 (map unit_of_char l))) (chars-printable rest h)
-    ∙ ap encode_utf8_all (fitted n 0 rest h (omega arith)).text ∙ encodes-IsAscii rest (IsAscii-printable rest h))
-
+-- what is written of n bytes before more
 pub written-piece : (n : ℕ) (rest : List ℕ) → 0 < n → is_printable rest ≡ true → n < length rest
     → take n rest ++ (encode_utf8 10 ++ encode_utf8_all (append_all n 0 (map unit_of_char (chars (drop n rest)))))
     ≡ encode_utf8_all (append_all n 0 (map unit_of_char (chars rest)))
@@ -150,30 +144,22 @@ reached-printable n cs h le = record {
   shorter = λ k l. omega (arith, last-printable (take k cs) (parts-printable k cs h).0, length-take-le k cs (omega arith));
 }
 
-walked-printable : (n end : ℕ) (text : List ℕ) → is_printable (take end text) ≡ true → end ≤ n → end ≤ length text
-    → Walked n text (drop end text) end
-walked-printable n end text h le within =
-    let cs = take end text in
-    let len : length cs ≡ end = length-take-le end text within in
+walked-printable : (n : ℕ) (text : List ℕ) → is_printable (take n text) ≡ true → n ≤ length text → Walked n text (drop n text) n
+walked-printable n text h within =
+    let cs = take n text in
+    let len : length cs ≡ n = length-take-le n text within in
     let same : chars cs ≡ cs = chars-printable cs h in
     record {
       front = cs;
-      parts = sym (take-append-drop end text);
+      parts = sym (take-append-drop n text);
       utf8 = IsUtf8-from_ascii cs (IsAscii-printable cs h);
       columns_are = sym (ap (λ l. count_of (last_line l)) same ∙ last-printable cs h ∙ len);
       reached = subst (IsReached n) (sym same) (reached-printable n cs h (omega arith));
     }
 
--- the first n bytes of a text, or all, if they are printable
-pub parted-printable : (n end : ℕ) (text front after : List ℕ) → end ≡ min n (length text) → is_printable (take end text) ≡ true
-    → front ≡ take end text → after ≡ drop end text → IsParted n (chars text) (chars front) 0 (chars after)
+-- the first n bytes of a longer text, if they are printable
+pub parted-printable : (n : ℕ) (text front after : List ℕ) → n ≤ length text → is_printable (take n text) ≡ true
+    → front ≡ take n text → after ≡ drop n text → IsParted n (chars text) (chars front) 0 (chars after)
 unfolding walked-printable
-parted-printable n end text front after e h f a =
-    subst (λ l. IsParted n (chars text) (chars front) 0 (chars l)) (sym a)
-    (elim (cases_lt (length text) n) [
-      | inl lt ↦
-          let all : end ≡ length text = omega arith in
-          let none : drop end text ≡ [] = ap (λ k. drop k text) all ∙ drop_all (length text) text (omega arith) in
-          IsParted-end front (walked-printable n end text h (omega arith) (omega arith)) (ap chars none ∙ chars-nil) f
-      | inr ge ↦ IsParted-full front (walked-printable n end text h (omega arith) (omega arith)) (omega arith) f
-    ])
+parted-printable n text front after within h f a =
+    subst (λ l. IsParted n (chars text) (chars front) 0 (chars l)) (sym a) (IsParted-full front (walked-printable n text h within) refl f)

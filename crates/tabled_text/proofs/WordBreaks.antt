@@ -159,18 +159,10 @@ one-word n cs h none =
       | inr le ↦ (fitted n 0 cs h (omega arith)).text ∙ sym (line_kept n true cs (additive-printable cs h) (omega arith))
     ]
 
-pub kept-last : (n : ℕ) (cs : List ℕ) → is_printable cs ≡ true → length cs ≤ n → append_all n 0 (units_of_words n (words_of cs)) ≡ cs
-kept-last n cs h le = let columns = columns-printable_line cs h in line_kept n true cs (additive-printable cs h) (omega arith)
-
 -- ---- what is written
 
 abbrev pub spelled : ℕ → List ℕ → List ℕ
 spelled n cs = encode_utf8_all (append_all n 0 (units_of_words n (words_of (chars cs))))
-
-pub spelled-last : (n : ℕ) (cs : List ℕ) → is_printable cs ≡ true → length cs ≤ n → cs ≡ spelled n cs
-spelled-last n cs h le =
-    sym (ap (λ l. encode_utf8_all (append_all n 0 (units_of_words n (words_of l)))) (chars-printable cs h)
-    ∙ ap encode_utf8_all (kept-last n cs h le) ∙ encodes-IsAscii cs (IsAscii-printable cs h))
 
 pub spelled-more : (n k : ℕ) (cs : List ℕ) → is_printable cs ≡ true → BreaksAt n cs k
     → take k cs ++ (encode_utf8 10 ++ spelled n (drop k cs)) ≡ spelled n cs

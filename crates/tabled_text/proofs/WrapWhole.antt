@@ -13,7 +13,7 @@ use Rattle.tabled_text.specs.Walk.{append_all, pending}
 use Rattle.tabled_text.specs.Wrapping.{IsWrapped}
 use Rattle.tabled_text.proofs.Bridge.{begins, some_line}
 use Rattle.tabled_text.proofs.CountBound.{columns-count, count-some}
-use Rattle.tabled_text.proofs.CutWhole.{IsReached-short}
+use Rattle.tabled_text.proofs.CutWhole.{IsReached-short, count_of-bytes}
 use Rattle.tabled_text.proofs.Filling.{append_all-fits}
 use Rattle.tabled_text.proofs.OwnBreaking.{text_from-narrow, text_of-units, unit-le}
 use Rattle.tabled_text.proofs.WrapKept.{fits-sum}
@@ -72,6 +72,12 @@ lines-short n words line [] h = append-nil _ ∙ line-short n words line (All-he
 lines-short n words line (next ∷ lines) h =
     ap (λ l. l ++ pending n words true (next ∷ lines)) (line-short n words line (All-head (λ l. count_of l ≤ n) line (next ∷ lines) h))
     ∙ ap (λ l. line ++ 10 ∷ l) (lines-short n words next lines (All-tail (λ l. count_of l ≤ n) line (next ∷ lines) h))
+
+-- what is written of a line of at most n bytes
+pub written-short : (n : ℕ) (words : Bool) (line : List ℕ) → IsUtf8 line → length line ≤ n
+    → line ≡ encode_utf8_all (append_all n 0 (units n words (chars line)))
+written-short n words line u le =
+    sym (ap encode_utf8_all (line-short n words (chars line) (omega (arith, count_of-bytes line u))) ∙ encodes-chars line u)
 
 pub IsWrapped-short : (n : ℕ) (words : Bool) (text : List ℕ) → IsUtf8 text → 0 < n → length text ≤ n → IsWrapped n words text text
 IsWrapped-short n words text u some le =

@@ -1,5 +1,5 @@
 //! The columns and lines of a text, and an iterator over its lines.
-ghost use Rattle.std.specs.Prelude.{◌≡◌, ◌&&◌, nat_le, ◌*◌, ◌≤◌, drop, length, ℕ, IfSome, ◌∷◌};
+ghost use Rattle.std.specs.Prelude.{◌≡◌, ◌*◌, ◌≤◌, drop, length, ℕ, IfSome, ◌∷◌};
 ghost use Rattle.std.specs.Int.{is_in_range};
 ghost use Rattle.std.specs.List.{list_all};
 ghost use Rattle.std.specs.Str.{IsCharBoundary};
@@ -50,14 +50,6 @@ pub(crate) fn is_printable(text: &str) -> bool
     is_run(text.as_bytes(), 0, b' ', b'~')
 }
 
-/// Whether a text is printable ASCII of at most n bytes.
-#[inline(always)]
-pub(crate) fn is_printable_within(text: &str, n: usize) -> bool
-    ensures { result ≡ (nat_le (length text.now) n && list_all (is_in_range 0x20 0x7E) text.now) }
-{
-    text.len() <= n && is_printable(text)
-}
-
 /// Whether the bytes from `start` on are printable ASCII. If they are fewer than a block, they are
 /// first tested together with the bytes before them, in one block.
 #[inline(always)]
@@ -84,7 +76,6 @@ fn measures_of_lines(text: &str) -> (usize, usize)
     (widest, count)
 }
 
-/// Whether a byte is printable ASCII.
 #[inline(always)]
 fn is_printable_byte(byte: u8) -> bool
     ensures { result ≡ is_in_range 0x20 0x7E byte }

@@ -14,7 +14,7 @@ ghost use Rattle.tabled_text.specs.Walk.{BreaksAt, words_in, begin_at, begin_tex
 ghost use Rattle.tabled_text.specs.Walk.{append_used, append_all, used_after, pending};
 
 use crate::character::{char_count, split_first};
-use crate::measure::{is_printable, is_printable_within, line_width, lines};
+use crate::measure::{is_printable, line_width, lines};
 use crate::runs::split_at_byte;
 use crate::sink::{Sink, append_copies};
 use std::alloc::{AllocError, Global};
@@ -271,7 +271,7 @@ fn append_kept_words<S: Sink>(out: &mut S, n: usize, line: &str) -> Result<(), S
             }
         }
     }
-    append_pieces(out, n, rest)
+    out.append_str(rest)
 }
 
 /// Writes a line of printable ASCII, broken to n columns.
@@ -294,6 +294,9 @@ fn append_line<S: Sink>(out: &mut S, n: usize, words: bool, line: &str) -> Resul
     ensures { OnOk result (S.adds out.old
         (encode_utf8_all (append_all n 0 (units n words (chars line.now)))) out.new) }
 {
+    if line.len() <= n {
+        return out.append_str(line);
+    }
     if is_printable(line) {
         return append_printable(out, n, words, line);
     }
@@ -378,5 +381,5 @@ pub fn fits_printable(text: &str, n: usize) -> bool
     ensures wrapped { (words : Bool) → result ≡ true → 0 < n → IsWrapped n words text.now text.now }
     ensures cut { result ≡ true → IsCut n text.now text.now }
 {
-    is_printable_within(text, n)
+    text.len() <= n && is_printable(text)
 }

@@ -22,7 +22,7 @@ returns-then-is_run-clause-parted c =
     let text = c.args.text.now in
     let front : c.split_at.result.0.now ≡ take n text = c.split_at.ensures.front ∙ ap (take n) c.as_bytes.ensures.value in
     let all : is_printable (take n text) ≡ true = ap is_printable (sym front) ∙ sym c.is_run.ensures ∙ c.if-is_run.true in
-    parted-printable n n text c.split_at-then-is_run.result.0.now c.split_at-then-is_run.result.1.now (omega arith) all
+    parted-printable n text c.split_at-then-is_run.result.0.now c.split_at-then-is_run.result.1.now (omega arith) all
     c.split_at-then-is_run.ensures.front c.split_at-then-is_run.ensures.back
 
 pub returns-then-is_run-clause-boundary : goal.returns-then-is_run-clause-boundary

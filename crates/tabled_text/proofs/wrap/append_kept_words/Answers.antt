@@ -1,11 +1,10 @@
-use Rattle.std.proofs.Common.{◌≡◌, arith, chars, map, encode_utf8, encode_utf8_all, take, drop, subst, sym, ap, ◌∙◌, ◌++◌}
+use Rattle.std.proofs.Common.{arith, true, encode_utf8, take, drop, subst, sym, ap, ◌∙◌, ◌++◌}
 use Rattle.std.specs.Str.{IsUtf8}
 use Rattle.std.proofs.lemmas.Result.{on_ok_weaker}
 use Rattle.std.proofs.lemmas.Str.{IsCharBoundary-from_ascii, IsUtf8-drop}
-use Rattle.tabled_text.proofs.Pieces.{is_printable, IsAscii-printable, parts-printable, written-last}
-use Rattle.tabled_text.specs.Units.{unit_of_char}
-use Rattle.tabled_text.specs.Walk.{append_all}
-use Rattle.tabled_text.proofs.WordBreaks.{spelled, spelled-last, spelled-more}
+use Rattle.tabled_text.proofs.Pieces.{is_printable, IsAscii-printable, parts-printable}
+use Rattle.tabled_text.proofs.WordBreaks.{spelled, spelled-more}
+use Rattle.tabled_text.proofs.WrapWhole.{written-short}
 use Rattle.tabled_text.proofs.wrap.append_kept_words.Goals as goal
 
 pub split_at-requires : goal.split_at-requires
@@ -38,10 +37,7 @@ returns-in-None g c =
 
 pub returns : goal.returns
 returns g c =
-    let n = c.args.n in
-    let rest = c.lines.rest.now in
-    let same : encode_utf8_all (append_all n 0 (map unit_of_char (chars rest))) ≡ spelled n rest =
-    sym (written-last n rest c.lines.invariant.1 (omega arith)) ∙ spelled-last n rest c.lines.invariant.1 (omega arith) in
-    on_ok_weaker c.append_pieces.result
-    (λ h. c.lines.invariant.0 c.append_pieces.new.out (subst (λ x. g.S.Sink.adds c.lines.out x c.append_pieces.new.out) same h))
-    c.append_pieces.ensures
+    on_ok_weaker c.append_str-2.result
+    (λ h. c.lines.invariant.0 c.append_str-2.new.self (subst (λ x. g.S.Sink.adds c.lines.out x c.append_str-2.new.self)
+    (written-short c.args.n true c.lines.rest.now c.lines.invariant.2 (omega arith)) h))
+    c.append_str-2.ensures

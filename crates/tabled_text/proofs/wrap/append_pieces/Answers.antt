@@ -1,10 +1,11 @@
-use Rattle.std.proofs.Common.{arith, map, chars, encode_utf8, encode_utf8_all, take, drop, subst, sym, ap, ◌∙◌, ◌++◌}
+use Rattle.std.proofs.Common.{arith, false, map, chars, encode_utf8, encode_utf8_all, take, drop, subst, sym, ap, ◌∙◌, ◌++◌}
 use Rattle.std.specs.Str.{IsUtf8}
 use Rattle.std.proofs.lemmas.Result.{on_ok_weaker}
 use Rattle.std.proofs.lemmas.Str.{IsCharBoundary-from_ascii, IsUtf8-drop}
 use Rattle.tabled_text.specs.Units.{unit_of_char}
 use Rattle.tabled_text.specs.Walk.{append_all}
-use Rattle.tabled_text.proofs.Pieces.{is_printable, IsAscii-printable, parts-printable, written-last, written-piece}
+use Rattle.tabled_text.proofs.Pieces.{is_printable, IsAscii-printable, parts-printable, written-piece}
+use Rattle.tabled_text.proofs.WrapWhole.{written-short}
 use Rattle.tabled_text.proofs.wrap.append_pieces.Goals as goal
 
 pub split_at-requires : goal.split_at-requires
@@ -35,5 +36,5 @@ returns g c =
     let rest = c.pieces.rest.now in
     on_ok_weaker c.append_str-2.result
     (λ h. c.pieces.invariant.0 c.append_str-2.new.self (subst (λ x. g.S.Sink.adds c.pieces.out x c.append_str-2.new.self)
-    (written-last c.args.n rest c.pieces.invariant.1 (omega arith)) h))
+    (written-short c.args.n false rest c.pieces.invariant.2 (omega arith)) h))
     c.append_str-2.ensures
