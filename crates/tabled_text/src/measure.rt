@@ -85,6 +85,7 @@ fn is_printable_byte(byte: u8) -> bool
 
 /// Returns the columns and the number of lines of printable ASCII, or `None` if another byte than a
 /// line feed is in the text.
+#[inline(always)]
 fn measures_of_ascii(text: &str) -> Option<(usize, usize)>
     ensures columns { IfSome result (λ measures. measures.0 ≡ text_columns text.now) }
     ensures lines { IfSome result (λ measures. measures.1 ≡ length (lines_of text.now)) }

@@ -157,7 +157,7 @@ fn append_words<S: Sink>(out: &mut S, n: usize, line: &str) -> Result<(), S::Err
 }
 
 /// The widest lines of printable ASCII that are written byte by byte, without calls to copy them.
-const FEW_COLUMNS: usize = 4;
+const FEW_COLUMNS: usize = 3;
 
 /// Writes printable ASCII byte by byte, with a line feed after each n bytes that more bytes follow.
 #[inline(always)]
