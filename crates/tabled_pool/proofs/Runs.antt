@@ -3,6 +3,7 @@ use Rattle.std.proofs.Common.{◌≡◌, ℕ, zero, suc, ◌+◌, ◌-◌, ◌<�
 use Rattle.std.specs.List.{flat_map, range_with_len}
 use Rattle.std.proofs.lemmas.List.Concat.{flat_map-append}
 use Rattle.tabled_line.specs.Fill.{fill}
+use Rattle.tabled_pool.specs.declared.line.Cursor.{Cursor}
 use Rattle.tabled_pool.specs.declared.pieces.Rectangle.{Rectangle}
 use Rattle.tabled_pool.specs.declared.pieces.Kind.{Kind}
 use Rattle.tabled_pool.specs.declared.pieces.Kind.TheVariants.{Leaf, Bar, Rule}
@@ -12,6 +13,7 @@ use Rattle.tabled_pool.specs.Owner.{owner, is_border, is_border_above, is_border
 use Rattle.tabled_pool.specs.Plan.{DrawingPlan, whole}
 use Rattle.tabled_pool.specs.Marks.{nothing_around, within_marks}
 use Rattle.tabled_pool.specs.Around.{around_at}
+use Rattle.tabled_pool.specs.Cursors.{IsAt}
 use Rattle.tabled_pool.specs.Drawn.{armed_char, border_char, border_text, owned_text, part_text, place_text, IsRun}
 use Rattle.tabled_pool.proofs.Owners.{Inside, inside-within, within-inside, within-le, owner-inside, counted, le-or}
 use Rattle.tabled_pool.proofs.Listed.{outside}
@@ -53,6 +55,12 @@ pub along : (t : DrawingPlan) (x y : ℕ) (p : Part) → Owns t x y p → (v : �
     → is_border t.parts v y ≡ is_line_kind p.kind
 along t x y p o v a b = ap is_line (o.more v a b)
 
+-- and before each column behind one of its own
+pub kind_before : (t : DrawingPlan) (x y n : ℕ) (p : Part) → Owns t x y p → x < n → n ≤ p.place.x + p.place.width
+    → is_border_before t.parts n y ≡ is_line_kind p.kind
+kind_before t x y zero p o a b = absurd (omega (arith, a))
+kind_before t x y (suc m) p o a b = along t x y p o m (omega (arith, a)) (omega (arith, b))
+
 -- a line of no owners is outside
 pub nothing : (t : DrawingPlan) (x y : ℕ) → AreTiles t.parts (whole t) → x < t.width → owner t.parts x y ≡ None → (v : ℕ) → is_border t.parts v y ≡ false
 nothing t x y d h o v =
@@ -60,6 +68,15 @@ nothing t x y d h o v =
     (λ a. omega arith)
     (λ a. absurd (let p = owned t d x y h a in cc (p.1, o)))
     (le-or t.height y))))
+
+-- a line ends where no piece is
+pub at_end : (t : DrawingPlan) (y : ℕ) (at : Cursor) → AreTiles t.parts (whole t) → y < t.height → IsAt t y at → at.piece ≡ None → at.x ≡ t.width
+at_end t y at d v i e = ⊎_elim
+    (λ h. omega (arith, h, i.within))
+    (λ h.
+    let o : owner t.parts at.x y ≡ None = sym (rw e at i.piece) in
+    absurd (let p = owned t d at.x y h v in cc (p.1, o)))
+    (le-or t.width at.x)
 
 -- ---- the characters of a run
 
@@ -123,13 +140,6 @@ run_chars t p x y end last left behind up down right a e k v l m =
       a.above v l (omega (arith, e.within)),
       a.below v l (omega (arith, e.within)),
     ) refl
-
--- the last column of a run is before what follows it
-pub run_before : (t : DrawingPlan) (x y count c : ℕ) (p : Part) → IsRun t x y count c p
-    → is_border_before t.parts (x + count) y ≡ is_line_kind p.kind
-run_before t x y count c p r =
-    let last : x + count ≡ suc (x + count - 1) = omega (arith, r.some) in
-    ap (λ v. is_border_before t.parts v y) last ∙ ap is_line (r.owned (x + count - 1) (omega (arith, r.some)) (omega (arith, r.some)))
 
 -- ---- the text of a run
 

@@ -5,6 +5,7 @@ pub mod Block
 pub mod Boxes
 pub mod Characters
 pub mod Colours
+pub mod Cursors
 pub mod Drawn
 pub mod Inherited
 pub mod Left

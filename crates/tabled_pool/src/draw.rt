@@ -13,7 +13,7 @@ use crate::block::draw_block_line;
 use crate::color_marks::marks_at;
 use crate::line::{Line, Run};
 use crate::marks::Marks;
-use crate::pieces::{Kind, Piece, is_line_kind};
+use crate::pieces::{Kind, Piece};
 use tabled_base::TableError;
 use tabled_line::{CellBlock, Content, TextSink, write_char, write_fill};
 
@@ -106,13 +106,11 @@ pub(crate) fn draw_line<S: TextSink>(
     ensures { Writes (S.sent sink.old) result (S.sent sink.new)
         (drawn_line (plan_of line.now.drawing.now) line.now.y) }
 {
-    let mut x = 0;
-    let mut left = false;
-    'runs: while x < line.drawing.width {
-        let run = line.run_at(x, left);
-        draw_run(sink, line, &run, x)?;
-        x += run.count;
-        left = is_line_kind(run.piece.kind);
+    let mut at = line.start();
+    'runs: while let Some(piece) = at.piece {
+        let run = line.run_at(piece, at);
+        draw_run(sink, line, &run, at.x)?;
+        at = run.next;
     }
     Ok(())
 }

@@ -6,7 +6,8 @@ ghost use Rattle.tabled_pool.specs.Plans.{plan_of};
 ghost use Rattle.tabled_pool.specs.Colours.{line_marks_of};
 ghost use Rattle.tabled_pool.specs.Numbers.{AreSized};
 ghost use Rattle.tabled_pool.specs.Uncoloured.{AreNoMarks};
-ghost use Rattle.tabled_pool.specs.Owner.{is_border, is_border_above, is_border_before, owner};
+ghost use Rattle.tabled_pool.specs.Owner.{is_border, is_border_above, is_line, owner};
+ghost use Rattle.tabled_pool.specs.Cursors.{IsAt};
 ghost use Rattle.tabled_pool.specs.Drawn.{IsRun, armed_char, main_of};
 ghost use Rattle.std.specs.Option.{option_map};
 ghost use Rattle.tabled_pool.specs.Plan.{has_bottom, has_top};
@@ -35,11 +36,27 @@ pub(crate) struct Run<'d, 'a> {
     pub c: char,
     /// The number of columns.
     pub count: usize,
+    /// The column after it.
+    pub next: Cursor<'d, 'a>,
+}
+
+/// A column of a line, and what is known there.
+#[derive(Clone, Copy)]
+pub(crate) struct Cursor<'d, 'a> {
+    pub x: usize,
+    /// The piece there, if the line doesn't end.
+    pub piece: Option<&'d Piece<'a>>,
+    /// Whether there is a border before it.
+    left: bool,
+    /// The borders above it and after, or a stretch that ends before it.
+    up: Stretch,
+    /// The borders below it and after, or a stretch that ends before it.
+    down: Stretch,
 }
 
 /// Whether there are borders at a column and those after it, and where that ends.
 #[derive(Clone, Copy)]
-struct Stretch {
+pub(crate) struct Stretch {
     border: bool,
     end: usize,
 }
@@ -91,87 +108,147 @@ fn is_followed(last: usize, end: usize, behind: bool) -> bool
     last < end || behind
 }
 
+fn is_line(piece: Option<&Piece<'_>>) -> bool
+    ensures { result ≡ is_line (option_map (λ p. shown p.now) piece.entry) }
+{
+    match piece {
+        Some(piece) => is_line_kind(piece.kind),
+        None => false,
+    }
+}
+
 impl<'l, 's, 'd, 'a> Line<'l, 's, 'd, 'a> {
-    fn above(&self, x: usize) -> Stretch
-        requires { x < self.now.drawing.now.width }
-        ensures some { x < result.end }
-        ensures same { (v : ℕ) → x ≤ v → v < result.end
+    /// The first column.
+    pub(crate) fn start(&self) -> Cursor<'d, 'a>
+        ensures first { result.x ≡ 0 }
+        ensures at { IsAt (plan_of self.now.drawing.now) self.now.y result }
+    {
+        let unknown = Stretch {
+            border: false,
+            end: 0,
+        };
+        Cursor {
+            x: 0,
+            piece: piece_at(self.drawing, self.sweep.here.as_slice(), 0, self.y),
+            left: false,
+            up: unknown,
+            down: unknown,
+        }
+    }
+
+    fn above(&self, at: Cursor<'d, 'a>) -> Stretch
+        requires inside { at.x < self.now.drawing.now.width }
+        requires at { IsAt (plan_of self.now.drawing.now) self.now.y at }
+        ensures some { at.entry.x < result.end }
+        ensures same { (v : ℕ) → at.entry.x ≤ v → v < result.end
             → is_border_above (plan_of self.now.drawing.now).parts v self.now.y ≡ result.border }
     {
+        if at.x < at.up.end {
+            return at.up;
+        }
         if self.y == 0 {
             return Stretch {
                 border: false,
                 end: self.drawing.width,
             };
         }
-        stretch_at(self.drawing, self.sweep.above.as_slice(), x, self.y - 1)
+        stretch_at(self.drawing, self.sweep.above.as_slice(), at.x, self.y - 1)
     }
 
-    /// Whether there is a border at column `end`; up to column `own` there is one.
-    fn is_border_behind(&self, own: usize, end: usize) -> bool
-        requires { end < own → is_border (plan_of self.now.drawing.now).parts end self.now.y
-            ≡ true }
-        ensures { result ≡ is_border (plan_of self.now.drawing.now).parts end self.now.y }
+    fn below(&self, at: Cursor<'d, 'a>) -> Stretch
+        requires inside { at.x < self.now.drawing.now.width }
+        requires at { IsAt (plan_of self.now.drawing.now) self.now.y at }
+        ensures some { at.entry.x < result.end }
+        ensures same { (v : ℕ) → at.entry.x ≤ v → v < result.end
+            → is_border (plan_of self.now.drawing.now).parts v (self.now.y + 1) ≡ result.border }
+    {
+        if at.x < at.down.end {
+            return at.down;
+        }
+        stretch_at(self.drawing, self.sweep.below.as_slice(), at.x, self.y + 1)
+    }
+
+    /// The piece at column `end`; up to column `own` it is `piece`.
+    fn piece_behind(&self, piece: &'d Piece<'a>, own: usize, end: usize) -> Option<&'d Piece<'a>>
+        requires { end < own → owner (plan_of self.now.drawing.now).parts end self.now.y
+            ≡ Some (shown piece.now) }
+        ensures { option_map (λ p. shown p.now) result
+            ≡ owner (plan_of self.now.drawing.now).parts end self.now.y }
     {
         if end < own {
-            return true;
+            return Some(piece);
         }
-        match piece_at(self.drawing, self.sweep.here.as_slice(), end, self.y) {
-            Some(piece) => is_line_kind(piece.kind),
-            None => false,
-        }
+        piece_at(self.drawing, self.sweep.here.as_slice(), end, self.y)
     }
 
-    /// The run of a border from column `x` on: as long as the same pieces are above and below, and
-    /// borders are on both sides. There is one before it if `left`.
-    fn border_run(&self, piece: &'d Piece<'a>, x: usize, left: bool) -> Run<'d, 'a>
-        requires left { left ≡ is_border_before (plan_of self.now.drawing.now).parts x self.now.y }
+    /// The run of a border: as long as the same pieces are above and below, and borders are on
+    /// both sides.
+    fn border_run(&self, piece: &'d Piece<'a>, at: Cursor<'d, 'a>) -> Run<'d, 'a>
+        requires at { IsAt (plan_of self.now.drawing.now) self.now.y at }
         requires kind { is_line_kind piece.now.kind ≡ true }
-        requires here { owner (plan_of self.now.drawing.now).parts x self.now.y
+        requires here { owner (plan_of self.now.drawing.now).parts at.x self.now.y
             ≡ Some (shown piece.now) }
-        ensures { IsRun (plan_of self.now.drawing.now) x self.now.y result.count result.c
-            (shown result.piece.now) }
+        ensures run { IsRun (plan_of self.now.drawing.now) at.entry.x self.now.y result.count
+            result.c (shown result.piece.now) }
+        ensures next { IsAt (plan_of self.now.drawing.now) self.now.y result.next }
+        ensures behind { result.next.x ≡ at.entry.x + result.count }
     {
-        let below = self.sweep.below.as_slice();
-        let up = self.above(x);
-        let down = stretch_at(self.drawing, below, x, self.y + 1);
+        let x = at.x;
+        let left = at.left;
+        let up = self.above(at);
+        let down = self.below(at);
         let own = piece.place.x + piece.place.width;
         let end = own.min(up.end).min(down.end);
-        let behind = self.is_border_behind(own, end);
-        let last = run_end(x, end, left, behind);
-        let right = is_followed(last, end, behind);
+        let behind = self.piece_behind(piece, own, end);
+        let border = is_line(behind);
+        let last = run_end(x, end, left, border);
+        let right = is_followed(last, end, border);
         let arms = Arms {
             left,
             right,
             up: up.border,
             down: down.border,
         };
-        let c = border_char(self.drawing, piece, arms);
+        let next = if last < end { Some(piece) } else { behind };
         Run {
             piece,
-            c,
+            c: border_char(self.drawing, piece, arms),
             count: last - x,
+            next: Cursor {
+                x: last,
+                piece: next,
+                left: true,
+                up,
+                down,
+            },
         }
     }
 
-    /// The run from column `x` on. There is a border before it if `left`.
-    pub(crate) fn run_at(&self, x: usize, left: bool) -> Run<'d, 'a>
-        requires inside { x < self.now.drawing.now.width }
-        requires left { left ≡ is_border_before (plan_of self.now.drawing.now).parts x self.now.y }
-        ensures { IsRun (plan_of self.now.drawing.now) x self.now.y result.count result.c
-            (shown result.piece.now) }
+    /// The run at a cursor, where `piece` is.
+    pub(crate) fn run_at(&self, piece: &'d Piece<'a>, at: Cursor<'d, 'a>) -> Run<'d, 'a>
+        requires at { IsAt (plan_of self.now.drawing.now) self.now.y at }
+        requires here { owner (plan_of self.now.drawing.now).parts at.x self.now.y
+            ≡ Some (shown piece.now) }
+        ensures run { IsRun (plan_of self.now.drawing.now) at.entry.x self.now.y result.count
+            result.c (shown result.piece.now) }
+        ensures next { IsAt (plan_of self.now.drawing.now) self.now.y result.next }
+        ensures behind { result.next.x ≡ at.entry.x + result.count }
     {
-        let Some(piece) = piece_at(self.drawing, self.sweep.here.as_slice(), x, self.y) else {
-            unreachable!()
-        };
         if is_line_kind(piece.kind) {
-            return self.border_run(piece, x, left);
+            return self.border_run(piece, at);
         }
         let end = piece.place.x + piece.place.width;
+        let next = Cursor {
+            x: end,
+            piece: piece_at(self.drawing, self.sweep.here.as_slice(), end, self.y),
+            left: false,
+            ..at
+        };
         Run {
             piece,
             c: ' ',
-            count: end - x,
+            count: end - at.x,
+            next,
         }
     }
 }

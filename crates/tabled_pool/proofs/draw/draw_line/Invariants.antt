@@ -1,18 +1,17 @@
-use Rattle.std.proofs.Common.{◌≡◌, ◌-◌, ◌≤◌}
+use Rattle.std.proofs.Common.{◌-◌}
 use Rattle.std.specs.List.{flat_map, range_with_len}
 use Rattle.tabled_line.specs.Sent.{Sends}
+use Rattle.tabled_pool.specs.Cursors.{IsAt}
 use Rattle.tabled_pool.specs.Plans.{plan_of}
 use Rattle.tabled_pool.specs.Drawn.{place_text}
-use Rattle.tabled_pool.specs.Owner.{is_border_before}
 use Rattle.tabled_pool.proofs.draw.draw_line.Given as goal
 
 abbrev pub invariant-runs : goal.invariant-runs
 invariant-runs g l = record {
   sent : Sends (g.S.TextSink.sent l.initial.sink) (g.S.TextSink.sent l.sink)
-      (flat_map (place_text (plan_of l.line.drawing.now) l.line.y) (range_with_len 0 l.x));
-  within : l.x ≤ l.line.drawing.now.width;
-  left : l.left ≡ is_border_before (plan_of l.line.drawing.now).parts l.x l.line.y;
+      (flat_map (place_text (plan_of l.line.drawing.now) l.line.y) (range_with_len 0 l.at.x));
+  at : IsAt (plan_of l.line.drawing.now) l.line.y l.at;
 }
 
 abbrev pub decreases-runs : goal.decreases-runs
-decreases-runs g l = l.line.drawing.now.width - l.x
+decreases-runs g l = l.line.drawing.now.width - l.at.x

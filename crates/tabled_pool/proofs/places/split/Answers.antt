@@ -2,61 +2,43 @@ use Rattle.std.proofs.Common.{◌≡◌, ◌≤◌, rules, sym, subst, arith, �
 use Rattle.tabled_pool.specs.Boxes.{box_of, first_part, place_along, rest_part}
 use Rattle.tabled_pool.specs.Left.{given_in}
 use Rattle.tabled_pool.specs.Shown.{Fits}
-use Rattle.tabled_pool.proofs.Directions.{cut_facts}
+use Rattle.tabled_pool.proofs.Directions.{Cut, cut_facts}
+use Rattle.tabled_pool.proofs.places.split.Goals.{Start, After-rest_part-behind}
 use Rattle.tabled_pool.proofs.places.split.Goals as goal
+
+cut : (c : Start) → Cut c.args.direction c.args.spacing.now (box_of c.args.spacing.now c.args.child.now)
+    (given_in c.args.direction c.args.spacing.now c.args.child.now c.args.left c.args.place) c.args.place
+cut c =
+    let q = c.requires in
+    cut_facts c.args.direction c.args.spacing.now (box_of c.args.spacing.now c.args.child.now) c.args.left.size c.args.left.count c.args.place
+    q.some q.own q.across q.along q.right q.low
+
+behind : (c : After-rest_part-behind) → c.rest_part-behind.result
+    ≡ rest_part c.args.direction (given_in c.args.direction c.args.spacing.now c.args.child.now c.args.left c.args.place) c.args.place
+behind c = search rules
 
 pub unreachable-requires : goal.unreachable-requires
 unreachable-requires c =
-    let d = c.args.direction in
     let q = c.requires in
-    let k = cut_facts d c.args.spacing.now (box_of c.args.spacing.now c.args.child.now) c.args.left.size c.args.left.count c.args.place
-    q.some q.own q.across q.along q.right q.low in
+    let k = cut (goal.at.unreachable-requires c).Start in
     ⊎_elim (λ h. omega (arith, h, k.wide, q.right)) (λ h. omega (arith, h, k.tall, q.low)) c.in_default.ensures
 
 pub rest_part-requires-clause-within : goal.rest_part-requires-clause-within
 rest_part-requires-clause-within c =
-    let d = c.args.direction in
-    let g = c.args.spacing.now in
-    let b = box_of g c.args.child.now in
-    let r = c.args.place in
-    let q = c.requires in
-    let k = cut_facts d g b c.args.left.size c.args.left.count r q.some q.own q.across q.along q.right q.low in
-    let n = given_in d g c.args.child.now c.args.left r in
-    let e : c.rest_part-behind.result ≡ rest_part d n r = search rules in
-    subst (λ z. c.pick-border.result ≤ place_along d z) (sym e) (rw c.pick-border.ensures k.border)
+    let d = goal.at.rest_part-requires-clause-within c in
+    subst (λ z. c.pick-border.result ≤ place_along c.args.direction z) (sym (behind d.After-rest_part-behind))
+    (rw c.pick-border.ensures (cut d.Start).border)
 
 pub rest_part-requires-clause-right : goal.rest_part-requires-clause-right
 rest_part-requires-clause-right c =
-    let d = c.args.direction in
-    let g = c.args.spacing.now in
-    let b = box_of g c.args.child.now in
-    let r = c.args.place in
-    let q = c.requires in
-    let k = cut_facts d g b c.args.left.size c.args.left.count r q.some q.own q.across q.along q.right q.low in
-    let n = given_in d g c.args.child.now c.args.left r in
-    let e : c.rest_part-behind.result ≡ rest_part d n r = search rules in
-    rw e k.right
+    let d = goal.at.rest_part-requires-clause-right c in rw (behind d.After-rest_part-behind) (cut d.Start).right
 
 pub rest_part-requires-clause-low : goal.rest_part-requires-clause-low
 rest_part-requires-clause-low c =
-    let d = c.args.direction in
-    let g = c.args.spacing.now in
-    let b = box_of g c.args.child.now in
-    let r = c.args.place in
-    let q = c.requires in
-    let k = cut_facts d g b c.args.left.size c.args.left.count r q.some q.own q.across q.along q.right q.low in
-    let n = given_in d g c.args.child.now c.args.left r in
-    let e : c.rest_part-behind.result ≡ rest_part d n r = search rules in
-    rw e k.low
+    let d = goal.at.rest_part-requires-clause-low c in rw (behind d.After-rest_part-behind) (cut d.Start).low
 
 pub returns-clause-fits : goal.returns-clause-fits
 returns-clause-fits c =
-    let d = c.args.direction in
-    let g = c.args.spacing.now in
-    let b = box_of g c.args.child.now in
-    let r = c.args.place in
-    let q = c.requires in
-    let k = cut_facts d g b c.args.left.size c.args.left.count r q.some q.own q.across q.along q.right q.low in
-    let n = given_in d g c.args.child.now c.args.left r in
-    let e : c.first_part.result ≡ first_part d n r = search rules in
-    subst (Fits b) (sym e) k.fits
+    let n = given_in c.args.direction c.args.spacing.now c.args.child.now c.args.left c.args.place in
+    let e : c.first_part.result ≡ first_part c.args.direction n c.args.place = search rules in
+    subst (Fits (box_of c.args.spacing.now c.args.child.now)) (sym e) (cut (goal.at.returns-clause-fits c).Start).fits

@@ -1,34 +1,41 @@
-use Rattle.std.proofs.Common.{sym, arith}
+use Rattle.std.proofs.Common.{◌+◌, arith, sym}
 use Rattle.tabled_pool.specs.Plans.{plan_of}
 use Rattle.tabled_pool.specs.Shown.{shown}
-use Rattle.tabled_pool.proofs.Runs.{owns}
-use Rattle.tabled_pool.proofs.UpcomingCells.{owned}
+use Rattle.tabled_pool.proofs.Runs.{Owns, kind_before, owns}
+use Rattle.tabled_pool.proofs.line.Line.run_at.Goals.{Start}
 use Rattle.tabled_pool.proofs.line.Line.run_at.Goals as goal
 
-pub unreachable-requires : goal.unreachable-requires
-unreachable-requires c =
-    let l = c.args.self.now in
-    let q = owned (plan_of l.drawing.now) l.drawing.now.tiles c.args.x l.y c.requires.inside l.inside in cc (q.1, c.in_default.ensures)
+own : (c : Start) → Owns (plan_of c.args.self.now.drawing.now) c.args.at.x c.args.self.now.y (shown c.args.piece.now)
+own c =
+    let l = c.args.self.now in owns (plan_of l.drawing.now) c.args.at.x l.y (shown c.args.piece.now) l.drawing.now.tiles c.requires.here
 
 pub overflow_add-end : goal.overflow_add-end
-overflow_add-end c =
-    let l = c.args.self.now in
-    let o = owns (plan_of l.drawing.now) c.args.x l.y (shown c.in-Some.piece.now) l.drawing.now.tiles (sym c.in-Some.ensures) in
-    omega (arith, o.to, o.fits)
+overflow_add-end c = let o = own (goal.at.overflow_add-end c).Start in omega (arith, o.to, o.fits)
 
 pub overflow_sub-result : goal.overflow_sub-result
-overflow_sub-result c =
-    let l = c.args.self.now in
-    let o = owns (plan_of l.drawing.now) c.args.x l.y (shown c.in-Some.piece.now) l.drawing.now.tiles (sym c.in-Some.ensures) in
-    omega (arith, o.to)
+overflow_sub-result c = let o = own (goal.at.overflow_sub-result c).Start in omega (arith, o.to)
 
-pub returns : goal.returns
-returns c =
-    let l = c.args.self.now in
-    let o = owns (plan_of l.drawing.now) c.args.x l.y (shown c.in-Some.piece.now) l.drawing.now.tiles (sym c.in-Some.ensures) in
+pub returns-clause-run : goal.returns-clause-run
+returns-clause-run c =
+    let o = own (goal.at.returns-clause-run c).Start in
     record {
       some = omega (arith, o.to);
       within = omega (arith, o.to, o.fits);
       owned = λ v a b. o.more v a (omega (arith, o.to));
       alike = λ k v a b. cc (k, sym c.is_line_kind.ensures, c.if-is_line_kind.false);
     }
+
+pub returns-clause-next : goal.returns-clause-next
+returns-clause-next c =
+    let o = own (goal.at.returns-clause-next c).Start in
+    let before = kind_before _ _ _ (c.args.piece.now.place.x + c.args.piece.now.place.width) _ o o.to (omega arith) in
+    record {
+      within = omega (arith, o.fits);
+      piece = c.piece_at.ensures;
+      left = cc (before, c.is_line_kind.ensures, c.if-is_line_kind.false);
+      up = λ v a b. c.requires.at.up v (omega (arith, a, o.to)) b;
+      down = λ v a b. c.requires.at.down v (omega (arith, a, o.to)) b;
+    }
+
+pub returns-clause-behind : goal.returns-clause-behind
+returns-clause-behind c = let o = own (goal.at.returns-clause-behind c).Start in omega (arith, o.to)
