@@ -7,8 +7,8 @@ ghost use Rattle.tabled_pool.specs.Colours.{line_marks_of};
 ghost use Rattle.tabled_pool.specs.Numbers.{AreSized};
 ghost use Rattle.tabled_pool.specs.Uncoloured.{AreNoMarks};
 ghost use Rattle.tabled_pool.specs.Owner.{is_border, is_border_above, is_line, owner};
-ghost use Rattle.tabled_pool.specs.Cursors.{IsAt};
-ghost use Rattle.tabled_pool.specs.Drawn.{IsRun, armed_char, main_of};
+ghost use Rattle.tabled_pool.specs.Cursors.{IsAt, RunsFrom};
+ghost use Rattle.tabled_pool.specs.Drawn.{armed_char, main_of};
 ghost use Rattle.std.specs.Option.{option_map};
 ghost use Rattle.tabled_pool.specs.Plan.{has_bottom, has_top};
 
@@ -188,23 +188,18 @@ impl<'l, 's, 'd, 'a> Line<'l, 's, 'd, 'a> {
         requires kind { is_line_kind piece.now.kind ≡ true }
         requires here { owner (plan_of self.now.drawing.now).parts at.x self.now.y
             ≡ Some (shown piece.now) }
-        ensures run { IsRun (plan_of self.now.drawing.now) at.entry.x self.now.y result.count
-            result.c (shown result.piece.now) }
-        ensures next { IsAt (plan_of self.now.drawing.now) self.now.y result.next }
-        ensures behind { result.next.x ≡ at.entry.x + result.count }
+        ensures { RunsFrom (plan_of self.now.drawing.now) self.now.y at.entry result }
     {
-        let x = at.x;
-        let left = at.left;
         let up = self.above(at);
         let down = self.below(at);
         let own = piece.place.x + piece.place.width;
         let end = own.min(up.end).min(down.end);
         let behind = self.piece_behind(piece, own, end);
         let border = is_line(behind);
-        let last = run_end(x, end, left, border);
+        let last = run_end(at.x, end, at.left, border);
         let right = is_followed(last, end, border);
         let arms = Arms {
-            left,
+            left: at.left,
             right,
             up: up.border,
             down: down.border,
@@ -213,7 +208,7 @@ impl<'l, 's, 'd, 'a> Line<'l, 's, 'd, 'a> {
         Run {
             piece,
             c: border_char(self.drawing, piece, arms),
-            count: last - x,
+            count: last - at.x,
             next: Cursor {
                 x: last,
                 piece: next,
@@ -229,10 +224,7 @@ impl<'l, 's, 'd, 'a> Line<'l, 's, 'd, 'a> {
         requires at { IsAt (plan_of self.now.drawing.now) self.now.y at }
         requires here { owner (plan_of self.now.drawing.now).parts at.x self.now.y
             ≡ Some (shown piece.now) }
-        ensures run { IsRun (plan_of self.now.drawing.now) at.entry.x self.now.y result.count
-            result.c (shown result.piece.now) }
-        ensures next { IsAt (plan_of self.now.drawing.now) self.now.y result.next }
-        ensures behind { result.next.x ≡ at.entry.x + result.count }
+        ensures { RunsFrom (plan_of self.now.drawing.now) self.now.y at.entry result }
     {
         if is_line_kind(piece.kind) {
             return self.border_run(piece, at);

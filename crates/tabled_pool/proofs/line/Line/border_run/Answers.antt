@@ -29,12 +29,12 @@ pub run_end-last-requires : goal.run_end-last-requires
 run_end-last-requires c =
     let o = own (goal.at.run_end-last-requires c).Start in omega (arith, o.to, c.above-up.ensures.some, c.below-down.ensures.some)
 
-pub returns-clause-run : goal.returns-clause-run
-returns-clause-run c =
+pub returns : goal.returns
+returns c =
     let l = c.args.self.now in
     let t = plan_of l.drawing.now in
     let p = shown c.args.piece.now in
-    let o = own (goal.at.returns-clause-run c).Start in
+    let o = own (goal.at.returns c).Start in
     let ends = c.run_end-last.ensures in
     let arms : Arms t p c.args.at.x l.y c.min-end.result c.args.at.left c.is_line-border.result
     c.above-up.result.border c.below-down.result.border = record {
@@ -54,20 +54,6 @@ returns-clause-run c =
       more = c.is_followed-right.ensures.more;
       all = c.is_followed-right.ensures.all;
     } in
-    record {
-      some = omega (arith, ends.some);
-      within = omega (arith, ends.some, ends.within, o.fits);
-      owned = λ v a b. o.more v a (omega (arith, ends.some, ends.within));
-      alike = λ k v a b. run_chars t p c.args.at.x l.y _ _ _ _ _ _ _ arms stop k v a (omega (arith, ends.some)) ∙ sym c.border_char.ensures;
-    }
-
-pub returns-clause-next : goal.returns-clause-next
-returns-clause-next c =
-    let l = c.args.self.now in
-    let t = plan_of l.drawing.now in
-    let p = shown c.args.piece.now in
-    let o = own (goal.at.returns-clause-next c).Start in
-    let ends = c.run_end-last.ensures in
     let next : option_map (λ q. shown q.now) c.if-last-end.next ≡ owner t.parts c.run_end-last.result l.y = elim c.if-last-end.branch [
       | then-last-end w ↦ rw w.next-is
           (sym (o.more c.run_end-last.result (omega (arith, ends.some)) (omega (arith, w.if-last-end.true))))
@@ -76,9 +62,18 @@ returns-clause-next c =
           (omega (arith, w.if-last-end.false, ends.within)) c.piece_behind-behind.ensures)
     ] in
     record {
-      within = omega (arith, ends.some, ends.within, o.fits);
-      piece = next;
-      left = sym (kind_before t c.args.at.x l.y c.run_end-last.result p o ends.some (omega (arith, ends.within)) ∙ c.requires.kind);
-      up = λ v a b. c.above-up.ensures.same v (omega (arith, a, ends.some)) b;
-      down = λ v a b. c.below-down.ensures.same v (omega (arith, a, ends.some)) b;
+      run = record {
+        some = omega (arith, ends.some);
+        within = omega (arith, ends.some, ends.within, o.fits);
+        owned = λ v a b. o.more v a (omega (arith, ends.some, ends.within));
+        alike = λ k v a b. run_chars t p c.args.at.x l.y _ _ _ _ _ _ _ arms stop k v a (omega (arith, ends.some)) ∙ sym c.border_char.ensures;
+      };
+      next = record {
+        within = omega (arith, ends.some, ends.within, o.fits);
+        piece = next;
+        left = sym (kind_before t c.args.at.x l.y c.run_end-last.result p o ends.some (omega (arith, ends.within)) ∙ c.requires.kind);
+        up = λ v a b. c.above-up.ensures.same v (omega (arith, a, ends.some)) b;
+        down = λ v a b. c.below-down.ensures.same v (omega (arith, a, ends.some)) b;
+      };
+      behind = omega (arith, ends.some);
     }

@@ -15,27 +15,23 @@ overflow_add-end c = let o = own (goal.at.overflow_add-end c).Start in omega (ar
 pub overflow_sub-result : goal.overflow_sub-result
 overflow_sub-result c = let o = own (goal.at.overflow_sub-result c).Start in omega (arith, o.to)
 
-pub returns-clause-run : goal.returns-clause-run
-returns-clause-run c =
-    let o = own (goal.at.returns-clause-run c).Start in
-    record {
-      some = omega (arith, o.to);
-      within = omega (arith, o.to, o.fits);
-      owned = λ v a b. o.more v a (omega (arith, o.to));
-      alike = λ k v a b. cc (k, sym c.is_line_kind.ensures, c.if-is_line_kind.false);
-    }
-
-pub returns-clause-next : goal.returns-clause-next
-returns-clause-next c =
-    let o = own (goal.at.returns-clause-next c).Start in
+pub returns : goal.returns
+returns c =
+    let o = own (goal.at.returns c).Start in
     let before = kind_before _ _ _ (c.args.piece.now.place.x + c.args.piece.now.place.width) _ o o.to (omega arith) in
     record {
-      within = omega (arith, o.fits);
-      piece = c.piece_at.ensures;
-      left = cc (before, c.is_line_kind.ensures, c.if-is_line_kind.false);
-      up = λ v a b. c.requires.at.up v (omega (arith, a, o.to)) b;
-      down = λ v a b. c.requires.at.down v (omega (arith, a, o.to)) b;
+      run = record {
+        some = omega (arith, o.to);
+        within = omega (arith, o.to, o.fits);
+        owned = λ v a b. o.more v a (omega (arith, o.to));
+        alike = λ k v a b. cc (k, sym c.is_line_kind.ensures, c.if-is_line_kind.false);
+      };
+      next = record {
+        within = omega (arith, o.fits);
+        piece = c.piece_at.ensures;
+        left = cc (before, c.is_line_kind.ensures, c.if-is_line_kind.false);
+        up = λ v a b. c.requires.at.up v (omega (arith, a, o.to)) b;
+        down = λ v a b. c.requires.at.down v (omega (arith, a, o.to)) b;
+      };
+      behind = omega (arith, o.to);
     }
-
-pub returns-clause-behind : goal.returns-clause-behind
-returns-clause-behind c = let o = own (goal.at.returns-clause-behind c).Start in omega (arith, o.to)
