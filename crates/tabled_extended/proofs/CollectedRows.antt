@@ -16,10 +16,6 @@ pub record Collected {W T A : Type 0} (becomes : W → T → Type 0) (steps : T 
   pub each : AllZip (Given becomes steps) lists cells
   pub texts : rows ≡ map (map text) cells
 
-pub collected-none : {W T A : Type 0} (becomes : W → T → Type 0) (steps : T → Option A → T → Type 0) (text : A → List ℕ)
-    (rows : List (Vec (List ℕ) Global)) → rows ≡ [] → Collected becomes steps text [] (row_texts rows)
-collected-none becomes steps text rows e = record { cells = []; each = tt; texts = ap row_texts e }
-
 pub collected-more : {W T A : Type 0} {becomes : W → T → Type 0} {steps : T → Option A → T → Type 0} {text : A → List ℕ}
     {lists : List W} {list : W} {items : List A} (rows new : List (Vec (List ℕ) Global)) (row : Vec (List ℕ) Global)
     → Collected becomes steps text lists (row_texts rows) → new ≡ rows ++ row ∷ [] → Given becomes steps list items

@@ -15,9 +15,6 @@ pub record AreEscaped {V : Type 0} (shows : V → List (List ℕ) → Type 0) (v
   pub each : AllZip shows values rows
   pub whole : all ≡ map (map escaped) rows
 
-pub escaped-none : {V : Type 0} (shows : V → List (List ℕ) → Type 0) (rows : List (Vec (List ℕ) Global)) → rows ≡ [] → AreEscaped shows [] (row_texts rows)
-escaped-none shows rows e = record { rows = []; each = tt; whole = ap row_texts e }
-
 pub escaped-more : {V : Type 0} (shows : V → List (List ℕ) → Type 0) (values : List V) (rows new : List (Vec (List ℕ) Global))
     (row : Vec (List ℕ) Global) (value : V) (texts : List (List ℕ)) → AreEscaped shows values (row_texts rows) → new ≡ rows ++ row ∷ []
     → shows value texts → row.items ≡ map escaped texts → AreEscaped shows (values ++ value ∷ []) (row_texts new)

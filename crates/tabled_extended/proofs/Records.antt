@@ -125,8 +125,3 @@ records-stopped {answers} refuses {fields} {records} {n} {a} {b} {c} {q} r (Err 
           (subst (λ (x : TableError). PrintsRecord {T = Unit {0}} (answers n) (refuses n)
           (λ label. record_lines (widest fields) (widest_value records) fields label (get_or records n [])) b q (Err x) c r) (sym i) k₂),
     )
-
--- a table without records prints nothing
-pub nothing-printed : (answers : ℕ → List ℕ → Type 0) (refuses : ℕ → Type 0) (fields : List (List ℕ)) (records : List (List (List ℕ))) (a : Sent)
-    → length records ≡ 0 → PrintsRecords {T = Unit {0}} answers refuses fields records a (Ok tt) a
-nothing-printed answers refuses fields records a e = (λ w. absurd (omega (arith, w.some)), so_far-all (so_far-none answers fields records a false) (sym e))
