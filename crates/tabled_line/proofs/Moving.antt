@@ -2,7 +2,7 @@
 use Rattle.std.proofs.Common.{◌≡◌, ℕ, zero, suc, ◌+◌, List, [], ◌∷◌, length, Some, None, drop, slice_get, slice_set, ◌<◌, refl, ap, ◌∙◌, arith, inl, inr, get_or-set_same, get_or-set_other}
 use Rattle.std.proofs.lemmas.Bool.{cases_eq}
 use Rattle.tabled_line.specs.Cursors.{cursor_of, nowhere}
-use Rattle.tabled_line.specs.declared.content.Cursor.{Cursor}
+use Rattle.tabled_line.specs.declared.cursor.Cursor.{Cursor}
 
 pub line-at : (ls : List (List ℕ)) (i : ℕ) (l : List ℕ) (rest : List (List ℕ)) → l ∷ rest ≡ drop i ls → Some l ≡ slice_get ls i
 line-at [] zero l rest h = cc

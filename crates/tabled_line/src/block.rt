@@ -4,10 +4,11 @@ ghost use Rattle.std.specs.List.{slice_index_or};
 ghost use Rattle.tabled_text.specs.Measure.{line_columns};
 ghost use Rattle.tabled_line.specs.Block.{above_text, before_text, block, cell_line};
 ghost use Rattle.tabled_line.specs.Block.{columns_before, free_lines, inner_width};
-ghost use Rattle.tabled_line.specs.Cursors.{IsCursor};
+ghost use Rattle.tabled_line.specs.Cursors.{IsPlace};
 ghost use Rattle.tabled_line.specs.Sent.{Sent, Writes};
 
-use crate::content::{Content, Cursor};
+use crate::content::Content;
+use crate::cursor::LinePlace;
 use crate::fill::{write_fill, write_padded_text};
 use crate::placement::PlacedText;
 use crate::text_sink::TextSink;
@@ -118,22 +119,22 @@ impl<'a> CellBlock<'a> {
     pub(crate) fn write_line<S: TextSink>(
         &self,
         sink: &mut S,
-        cursor: &mut Cursor<'a>,
+        place: &mut LinePlace<'a>,
         index: usize,
     ) -> Result<(), TableError>
         requires index { index < self.now.height }
-        requires stands { IsCursor self.now.content.text.now cursor.old }
+        requires stands { IsPlace self.now.content.text.now place.old }
         ensures printed { Writes (S.sent sink.old) result (S.sent sink.new)
             (slice_index_or (block self.now.style self.now.width self.now.height
             self.now.content.text.now) index []) }
-        ensures stands { IsCursor self.now.content.text.now cursor.new }
+        ensures stands { IsPlace self.now.content.text.now place.new }
     {
         // In range, since alignment adds at most the height less the padding.
         let above = self.style.padding.top.size + self.lines_above();
         if index < above {
             return write_fill(sink, self.style.padding.top.fill, self.width);
         }
-        match self.content.line(index - above, cursor) {
+        match self.content.line(index - above, place) {
             Some((line, columns)) => self.write_text_line(sink, line, columns),
             None => write_fill(sink, self.style.padding.bottom.fill, self.width),
         }
@@ -186,19 +187,23 @@ impl<'a> CellBlock<'a> {
     /// Places the line of the block at `index`. `None` if it has a fill other than spaces, or the
     /// text doesn't fit.
     #[inline(always)]
-    pub(crate) fn place_line(&self, cursor: &mut Cursor<'a>, index: usize) -> Option<PlacedText<'a>>
+    pub(crate) fn place_line(
+        &self,
+        place: &mut LinePlace<'a>,
+        index: usize,
+    ) -> Option<PlacedText<'a>>
         requires index { index < self.now.height }
-        requires stands { IsCursor self.now.content.text.now cursor.old }
+        requires stands { IsPlace self.now.content.text.now place.old }
         ensures placed { IfSome result (IsSpacedLine (slice_index_or (block self.now.style
             self.now.width self.now.height self.now.content.text.now) index []) self.now.width) }
-        ensures stands { IsCursor self.now.content.text.now cursor.new }
+        ensures stands { IsPlace self.now.content.text.now place.new }
     {
         // In range, since alignment adds at most the height less the padding.
         let above = self.style.padding.top.size + self.lines_above();
         if index < above {
             return self.place_nothing(self.style.padding.top.fill);
         }
-        match self.content.line(index - above, cursor) {
+        match self.content.line(index - above, place) {
             Some((line, columns)) => self.place_text_line(line, columns),
             None => self.place_nothing(self.style.padding.bottom.fill),
         }

@@ -16,7 +16,8 @@
 //! - `new_config`: the settings of a new table that is printed while its rows are read.
 //!
 //! The text of a cell:
-//! - `content`: a text with its measures, and cursors: where the next line of each text begins.
+//! - `content`: a text with its measures.
+//! - `cursor`: where the next line of each text begins.
 //! - `block`: the lines of a cell.
 //!
 //! Rows:
@@ -34,6 +35,7 @@
 mod block;
 mod buffer;
 mod content;
+mod cursor;
 mod fill;
 mod io_sink;
 pub mod laws;
@@ -47,7 +49,8 @@ mod rules;
 mod text_sink;
 
 pub use block::{CellBlock, before_text};
-pub use content::{Content, Cursor, FEW_CURSORS, MANY_CURSORS};
+pub use content::Content;
+pub use cursor::{Cursor, FEW_CURSORS, MANY_CURSORS};
 pub use fill::{write_char, write_fill, write_indent, write_padded_text};
 pub use io_sink::{IoSink, WriterSink};
 pub use line_printer::{LinePrinter, write_break};

@@ -10,9 +10,9 @@ ghost use Rattle.tabled_line.specs.Row.{RowSheet, row_line, row_lines, rule_if, 
 ghost use Rattle.tabled_line.specs.Sent.{Sent, Writes};
 
 use crate::buffer::LineBuffer;
-use crate::content::{Cursor, forget_cursors};
+use crate::cursor::{Cursor, forget_cursors};
 use crate::fill::write_fill;
-use crate::row::{Row, write_row_line};
+use crate::row::{Row, RowLine, write_row_line};
 use crate::row_template::RowTemplate;
 use crate::rules::{TableColumns, write_rule_line};
 use crate::text_sink::TextSink;
@@ -66,6 +66,25 @@ fn write_uncached_rule<C: TableColumns, S: TextSink>(
 {
     write_break(sink, begun)?;
     write_rule_line(sink, columns, &line)
+}
+
+/// Writes a line of a row piece by piece, without the template.
+#[inline(never)]
+fn write_unfilled_line<'a, R: Row<'a>, S: TextSink>(
+    sink: &mut S,
+    begun: &mut bool,
+    row: &R,
+    cursors: &mut [Cursor<'a>],
+    index: usize,
+) -> Result<(), TableError>
+    requires index_in { index < (R.sheet row.now).height }
+    requires cursors { AreCursors (R.sheet row.now).text cursors.old }
+    ensures printed { WritesLines (S.sent sink.old) begun.old result (S.sent sink.new) begun.new
+        (row_line (R.sheet row.now) index ∷ []) }
+    ensures cursors { AreCursors (R.sheet row.now).text cursors.new }
+{
+    write_break(sink, begun)?;
+    write_row_line(sink, row, cursors, index)
 }
 
 /// The last horizontal line, and its text with a line feed before it, if the buffer could hold
@@ -230,9 +249,64 @@ impl<C: TableColumns> LinePrinter<C> {
         write_uncached_rule(sink, &mut self.begun, &self.columns, line)
     }
 
+    /// Writes a line of a row over these columns. Inlined, since the height is mostly known to be 1.
+    #[inline(always)]
+    fn write_row_line<'a, R: Row<'a>, S: TextSink>(
+        &mut self,
+        sink: &mut S,
+        row: &R,
+        cursors: &mut [Cursor<'a>],
+        line: RowLine,
+    ) -> Result<(), TableError>
+        requires kept { IsCacheOf (C.sheet self.old.columns) self.old.kept }
+        requires over { (R.sheet row.now).columns ≡ C.sheet self.old.columns }
+        requires index_in { line.index < line.height }
+        requires height { line.height ≡ (R.sheet row.now).height }
+        requires cursors { AreCursors (R.sheet row.now).text cursors.old }
+        ensures printed { WritesLines (S.sent sink.old) self.old.begun result (S.sent sink.new)
+            self.new.begun (row_line (R.sheet row.now) line.index ∷ []) }
+        ensures same { self.new.columns ≡ self.old.columns }
+        ensures kept { IsCacheOf (C.sheet self.new.columns) self.new.kept }
+        ensures cursors { AreCursors (R.sheet row.now).text cursors.new }
+    {
+        if let Some(template) = &mut self.kept.row
+            && template.fill_line(row, cursors, line)
+        {
+            return write_feed_and_line(sink, &mut self.begun, template.text());
+        }
+        write_unfilled_line(sink, &mut self.begun, row, cursors, line.index)
+    }
+
+    /// Writes the lines of a row of any height.
+    #[inline(never)]
+    #[tactic(auto, unfolding(crate::specs::Row::row_lines))]
+    fn write_lines<'a, R: Row<'a>, S: TextSink>(
+        &mut self,
+        sink: &mut S,
+        row: &R,
+        cursors: &mut [Cursor<'a>],
+        height: usize,
+    ) -> Result<(), TableError>
+        requires kept { IsCacheOf (C.sheet self.old.columns) self.old.kept }
+        requires over { (R.sheet row.now).columns ≡ C.sheet self.old.columns }
+        requires height { height ≡ (R.sheet row.now).height }
+        ensures printed { WritesLines (S.sent sink.old) self.old.begun result (S.sent sink.new)
+            self.new.begun (row_lines (R.sheet row.now)) }
+        ensures same { self.new.columns ≡ self.old.columns }
+        ensures kept { IsCacheOf (C.sheet self.new.columns) self.new.kept }
+    {
+        let count = cursors.len().min(row.count_columns());
+        let cursors = &mut cursors[..count];
+        forget_cursors(cursors);
+        'lines: for index in 0..height {
+            self.write_row_line(sink, row, cursors, RowLine { index, height })?;
+        }
+        Ok(())
+    }
+
     /// Writes the lines of a row over these columns. A text with a cursor isn't searched from its
     /// start for each line. The cursors may be in any state.
-    #[tactic(auto, unfolding(crate::specs::Row::row_lines))]
+    #[inline(always)]
     pub fn write_row<'a, R: Row<'a>, S: TextSink>(
         &mut self,
         sink: &mut S,
@@ -247,23 +321,9 @@ impl<C: TableColumns> LinePrinter<C> {
         ensures kept { IsCacheOf (C.sheet self.new.columns) self.new.kept }
     {
         let height = row.height();
-        let count = if height > 1 {
-            cursors.len().min(row.count_columns())
-        } else {
-            0
-        };
-        let cursors = &mut cursors[..count];
-        forget_cursors(cursors);
-        'lines: for index in 0..height {
-            if let Some(template) = &mut self.kept.row
-                && template.fill_line(row, cursors, index)
-            {
-                write_feed_and_line(sink, &mut self.begun, template.text())?;
-                continue;
-            }
-            write_break(sink, &mut self.begun)?;
-            write_row_line(sink, row, cursors, index)?;
+        if height == 1 {
+            return self.write_row_line(sink, row, &mut [], RowLine { index: 0, height });
         }
-        Ok(())
+        self.write_lines(sink, row, cursors, height)
     }
 }

@@ -12,7 +12,7 @@ ghost use Rattle.tabled_line.specs.Sent.{Sent, Writes};
 use crate::buffer::FixedBuffer;
 use crate::fill::write_spaces;
 use crate::placement::{KnownPlacements, RowPlacements, place_text};
-use crate::row::{CellLine, Row, write_cell};
+use crate::row::{CellLine, Row, RowLine, write_cell};
 use crate::rules::write_bar;
 use crate::text_sink::TextSink;
 use tabled_base::TableError;
@@ -158,7 +158,10 @@ fn write_next_text<'a, R: Row<'a>, S: TextSink, A: RowPlacements>(
             let first = CellLine {
                 column,
                 style,
-                index: 0,
+                at: RowLine {
+                    index: 0,
+                    height: 1,
+                },
             };
             write_cell(sink, row, &mut [], &first)?;
             Ok(0)

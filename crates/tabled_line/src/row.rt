@@ -2,13 +2,14 @@
 ghost use Rattle.std.specs.Prelude.{◌≡◌, ◌<◌, ◌≤◌, ℕ, [], IfSome};
 ghost use Rattle.tabled_config.specs.RowStyles.{style_in};
 ghost use Rattle.tabled_line.specs.Placements.{AreKnown};
-ghost use Rattle.tabled_line.specs.Cursors.{AreCursors};
+ghost use Rattle.tabled_line.specs.Cursors.{AreCursors, IsBegun};
 ghost use Rattle.tabled_line.specs.PlacedText.{IsSpacedLine};
 ghost use Rattle.tabled_line.specs.Row.{RowSheet, block_line, cell_piece, row_cells, row_line};
 ghost use Rattle.tabled_line.specs.Sent.{Sent, Writes};
 
 use crate::block::CellBlock;
-use crate::content::{Content, Cursor, cursor_at, keep_cursor};
+use crate::content::Content;
+use crate::cursor::{BegunCell, Cursor, keep_cell};
 use crate::one_line_row::{ColumnSeparator, write_spaced_row};
 use crate::placement::{KnownPlacements, PlacedText};
 use crate::rules::{write_bar, write_left_edge, write_right_edge};
@@ -65,16 +66,38 @@ pub trait Row<'a> {
             → cell_piece (sheet self.now) index column ≡ [] };
 }
 
-/// A line of a cell: its column, its style, and the index of the line.
+/// A line of a row: its index, and the height of the row.
+#[derive(Clone, Copy)]
+pub(crate) struct RowLine {
+    pub index: usize,
+    pub height: usize,
+}
+
+/// A line of a cell: its column, its style, and the line of the row.
 #[derive(Clone, Copy)]
 pub(crate) struct CellLine {
     pub column: usize,
     pub style: CellStyle,
-    pub index: usize,
+    pub at: RowLine,
 }
 
-/// Writes a line of a cell, after the vertical line before it. If the text has several lines, the
-/// cursor of its column moves to the next one.
+/// Returns the cell of a column as its cursor left it, else from its first line on.
+#[inline(always)]
+fn begun_cell<'a, R: Row<'a>>(row: &R, cursors: &[Cursor<'a>], column: usize) -> BegunCell<'a>
+    requires column_in { column < (R.sheet row.now).columns.count }
+    requires cursors { AreCursors (R.sheet row.now).text cursors.now }
+    ensures { IsBegun ((R.sheet row.now).text column) result }
+{
+    if column < cursors.len()
+        && let Some(cell) = &cursors[column].cell
+    {
+        return *cell;
+    }
+    BegunCell::new(row.content(column))
+}
+
+/// Writes a line of a cell, after the vertical line before it. The cursor of its column moves to
+/// the next one.
 pub(crate) fn write_cell<'a, R: Row<'a>, S: TextSink>(
     sink: &mut S,
     row: &R,
@@ -83,33 +106,29 @@ pub(crate) fn write_cell<'a, R: Row<'a>, S: TextSink>(
 ) -> Result<(), TableError>
     requires column_in { line.now.column < (R.sheet row.now).columns.count }
     requires style { line.now.style ≡ (R.sheet row.now).style line.now.column }
-    requires index_in { line.now.index < (R.sheet row.now).height }
+    requires index_in { line.now.at.index < line.now.at.height }
+    requires height { line.now.at.height ≡ (R.sheet row.now).height }
     requires cursors { AreCursors (R.sheet row.now).text cursors.old }
     ensures printed { Writes (S.sent sink.old) result (S.sent sink.new)
-        (cell_piece (R.sheet row.now) line.now.index line.now.column) }
+        (cell_piece (R.sheet row.now) line.now.at.index line.now.column) }
     ensures cursors { AreCursors (R.sheet row.now).text cursors.new }
 {
     let frame = row.frame();
     write_bar(sink, frame.has_bar(line.column), frame.inner.main)?;
-    let content = row.content(line.column);
-    let cell = CellBlock {
+    let mut cell = begun_cell(row, cursors, line.column);
+    let block = CellBlock {
         style: line.style,
         width: row.width(line.column),
-        height: row.height(),
-        content,
+        height: line.at.height,
+        content: cell.content,
     };
-    if content.lines <= 1 {
-        return cell.write_line(sink, &mut Cursor::start(content.text), line.index);
-    }
-    let mut cursor = cursor_at(cursors, line.column, content.text);
-    cell.write_line(sink, &mut cursor, line.index)?;
-    keep_cursor(cursors, line.column, cursor);
+    block.write_line(sink, &mut cell.place, line.at.index)?;
+    keep_cell(cursors, line.column, cell);
     Ok(())
 }
 
 /// Places a line of a cell in a column of `width` columns. `None` if it has a fill other than
-/// spaces, or the text doesn't fit. If the text has several lines, the cursor of its column moves
-/// to the next one.
+/// spaces, or the text doesn't fit. The cursor of its column moves to the next one.
 #[inline(always)]
 pub(crate) fn place_cell<'a, R: Row<'a>>(
     row: &R,
@@ -119,26 +138,23 @@ pub(crate) fn place_cell<'a, R: Row<'a>>(
 ) -> Option<PlacedText<'a>>
     requires column_in { line.now.column < (R.sheet row.now).columns.count }
     requires style { line.now.style ≡ (R.sheet row.now).style line.now.column }
-    requires index_in { line.now.index < (R.sheet row.now).height }
+    requires index_in { line.now.at.index < line.now.at.height }
+    requires height { line.now.at.height ≡ (R.sheet row.now).height }
     requires width { width ≡ (R.sheet row.now).columns.width line.now.column }
     requires cursors { AreCursors (R.sheet row.now).text cursors.old }
-    ensures placed { IfSome result (IsSpacedLine (block_line (R.sheet row.now) line.now.index
+    ensures placed { IfSome result (IsSpacedLine (block_line (R.sheet row.now) line.now.at.index
         line.now.column) ((R.sheet row.now).columns.width line.now.column)) }
     ensures cursors { AreCursors (R.sheet row.now).text cursors.new }
 {
-    let content = row.content(line.column);
-    let cell = CellBlock {
+    let mut cell = begun_cell(row, cursors, line.column);
+    let block = CellBlock {
         style: line.style,
         width,
-        height: row.height(),
-        content,
+        height: line.at.height,
+        content: cell.content,
     };
-    if content.lines <= 1 {
-        return cell.place_line(&mut Cursor::start(content.text), line.index);
-    }
-    let mut cursor = cursor_at(cursors, line.column, content.text);
-    let placed = cell.place_line(&mut cursor, line.index);
-    keep_cursor(cursors, line.column, cursor);
+    let placed = block.place_line(&mut cell.place, line.at.index);
+    keep_cell(cursors, line.column, cell);
     placed
 }
 
@@ -155,7 +171,8 @@ fn write_cells<'a, R: Row<'a>, S: TextSink>(
         (row_cells (R.sheet row.now) index) }
     ensures cursors { AreCursors (R.sheet row.now).text cursors.new }
 {
-    if row.height() == 1
+    let height = row.height();
+    if height == 1
         && let Some(separator) = row.separator().text()
     {
         return write_spaced_row(sink, row, separator);
@@ -165,7 +182,7 @@ fn write_cells<'a, R: Row<'a>, S: TextSink>(
         let line = CellLine {
             column,
             style: styles.at(column),
-            index,
+            at: RowLine { index, height },
         };
         write_cell(sink, row, cursors, &line)?;
     }

@@ -7,9 +7,9 @@ ghost use Rattle.tabled_line.specs.Cursors.{AreCursors};
 ghost use Rattle.tabled_line.specs.Slots.{AreSlots, IsTemplateOf};
 ghost use Rattle.tabled_line.specs.Row.{piece, row_line};
 
-use crate::content::Cursor;
+use crate::cursor::Cursor;
 use crate::placement::{KnownPlacements, RowPlacements, place_text};
-use crate::row::{CellLine, Row, place_cell};
+use crate::row::{CellLine, Row, RowLine, place_cell};
 use crate::rules::{TableColumns, write_left_edge, write_right_edge, write_rule_pieces};
 use crate::text_sink::TextSink;
 use std::alloc::Global;
@@ -167,7 +167,7 @@ fn fill_styled_texts<'a, R: Row<'a>>(line: &mut [u8], slots: &[Slot], row: &R) -
     fill_placed_texts(line, slots, row, row.styles())
 }
 
-/// Copies the line of each cell at `index` into a blank row. Returns `false` if a cell has a fill
+/// Copies the line of each cell into a blank row. Returns `false` if a cell has a fill
 /// other than spaces there, or its line doesn't fit or hasn't as many bytes as columns.
 #[inline(never)]
 fn fill_cell_lines<'a, R: Row<'a>>(
@@ -175,13 +175,14 @@ fn fill_cell_lines<'a, R: Row<'a>>(
     slots: &[Slot],
     row: &R,
     cursors: &mut [Cursor<'a>],
-    index: usize,
+    at: RowLine,
 ) -> bool
-    requires index_in { index < (R.sheet row.now).height }
+    requires index_in { at.index < at.height }
+    requires height { at.height ≡ (R.sheet row.now).height }
     requires blank { line.old ≡ blank_row (R.sheet row.now).columns }
     requires slots { AreSlots (R.sheet row.now).columns slots.now }
     requires cursors { AreCursors (R.sheet row.now).text cursors.old }
-    ensures laid { result ≡ true → line.new ≡ row_line (R.sheet row.now) index }
+    ensures laid { result ≡ true → line.new ≡ row_line (R.sheet row.now) at.index }
     ensures utf8 { IsUtf8 line.old → IsUtf8 line.new }
     ensures cursors { AreCursors (R.sheet row.now).text cursors.new }
 {
@@ -191,7 +192,7 @@ fn fill_cell_lines<'a, R: Row<'a>>(
         let cell = CellLine {
             column,
             style: styles.at(column),
-            index,
+            at,
         };
         let Some(placed) = place_cell(row, cursors, &cell, slot.width) else {
             return false;
@@ -205,24 +206,26 @@ fn fill_cell_lines<'a, R: Row<'a>>(
     true
 }
 
-/// Copies the line of each cell at `index` into a blank row. Returns whether all could be copied.
+/// Copies the texts in a line of a row into a blank row. Returns whether all could be copied.
+#[inline(always)]
 fn fill_cells<'a, R: Row<'a>>(
     line: &mut [u8],
     slots: &[Slot],
     row: &R,
     cursors: &mut [Cursor<'a>],
-    index: usize,
+    at: RowLine,
 ) -> bool
-    requires index_in { index < (R.sheet row.now).height }
+    requires index_in { at.index < at.height }
+    requires height { at.height ≡ (R.sheet row.now).height }
     requires blank { line.old ≡ blank_row (R.sheet row.now).columns }
     requires slots { AreSlots (R.sheet row.now).columns slots.now }
     requires cursors { AreCursors (R.sheet row.now).text cursors.old }
-    ensures laid { result ≡ true → line.new ≡ row_line (R.sheet row.now) index }
+    ensures laid { result ≡ true → line.new ≡ row_line (R.sheet row.now) at.index }
     ensures utf8 { IsUtf8 line.old → IsUtf8 line.new }
     ensures cursors { AreCursors (R.sheet row.now).text cursors.new }
 {
-    if row.height() != 1 {
-        return fill_cell_lines(line, slots, row, cursors, index);
+    if at.height != 1 {
+        return fill_cell_lines(line, slots, row, cursors, at);
     }
     match row.placements() {
         KnownPlacements::Cached(cells) => fill_placed_texts(line, slots, row, cells),
@@ -264,28 +267,30 @@ impl RowTemplate {
         })
     }
 
-    /// Fills in the line of a row at `index`. Returns whether this succeeded; if not, the line must
+    /// Fills in a line of a row. Returns whether this succeeded; if not, the line must
     /// be written without the template.
+    #[inline(always)]
     pub fn fill_line<'a, R: Row<'a>>(
         &mut self,
         row: &R,
         cursors: &mut [Cursor<'a>],
-        index: usize,
+        at: RowLine,
     ) -> bool
         requires known { IsTemplateOf (R.sheet row.now).columns self.old }
-        requires index_in { index < (R.sheet row.now).height }
+        requires index_in { at.index < at.height }
+        requires height { at.height ≡ (R.sheet row.now).height }
         requires cursors { AreCursors (R.sheet row.now).text cursors.old }
         ensures known { IsTemplateOf (R.sheet row.now).columns self.new }
         ensures laid { result ≡ true
-            → self.new.line.items ≡ 10 ∷ row_line (R.sheet row.now) index }
-        ensures utf8 { result ≡ true → IsUtf8 (row_line (R.sheet row.now) index) }
+            → self.new.line.items ≡ 10 ∷ row_line (R.sheet row.now) at.index }
+        ensures utf8 { result ≡ true → IsUtf8 (row_line (R.sheet row.now) at.index) }
         ensures cursors { AreCursors (R.sheet row.now).text cursors.new }
     {
         if self.tries == 0 {
             return false;
         }
         self.line.copy_from_slice(self.blank.as_bytes());
-        let laid = fill_cells(&mut self.line[1..], &self.slots, row, cursors, index);
+        let laid = fill_cells(&mut self.line[1..], &self.slots, row, cursors, at);
         self.tries = if laid { TRIES } else { self.tries - 1 };
         laid
     }

@@ -2,7 +2,7 @@ use Rattle.std.proofs.Common.{◌≡◌, ◌<◌, ◌+◌, ◌∙◌, ℕ, lengt
 use Rattle.std.proofs.lemmas.List.{length-set}
 use Rattle.tabled_line.specs.Cursors.{cursor_of, nowhere}
 use Rattle.tabled_line.proofs.Moving.{nowhere-more}
-use Rattle.tabled_line.proofs.content.forget_cursors.Goals as goal
+use Rattle.tabled_line.proofs.cursor.forget_cursors.Goals as goal
 
 pub columns-preserved : goal.columns-preserved
 columns-preserved c =

@@ -1,6 +1,6 @@
 use Rattle.std.proofs.Common.{◌≡◌, ℕ, ◌<◌, length}
 use Rattle.tabled_line.specs.Cursors.{cursor_of, nowhere}
-use Rattle.tabled_line.proofs.content.forget_cursors.Given as goal
+use Rattle.tabled_line.proofs.cursor.forget_cursors.Given as goal
 
 abbrev pub invariant-columns : goal.invariant-columns
 invariant-columns l = record {

@@ -3,7 +3,7 @@ use Rattle.std.specs.Option.{option_map}
 use Rattle.tabled_text.specs.Lines.{lines_in}
 use Rattle.tabled_text.specs.Measure.{lines_of}
 use Rattle.tabled_line.proofs.Moving.{drop-next, line-at, no-line-at}
-use Rattle.tabled_line.proofs.content.Cursor.next.Goals as goal
+use Rattle.tabled_line.proofs.cursor.LinePlace.next.Goals as goal
 
 pub returns-in_err-self-clause-line : goal.returns-in_err-self-clause-line
 returns-in_err-self-clause-line c text h =

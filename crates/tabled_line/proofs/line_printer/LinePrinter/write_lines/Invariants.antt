@@ -4,7 +4,7 @@ use Rattle.tabled_line.specs.Leading.{LineSends}
 use Rattle.tabled_line.specs.LineCache.{IsCacheOf}
 use Rattle.tabled_line.specs.Cursors.{AreCursors}
 use Rattle.tabled_line.specs.Row.{row_line}
-use Rattle.tabled_line.proofs.line_printer.LinePrinter.write_row.Given as goal
+use Rattle.tabled_line.proofs.line_printer.LinePrinter.write_lines.Given as goal
 
 abbrev pub invariant-lines : goal.invariant-lines
 invariant-lines g l =

@@ -1,0 +1,24 @@
+use Rattle.std.proofs.Common.{map, subst, ◌∙◌}
+use Rattle.std.specs.List.{range_with_len}
+use Rattle.tabled_line.specs.Leading.{WritesLines}
+use Rattle.tabled_line.specs.Row.{row_line, row_lines}
+use Rattle.tabled_line.proofs.Each.{map-more, map-rest}
+use Rattle.tabled_line.proofs.Leading.{lines-further, lines-stopped}
+use Rattle.tabled_line.proofs.line_printer.LinePrinter.write_lines.Goals as goal
+
+pub returns-in_err-write_row_line-clause-printed : goal.returns-in_err-write_row_line-clause-printed
+unfolding row_lines
+returns-in_err-write_row_line-clause-printed g c =
+    let f = row_line (g.R.Row.sheet c.args.row.now) in
+    subst (λ n. WritesLines (g.S.TextSink.sent c.args.sink.now) c.args.self.now.begun c.from_residual.result (g.S.TextSink.sent c.write_row_line.new.sink) c.write_row_line.new.self.begun (map f (range_with_len 0 n)))
+    c.requires.height
+    (lines-stopped _ _ _ _ _ c.lines.invariant.printed c.in_err-write_row_line.ensures.printed c.from_residual.ensures.1 (map-rest f _ _ c.lines-test.true))
+
+pub lines-preserved : goal.lines-preserved
+lines-preserved g c =
+    record {
+      printed = lines-further c.lines.invariant.printed c.in_ok-write_row_line.ensures.printed (map-more (row_line (g.R.Row.sheet c.args.row.now)) _);
+      same = c.in_ok-write_row_line.ensures.same ∙ c.lines.invariant.same;
+      kept = c.in_ok-write_row_line.ensures.kept;
+      cursors = c.in_ok-write_row_line.ensures.cursors;
+    }
