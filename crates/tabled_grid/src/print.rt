@@ -16,7 +16,7 @@ use tabled_config::SpannedConfig;
 use tabled_line::{Cursor, FEW_CURSORS, MANY_CURSORS, TextSink};
 use tabled_size::{Dimension, is_empty};
 
-/// Writes a picture with cursors for many columns. They take 24 KiB of stack, which other calls
+/// Writes a picture with cursors for many columns. They take 56 KiB of stack, which other calls
 /// don't need, so this is a separate function.
 #[inline(never)]
 fn write_with_many_cursors<'a, R: PeekableRecords, D: Dimension, S: TextSink>(

@@ -1,12 +1,11 @@
 -- What a call that prints to the sink of a borrowed writer says of the writer.
 use Rattle.std.proofs.Common.{◌≡◌, ℕ, ◌<◌, ◌≤◌, true, false, List, [], ◌∷◌, ◌++◌, length, take, Option, Some, None, Result, Ok, Err, refl, sym, ◌∙◌, ap, subst, append-nil, append_assoc, arith, inl, inr, ⊎_elim}
-use Rattle.std.specs.Prelude.{MatchResult, is_some, slice_index_or}
+use Rattle.std.specs.Prelude.{MatchResult, slice_index_or}
 use Rattle.std.specs.Io.KnownBytes.{Appends, Keeps, append_known}
 use Rattle.tabled_base.specs.declared.error.TableError.{TableError}
 use Rattle.tabled_base.specs.declared.error.TableError.TheVariants.{Memory, ShortWidths, ShortHeights, Narrow, Range, Writer}
 use Rattle.tabled_line.specs.Sent.{Sent, Sends, Stops, Took}
 use Rattle.tabled_line.specs.WriterSent.{failed_byte, known_since, named_sent, writer_after, writer_before}
-use Rattle.tabled_line.proofs.Sending.{Appends-nil, Keeps-same}
 
 -- ---- while a text is handed over
 
@@ -60,14 +59,6 @@ kept-none (Some xs) (Some ys) n buffer h p =
 pub kept-failed : {E : Type 0} (r : Result ℕ E) (P : ℕ → Type 0) (K : Type 0) → ((x : ℕ) → r ≡ Ok x → ⊥) → MatchResult r P (λ _. K) → K
 kept-failed (Ok x) P K never h = absurd (never x refl)
 kept-failed (Err e) P K never h = h
-
--- nothing is written after a failure
-pub failed-again : (name : ℕ) (contents : Option (List ℕ)) (failed_at : Option ℕ) (text : List ℕ) → is_some failed_at ≡ true
-    → Stops (named_sent name contents failed_at) Writer (named_sent name contents failed_at) text
-failed-again name contents None text h = let bad : ⊥ = cc in absurd bad
-failed-again name contents (Some byte) text h =
-    let a = named_sent name contents (Some byte) in
-    record { front = []; rest = text; whole = refl; added = Appends-nil a.bytes a.bytes (Keeps-same a.bytes); cause = inr refl }
 
 -- ---- what is said of the writer
 

@@ -60,6 +60,7 @@ impl<'a> Content<'a> {
 
     /// Returns the line at `index` and its width in columns. The search starts at `place`, or at
     /// the first line if that is past the line, and `place` moves to the line after it.
+    #[inline(always)]
     pub(crate) fn line(&self, index: usize, place: &mut LinePlace<'a>) -> Option<(&'a str, usize)>
         requires index { index < 2 ^ 64 - 1 }
         requires stands { IsPlace self.now.text.now place.old }

@@ -36,6 +36,7 @@ impl<'a> LinePlace<'a> {
 
     /// Returns the line at this position, and moves to the next one. Past the last line, it returns
     /// `None` and stays.
+    #[inline(always)]
     pub fn next(&mut self) -> Option<&'a str>
         requires { self.old.line < 2 ^ 64 - 1 }
         ensures line { (text : List ℕ) → IsPlace text self.old
@@ -56,18 +57,6 @@ impl<'a> LinePlace<'a> {
 pub(crate) struct BegunCell<'a> {
     pub content: Content<'a>,
     pub place: LinePlace<'a>,
-}
-
-impl<'a> BegunCell<'a> {
-    pub fn new(content: Content<'a>) -> BegunCell<'a>
-        ensures content { result.content ≡ content.entry }
-        ensures stands { IsPlace content.entry.text.now result.place }
-    {
-        BegunCell {
-            content,
-            place: LinePlace::start(content.text),
-        }
-    }
 }
 
 /// A cell and a position in its text, or nothing yet. Each line of a row begins where the cursors

@@ -97,16 +97,6 @@ pub(crate) struct CachedRule {
 }
 
 impl CachedRule {
-    pub fn new(memory: Option<Global>) -> CachedRule
-        ensures { result.line ≡ None }
-    {
-        CachedRule {
-            line: None,
-            buffer: LineBuffer::new(memory),
-            whole: false,
-        }
-    }
-
     #[inline(never)]
     fn lay_out<C: TableColumns>(&mut self, columns: &C, line: HorizontalLine)
         ensures line { self.new.line ≡ Some line }
@@ -151,7 +141,11 @@ impl LineCache {
         ensures { IsCacheOf (C.sheet columns.now) result }
     {
         LineCache {
-            rule: CachedRule::new(memory),
+            rule: CachedRule {
+                line: None,
+                buffer: LineBuffer::new(memory),
+                whole: false,
+            },
             row: match memory {
                 Some(alloc) => RowTemplate::new(columns, alloc),
                 None => None,

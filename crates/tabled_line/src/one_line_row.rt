@@ -12,7 +12,7 @@ ghost use Rattle.tabled_line.specs.Sent.{Sent, Writes};
 use crate::buffer::FixedBuffer;
 use crate::fill::write_spaces;
 use crate::placement::{KnownPlacements, RowPlacements, place_text};
-use crate::row::{CellLine, Row, RowLine, write_cell};
+use crate::row::{CellLine, Row, write_cell};
 use crate::rules::write_bar;
 use crate::text_sink::TextSink;
 use tabled_base::TableError;
@@ -158,10 +158,8 @@ fn write_next_text<'a, R: Row<'a>, S: TextSink, A: RowPlacements>(
             let first = CellLine {
                 column,
                 style,
-                at: RowLine {
-                    index: 0,
-                    height: 1,
-                },
+                index: 0,
+                height: 1,
             };
             write_cell(sink, row, &mut [], &first)?;
             Ok(0)
@@ -190,21 +188,6 @@ fn write_spaced_cells<'a, R: Row<'a>, S: TextSink, A: RowPlacements + Drop>(
     write_spaces(sink, behind)
 }
 
-/// Writes the cells of a row of one line, with the style of each looked up.
-#[inline(never)]
-fn write_styled_cells<'a, R: Row<'a>, S: TextSink>(
-    sink: &mut S,
-    row: &R,
-    separator: SeparatorText<'_>,
-) -> Result<(), TableError>
-    requires height { (R.sheet row.now).height ≡ 1 }
-    requires bar { separator.bar ≡ (R.sheet row.now).columns.frame.inner }
-    ensures { Writes (S.sent sink.old) result (S.sent sink.new)
-        (row_cells (R.sheet row.now) 0) }
-{
-    write_spaced_cells(sink, row, row.styles(), separator)
-}
-
 /// Writes the cells of a row of one line, by what is known of their placements.
 pub(crate) fn write_spaced_row<'a, R: Row<'a>, S: TextSink>(
     sink: &mut S,
@@ -219,6 +202,6 @@ pub(crate) fn write_spaced_row<'a, R: Row<'a>, S: TextSink>(
     match row.placements() {
         KnownPlacements::Cached(cells) => write_spaced_cells(sink, row, cells, separator),
         KnownPlacements::Uniform(uniform) => write_spaced_cells(sink, row, uniform, separator),
-        KnownPlacements::Styled => write_styled_cells(sink, row, separator),
+        KnownPlacements::Styled => write_spaced_cells(sink, row, row.styles(), separator),
     }
 }

@@ -9,7 +9,7 @@ ghost use Rattle.tabled_line.specs.Sent.{Sent, Writes};
 
 use crate::block::CellBlock;
 use crate::content::Content;
-use crate::cursor::{BegunCell, Cursor, keep_cell};
+use crate::cursor::{BegunCell, Cursor, LinePlace, keep_cell};
 use crate::one_line_row::{ColumnSeparator, write_spaced_row};
 use crate::placement::{KnownPlacements, PlacedText};
 use crate::rules::{write_bar, write_left_edge, write_right_edge};
@@ -73,12 +73,13 @@ pub(crate) struct RowLine {
     pub height: usize,
 }
 
-/// A line of a cell: its column, its style, and the line of the row.
+/// A line of a cell: its column, its style, the index of the line, and the height of the row.
 #[derive(Clone, Copy)]
 pub(crate) struct CellLine {
     pub column: usize,
     pub style: CellStyle,
-    pub at: RowLine,
+    pub index: usize,
+    pub height: usize,
 }
 
 /// Returns the cell of a column as its cursor left it, else from its first line on.
@@ -93,7 +94,11 @@ fn begun_cell<'a, R: Row<'a>>(row: &R, cursors: &[Cursor<'a>], column: usize) ->
     {
         return *cell;
     }
-    BegunCell::new(row.content(column))
+    let content = row.content(column);
+    BegunCell {
+        content,
+        place: LinePlace::start(content.text),
+    }
 }
 
 /// Writes a line of a cell, after the vertical line before it. The cursor of its column moves to
@@ -106,11 +111,11 @@ pub(crate) fn write_cell<'a, R: Row<'a>, S: TextSink>(
 ) -> Result<(), TableError>
     requires column_in { line.now.column < (R.sheet row.now).columns.count }
     requires style { line.now.style ≡ (R.sheet row.now).style line.now.column }
-    requires index_in { line.now.at.index < line.now.at.height }
-    requires height { line.now.at.height ≡ (R.sheet row.now).height }
+    requires index_in { line.now.index < line.now.height }
+    requires height { line.now.height ≡ (R.sheet row.now).height }
     requires cursors { AreCursors (R.sheet row.now).text cursors.old }
     ensures printed { Writes (S.sent sink.old) result (S.sent sink.new)
-        (cell_piece (R.sheet row.now) line.now.at.index line.now.column) }
+        (cell_piece (R.sheet row.now) line.now.index line.now.column) }
     ensures cursors { AreCursors (R.sheet row.now).text cursors.new }
 {
     let frame = row.frame();
@@ -119,10 +124,10 @@ pub(crate) fn write_cell<'a, R: Row<'a>, S: TextSink>(
     let block = CellBlock {
         style: line.style,
         width: row.width(line.column),
-        height: line.at.height,
+        height: line.height,
         content: cell.content,
     };
-    block.write_line(sink, &mut cell.place, line.at.index)?;
+    block.write_line(sink, &mut cell.place, line.index)?;
     keep_cell(cursors, line.column, cell);
     Ok(())
 }
@@ -138,11 +143,11 @@ pub(crate) fn place_cell<'a, R: Row<'a>>(
 ) -> Option<PlacedText<'a>>
     requires column_in { line.now.column < (R.sheet row.now).columns.count }
     requires style { line.now.style ≡ (R.sheet row.now).style line.now.column }
-    requires index_in { line.now.at.index < line.now.at.height }
-    requires height { line.now.at.height ≡ (R.sheet row.now).height }
+    requires index_in { line.now.index < line.now.height }
+    requires height { line.now.height ≡ (R.sheet row.now).height }
     requires width { width ≡ (R.sheet row.now).columns.width line.now.column }
     requires cursors { AreCursors (R.sheet row.now).text cursors.old }
-    ensures placed { IfSome result (IsSpacedLine (block_line (R.sheet row.now) line.now.at.index
+    ensures placed { IfSome result (IsSpacedLine (block_line (R.sheet row.now) line.now.index
         line.now.column) ((R.sheet row.now).columns.width line.now.column)) }
     ensures cursors { AreCursors (R.sheet row.now).text cursors.new }
 {
@@ -150,10 +155,10 @@ pub(crate) fn place_cell<'a, R: Row<'a>>(
     let block = CellBlock {
         style: line.style,
         width,
-        height: line.at.height,
+        height: line.height,
         content: cell.content,
     };
-    let placed = block.place_line(&mut cell.place, line.at.index);
+    let placed = block.place_line(&mut cell.place, line.index);
     keep_cell(cursors, line.column, cell);
     placed
 }
@@ -182,7 +187,8 @@ fn write_cells<'a, R: Row<'a>, S: TextSink>(
         let line = CellLine {
             column,
             style: styles.at(column),
-            at: RowLine { index, height },
+            index,
+            height,
         };
         write_cell(sink, row, cursors, &line)?;
     }

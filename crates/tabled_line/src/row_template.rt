@@ -124,6 +124,7 @@ fn copy_at(line: &mut [u8], place: usize, text: &str)
 
 /// Copies the texts of a row into a blank row, at their placements. Returns `false` if a text has
 /// no placement, doesn't fit, or hasn't as many bytes as columns.
+#[inline(always)]
 fn fill_placed_texts<'a, R: Row<'a>, A: RowPlacements + Drop>(
     line: &mut [u8],
     slots: &[Slot],
@@ -192,7 +193,8 @@ fn fill_cell_lines<'a, R: Row<'a>>(
         let cell = CellLine {
             column,
             style: styles.at(column),
-            at,
+            index: at.index,
+            height: at.height,
         };
         let Some(placed) = place_cell(row, cursors, &cell, slot.width) else {
             return false;

@@ -7,7 +7,7 @@ use Rattle.tabled_line.proofs.row.write_cell.Goals as goal
 pub returns-in_err-write_bar-clause-printed : goal.returns-in_err-write_bar-clause-printed
 unfolding cell_piece
 returns-in_err-write_bar-clause-printed g c =
-    stopped-first _ _ (slice_index_or (cell_block (g.R.Row.sheet c.args.row.now) c.args.line.now.column) c.args.line.now.at.index [])
+    stopped-first _ _ (slice_index_or (cell_block (g.R.Row.sheet c.args.row.now) c.args.line.now.column) c.args.line.now.index [])
     c.in_err-write_bar.ensures c.from_residual.ensures.1 (rw (c.has_bar.ensures, c.frame-frame.ensures) refl)
 
 pub returns-in_err-write_line-clause-printed : goal.returns-in_err-write_line-clause-printed

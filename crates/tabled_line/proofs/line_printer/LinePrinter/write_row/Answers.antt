@@ -1,4 +1,4 @@
-use Rattle.std.proofs.Common.{◌≡◌, map, subst, sym, ◌∙◌}
+use Rattle.std.proofs.Common.{map, subst, sym, ◌∙◌}
 use Rattle.std.specs.List.{range_with_len}
 use Rattle.tabled_line.specs.Leading.{WritesLines}
 use Rattle.tabled_line.specs.Row.{row_line, row_lines}
