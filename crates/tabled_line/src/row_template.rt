@@ -1,7 +1,8 @@
 //! Row templates: a blank row with its vertical lines and edges is built once, and the texts of
 //! each line of a row are copied into its slots.
-ghost use Rattle.std.specs.Prelude.{◌≡◌, ◌+◌, ◌<◌, ◌≤◌, ◌^◌, ◌++◌, [], ◌∷◌, length, take, drop};
+ghost use Rattle.std.specs.Prelude.{◌≡◌, ◌+◌, ◌<◌, ◌≤◌, ◌^◌, ◌++◌, [], ◌∷◌, length, take, drop, ℕ};
 ghost use Rattle.std.specs.Prelude.{IfOk, IfSome, IsUtf8, MatchOption, string_bytes, true};
+ghost use Rattle.tabled_config.specs.RowStyles.{style_in};
 ghost use Rattle.tabled_line.specs.BlankRow.{blank_row, first_offset};
 ghost use Rattle.tabled_line.specs.Cursors.{AreCursors};
 ghost use Rattle.tabled_line.specs.Slots.{AreSlots, IsTemplateOf};
@@ -14,7 +15,7 @@ use crate::rules::{TableColumns, write_left_edge, write_right_edge, write_rule_p
 use crate::text_sink::TextSink;
 use std::alloc::Global;
 use tabled_base::TableError;
-use tabled_config::{HorizontalLine, VerticalLine};
+use tabled_config::{HorizontalLine, RowStyles, VerticalLine};
 
 /// After this many lines in succession that couldn't be filled in, the template is given up.
 const TRIES: usize = 16;
@@ -168,10 +169,58 @@ fn fill_styled_texts<'a, R: Row<'a>>(line: &mut [u8], slots: &[Slot], row: &R) -
     fill_placed_texts(line, slots, row, row.styles())
 }
 
-/// Copies the line of each cell into a blank row. Returns `false` if a cell has a fill
-/// other than spaces there, or its line doesn't fit or hasn't as many bytes as columns.
-#[inline(never)]
+/// A line of a row, and the styles of its cells.
+#[derive(Drop)]
+struct StyledLine<'s> {
+    styles: RowStyles<'s>,
+    at: RowLine,
+}
+
+/// Copies the line of each cell into a blank row. Returns `false` if a cell has a fill other than
+/// spaces there, or its line doesn't fit or hasn't as many bytes as columns.
+#[inline(always)]
 fn fill_cell_lines<'a, R: Row<'a>>(
+    line: &mut [u8],
+    slots: &[Slot],
+    row: &R,
+    cursors: &mut [Cursor<'a>],
+    styled: &StyledLine<'_>,
+) -> bool
+    requires index_in { styled.now.at.index < styled.now.at.height }
+    requires height { styled.now.at.height ≡ (R.sheet row.now).height }
+    requires styles { (column : ℕ) → column < (R.sheet row.now).columns.count
+        → style_in styled.now.styles column ≡ (R.sheet row.now).style column }
+    requires blank { line.old ≡ blank_row (R.sheet row.now).columns }
+    requires slots { AreSlots (R.sheet row.now).columns slots.now }
+    requires cursors { AreCursors (R.sheet row.now).text cursors.old }
+    ensures laid { result ≡ true → line.new ≡ row_line (R.sheet row.now) styled.now.at.index }
+    ensures utf8 { IsUtf8 line.old → IsUtf8 line.new }
+    ensures cursors { AreCursors (R.sheet row.now).text cursors.new }
+{
+    'cells: for column in 0..slots.len() {
+        let slot = slots[column];
+        let cell = CellLine {
+            column,
+            style: styled.styles.at(column),
+            index: styled.at.index,
+            height: styled.at.height,
+        };
+        let Some(placed) = place_cell(row, cursors, &cell, slot.width) else {
+            return false;
+        };
+        if placed.text.len() != placed.columns {
+            return false;
+        }
+        let start = slot.place + placed.before;
+        copy_at(line, start, placed.text);
+    }
+    true
+}
+
+/// Copies the line of each cell into a blank row. The loop is inlined twice, so that a style that
+/// all cells share isn't copied for each of them.
+#[inline(never)]
+fn fill_lines<'a, R: Row<'a>>(
     line: &mut [u8],
     slots: &[Slot],
     row: &R,
@@ -187,25 +236,13 @@ fn fill_cell_lines<'a, R: Row<'a>>(
     ensures utf8 { IsUtf8 line.old → IsUtf8 line.new }
     ensures cursors { AreCursors (R.sheet row.now).text cursors.new }
 {
-    let styles = row.styles();
-    'cells: for column in 0..slots.len() {
-        let slot = slots[column];
-        let cell = CellLine {
-            column,
-            style: styles.at(column),
-            index: at.index,
-            height: at.height,
-        };
-        let Some(placed) = place_cell(row, cursors, &cell, slot.width) else {
-            return false;
-        };
-        if placed.text.len() != placed.columns {
-            return false;
+    match row.styles() {
+        RowStyles::Alike(style) => {
+            let styles = RowStyles::Alike(style);
+            fill_cell_lines(line, slots, row, cursors, &StyledLine { styles, at })
         }
-        let start = slot.place + placed.before;
-        copy_at(line, start, placed.text);
+        styles => fill_cell_lines(line, slots, row, cursors, &StyledLine { styles, at }),
     }
-    true
 }
 
 /// Copies the texts in a line of a row into a blank row. Returns whether all could be copied.
@@ -227,7 +264,7 @@ fn fill_cells<'a, R: Row<'a>>(
     ensures cursors { AreCursors (R.sheet row.now).text cursors.new }
 {
     if at.height != 1 {
-        return fill_cell_lines(line, slots, row, cursors, at);
+        return fill_lines(line, slots, row, cursors, at);
     }
     match row.placements() {
         KnownPlacements::Cached(cells) => fill_placed_texts(line, slots, row, cells),

@@ -6,7 +6,7 @@ use Rattle.tabled_line.proofs.row_template.fill_cell_lines.Goals as goal
 pub cells-init : goal.cells-init
 cells-init g c =
     record {
-      laid = none-laid (g.R.Row.sheet c.args.row.now) c.args.at.index _ c.requires.blank;
+      laid = none-laid (g.R.Row.sheet c.args.row.now) c.args.styled.now.at.index _ c.requires.blank;
       utf8 = λ u. u;
       counted = slots-count (g.R.Row.sheet c.args.row.now).columns c.args.slots.now c.requires.slots;
       cursors = c.requires.cursors;
@@ -17,7 +17,7 @@ place_cell-requires g c =
     let rs = g.R.Row.sheet c.args.row.now in
     let within : c.cells.column < rs.columns.count = omega (arith, c.cells-test.true, c.cells.invariant.counted) in
     let width = ap (λ s. s.width) (slot-is rs.columns c.args.slots.now c.cells.column c.requires.slots within) in
-    let style = c.at.ensures ∙ c.styles-styles.ensures c.cells.column within in
+    let style = c.at.ensures ∙ c.requires.styles c.cells.column within in
     λ κs. ((refl, tt), (within, (style, (c.requires.index_in, (c.requires.height, (width, c.cells.invariant.cursors))))))
 
 pub overflow_add-start : goal.overflow_add-start

@@ -6,7 +6,7 @@ use Rattle.tabled_line.proofs.row_template.fill_cell_lines.Given as goal
 abbrev pub invariant-cells : goal.invariant-cells
 invariant-cells g l =
     record {
-      laid : IsLaidTo (g.R.Row.sheet l.row) l.at.index l.line l.column;
+      laid : IsLaidTo (g.R.Row.sheet l.row) l.styled.at.index l.line l.column;
       utf8 : IsUtf8 l.fn.line → IsUtf8 l.line;
       counted : length l.slots ≡ (g.R.Row.sheet l.row).columns.count;
       cursors : AreCursors (g.R.Row.sheet l.row).text l.cursors;
