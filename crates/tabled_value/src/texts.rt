@@ -50,6 +50,7 @@ pub(crate) fn joined<'a>(
     Ok(front)
 }
 
+#[inline(always)]
 pub(crate) fn push_text(row: &mut Vec<Text<String>>, text: &str) -> Result<(), TableError>
     ensures texts { OnOk result
         (CellsAdded (λ texts. texts ≡ text.now ∷ []) row.old.items row.new.items) }
