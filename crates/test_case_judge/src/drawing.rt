@@ -1,4 +1,4 @@
-//! Tables of rows, and what they answer.
+//! Makes tables of the rows of a case, and writes their properties as text.
 ghost use Rattle.std.specs.Prelude.{◌<◌, length};
 
 use crate::fault::Fault;
@@ -14,7 +14,6 @@ use tabled::settings::{Height, Width};
 use tabled::{IoSink, Table, TableError};
 use toml::Value;
 
-/// The table of rows of texts.
 pub fn table_of(alloc: Global, rows: &[Value]) -> Result<Table, Fault> {
     let mut builder = Builder::new(alloc);
     for row in rows {
@@ -23,7 +22,6 @@ pub fn table_of(alloc: Global, rows: &[Value]) -> Result<Table, Fault> {
     Ok(Table::from(builder))
 }
 
-/// The texts of a list.
 pub fn texts_of<'a>(alloc: Global, list: &'a [Value]) -> Result<Vec<&'a str>, Fault> {
     let mut texts = Vec::new(alloc);
     for text in list {
@@ -32,10 +30,10 @@ pub fn texts_of<'a>(alloc: Global, list: &'a [Value]) -> Result<Vec<&'a str>, Fa
     Ok(texts)
 }
 
-/// What a table answers to a question.
-pub fn answer(alloc: Global, table: &Table, question: &str) -> Result<String, Fault> {
-    match question {
-        "picture" | "top" | "refused" => answer_printed(alloc, table, question),
+/// A property of a table, as text. A property that fails is the name of its error.
+pub fn property(alloc: Global, table: &Table, key: &str) -> Result<String, Fault> {
+    match key {
+        "picture" | "top" | "refused" => printed_property(alloc, table, key),
         "width" => shown_number(alloc, table.total_width()),
         "height" => shown_number(alloc, table.total_height()),
         "widths" => shown_sizes(alloc, table.get_dimension().get_widths()),
@@ -48,28 +46,27 @@ pub fn answer(alloc: Global, table: &Table, question: &str) -> Result<String, Fa
     }
 }
 
-// The picture, its first line, or nothing; and where the table is refused, the word of it.
-fn answer_printed(alloc: Global, table: &Table, question: &str) -> Result<String, Fault> {
-    match (printed(alloc, table)?, question) {
+// The picture, or its first line. `refused` is empty unless printing fails.
+fn printed_property(alloc: Global, table: &Table, key: &str) -> Result<String, Fault> {
+    match (printed(alloc, table)?, key) {
         (Ok(text), "picture") => Ok(text),
         (Ok(text), "top") => {
             let top = text.split('\n').next().unwrap_or("");
             Ok(String::from_str(alloc, top)?)
         }
         (Ok(_), _) => Ok(String::new(alloc)),
-        (Err(error), _) => shown_word(alloc, error),
+        (Err(error), _) => error_name(alloc, error),
     }
 }
 
-/// The word of a refusal.
-pub fn shown_word(alloc: Global, error: TableError) -> Result<String, Fault> {
+pub fn error_name(alloc: Global, error: TableError) -> Result<String, Fault> {
     Ok(format!(in alloc; "{error:?}")?)
 }
 
-fn shown_number(alloc: Global, answer: Result<usize, TableError>) -> Result<String, Fault> {
-    match answer {
+fn shown_number(alloc: Global, outcome: Result<usize, TableError>) -> Result<String, Fault> {
+    match outcome {
         Ok(number) => Ok(format!(in alloc; "{number}")?),
-        Err(error) => shown_word(alloc, error),
+        Err(error) => error_name(alloc, error),
     }
 }
 
@@ -80,29 +77,29 @@ fn shown_sizes(alloc: Global, sizes: Option<&[usize]>) -> Result<String, Fault> 
     }
 }
 
-// What a table prints, or why it is refused. A writer has to get the same as a string, and nothing of a table that is
-// refused. Where texts are kept apart, each line has to take the table's columns.
+// Also checks that a writer gets the same as a string, and nothing if printing fails. If the
+// settings separate cells, each line must have the table's total width.
 fn printed(alloc: Global, table: &Table) -> Result<Result<String, TableError>, Fault> {
     let printed = table.to_string();
     let mut bytes: Vec<u8> = Vec::new(alloc);
-    let answer = table.write_to(&mut IoSink::new(&mut bytes));
+    let outcome = table.write_to(&mut IoSink::new(&mut bytes));
     let same = match &printed {
-        Ok(text) => answer == Ok(()) && bytes.as_slice() == text.as_bytes(),
-        Err(error) => answer == Err(*error) && bytes.is_empty(),
+        Ok(text) => outcome == Ok(()) && bytes.as_slice() == text.as_bytes(),
+        Err(error) => outcome == Err(*error) && bytes.is_empty(),
     };
     if !same {
         return Err(Fault::Unknown("a writer gets another picture"));
     }
     if let Ok(text) = &printed {
-        if table.is_apart() && straight_lines(text.as_str(), table.total_width()?).is_none() {
+        if table.is_apart() && count_lines_of_width(text.as_str(), table.total_width()?).is_none() {
             return Err(Fault::Unknown("a line takes other columns"));
         }
     }
     Ok(printed)
 }
 
-/// How many lines a text has, if each takes so many columns.
-pub fn straight_lines(text: &str, columns: usize) -> Option<usize> {
+/// The number of lines, or `None` if one of them isn't `columns` wide.
+pub fn count_lines_of_width(text: &str, columns: usize) -> Option<usize> {
     let mut count: usize = 0;
     for line in lines(text) {
         if line_width(line) != columns {
@@ -113,7 +110,7 @@ pub fn straight_lines(text: &str, columns: usize) -> Option<usize> {
     Some(count)
 }
 
-// The cells, a row a line, each in quotes and with a space behind it.
+// One line per row, with each cell in quotes and followed by a space.
 fn shown_cells(alloc: Global, records: &VecRecords<Text<String>>) -> Result<String, Fault> {
     let mut text = String::new(alloc);
     for row in 0..records.count_rows() {
@@ -137,7 +134,7 @@ fn show_row(
     Ok(())
 }
 
-// The greatest and the least width of texts, and the greatest and the least height.
+// The maximum and minimum width of the cells, then the maximum and minimum height.
 fn extremes(alloc: Global, table: &Table) -> Result<String, Fault> {
     let records = table.get_records();
     let config: &SpannedConfig = table.get_config().as_ref();

@@ -1,16 +1,16 @@
-//! What stops a case.
+//! The errors of a case.
 
 use std::alloc::{AllocError, AllocFailed};
 use tabled::TableError;
 use thiserror::Error;
 
-/// What stops a case.
+/// Why a case can't be checked.
 #[derive(Clone, Copy, Debug, Error)]
 pub enum Fault {
-    /// A call of the library refused.
+    /// A call of the library failed.
     #[error("refused: {0:?}")]
     Refused(#[from] TableError),
-    /// The case isn't written as cases are.
+    /// The case is malformed, or a check of its output failed.
     #[error("{0}")]
     Unknown(&'static str),
 }

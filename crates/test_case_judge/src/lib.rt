@@ -1,18 +1,13 @@
-//! Cases: tables beside what is wanted of them, as data, and what is told where one doesn't come
-//! out as it should. It stands below the program `test_cases`, which therefore names no table.
-//!
-//! A case has rows, commands that set the table in order, and what is wanted of it; so have cases
-//! of the printers that keep no `Table`. A text is narrowed by itself, lists of sizes are shrunk by
-//! each priority that is named, and pairs of characters are printed through tables of which each
-//! line is measured.
+//! Checks test cases that are written as data: input, commands and expected results.
+//! The program `test_cases` reads them, and prints a report for each one that fails.
 #![tactic(auto)]
 
+mod checking;
 mod drawing;
 mod fault;
-mod judging;
-mod looks;
 mod never;
 mod pairs;
+mod print_options;
 mod printers;
 mod reading;
 mod report;
@@ -21,8 +16,8 @@ mod shrinking;
 mod sizing;
 mod words;
 
+pub use checking::check_case;
 pub use fault::Fault;
-pub use judging::told;
 pub use reading::{list_of, text_of};
 pub use settings::set;
 pub use words::Words;

@@ -1,9 +1,9 @@
-//! A priority of the cases' own.
+//! A custom priority, as a user of the library may write one.
 ghost use Rattle.std.specs.Prelude.{⊤};
 
 use tabled::settings::peaker::Peaker;
 
-/// A priority that names no column.
+/// A priority that never returns a column.
 #[derive(Clone, Copy)]
 pub struct Never;
 

@@ -1,8 +1,8 @@
-//! Pairs of characters, through tables of which each line is measured.
+//! Prints pairs of characters in tables, and measures each line.
 
-use crate::drawing::{straight_lines, texts_of};
+use crate::checking::set_each;
+use crate::drawing::{count_lines_of_width, texts_of};
 use crate::fault::Fault;
-use crate::judging::set_each;
 use crate::reading::{list_at, list_of, number_at};
 use crate::report::compare;
 use std::alloc::Global;
@@ -10,22 +10,23 @@ use tabled::Table;
 use tabled::builder::Builder;
 use toml::Value;
 
-/// Compares the lines of all tables of pairs with the wanted number. Each line has to take its table's columns.
-pub fn judge_pairs(alloc: Global, case: &toml::Table, report: &mut String) -> Result<(), Fault> {
+/// Compares the number of lines of all tables with the expected one. Each line must have the total
+/// width of its table.
+pub fn check_pairs(alloc: Global, case: &toml::Table, report: &mut String) -> Result<(), Fault> {
     let characters = texts_of(alloc, list_at(case, "characters")?)?;
     let mut count: usize = 0;
     for way in list_at(case, "ways")? {
-        let lines = lines_set(alloc, characters.as_slice(), list_of(way)?, report)?;
+        let lines = count_all_lines(alloc, characters.as_slice(), list_of(way)?, report)?;
         count = count.saturating_add(lines);
     }
     let count = format!(in alloc; "{count}")?;
-    let wanted = format!(in alloc; "{}", number_at(case, "lines")?)?;
-    compare(report, "lines", count.as_str(), wanted.as_str())?;
+    let expected = format!(in alloc; "{}", number_at(case, "lines")?)?;
+    compare(report, "lines", count.as_str(), expected.as_str())?;
     Ok(())
 }
 
-// The lines of a table of each character with all of them, set by commands.
-fn lines_set(
+// The lines of one table per character, which pairs it with all characters.
+fn count_all_lines(
     alloc: Global,
     characters: &[&str],
     commands: &[Value],
@@ -37,12 +38,12 @@ fn lines_set(
         if let Some(error) = set_each(alloc, &mut table, commands, report)? {
             return Err(Fault::Refused(error));
         }
-        count = count.saturating_add(lines_of(&table)?);
+        count = count.saturating_add(count_lines(&table)?);
     }
     Ok(count)
 }
 
-// A row for each pair: the two side by side, together, and the other way round.
+// One row per pair: each character alone, both joined, and both in the other order.
 fn pairs_of(alloc: Global, first: &str, others: &[&str]) -> Result<Table, Fault> {
     let mut builder = Builder::new(alloc);
     for second in others {
@@ -56,10 +57,10 @@ fn pairs_of(alloc: Global, first: &str, others: &[&str]) -> Result<Table, Fault>
     Ok(Table::from(builder))
 }
 
-// How many lines a table has, each of which takes its columns.
-fn lines_of(table: &Table) -> Result<usize, Fault> {
+// Fails if a line doesn't have the total width.
+fn count_lines(table: &Table) -> Result<usize, Fault> {
     let text = table.to_string()?;
-    match straight_lines(text.as_str(), table.total_width()?) {
+    match count_lines_of_width(text.as_str(), table.total_width()?) {
         Some(count) => Ok(count),
         None => Err(Fault::Unknown("a line takes other columns")),
     }

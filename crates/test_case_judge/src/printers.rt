@@ -1,8 +1,9 @@
-//! What is printed without a `Table`: streams of rows, compact tables, boxes, and records line by line.
+//! Runs the printers that keep no `Table`: `IterTable`, `CompactTable`, `PoolTable` and
+//! `ExtendedTable`.
 
-use crate::drawing::{shown_word, texts_of};
+use crate::drawing::{error_name, texts_of};
 use crate::fault::Fault;
-use crate::looks::Look;
+use crate::print_options::PrintOptions;
 use crate::reading::{list_at, list_of, text_of};
 use crate::words::Words;
 use std::alloc::Global;
@@ -12,16 +13,16 @@ use tabled::grid::dimension::{DimensionValue, StaticDimension};
 use tabled::tables::{CompactTable, ExtendedTable, IterTable, PoolTable, TableValue};
 use toml::Value;
 
-/// What printing leaves.
+/// The result of a printer. What a printer doesn't report is `None`.
 #[derive(Drop)]
 pub struct Printed {
     text: String,
-    answer: Result<(), TableError>,
-    // Whether the settings of boxes separate their texts.
+    outcome: Result<(), TableError>,
+    // Whether the settings separate cells.
     is_apart: Option<bool>,
-    // Whether boxes and their texts are plain.
+    // Whether all boxes and texts are plain.
     is_plain: Option<bool>,
-    // How often records were truncated.
+    // The number of `truncate` commands that changed something.
     truncated: Option<usize>,
 }
 
@@ -29,20 +30,20 @@ impl Printed {
     fn new(alloc: Global) -> Printed {
         Printed {
             text: String::new(alloc),
-            answer: Ok(()),
+            outcome: Ok(()),
             is_apart: None,
             is_plain: None,
             truncated: None,
         }
     }
 
-    /// What is out, why the printing is refused, or what was told.
-    pub fn answer(&self, alloc: Global, question: &str) -> Result<String, Fault> {
-        match (question, self.is_apart, self.is_plain, self.truncated) {
+    /// A property, as text. The text printed before an error is part of the picture.
+    pub fn property(&self, alloc: Global, key: &str) -> Result<String, Fault> {
+        match (key, self.is_apart, self.is_plain, self.truncated) {
             ("picture", _, _, _) => Ok(String::from_str(alloc, self.text.as_str())?),
-            ("refused", _, _, _) => match self.answer {
+            ("refused", _, _, _) => match self.outcome {
                 Ok(()) => Ok(String::new(alloc)),
-                Err(error) => shown_word(alloc, error),
+                Err(error) => error_name(alloc, error),
             },
             ("apart", Some(is_apart), _, _) => Ok(format!(in alloc; "{is_apart}")?),
             ("plain", _, Some(is_plain), _) => Ok(format!(in alloc; "{is_plain}")?),
@@ -52,24 +53,24 @@ impl Printed {
     }
 }
 
-/// Prints what a case of some kind gives, as its commands say.
+/// Prints the rows or the tree of a case of the given kind.
 pub fn print_case(alloc: Global, kind: &str, case: &toml::Table) -> Result<Printed, Fault> {
     let commands = list_at(case, "set")?;
     let rows = rows_of(alloc, list_at(case, "rows")?)?;
     if kind == "records" {
         return print_records(alloc, rows, commands);
     }
-    let mut look = Look::new(alloc);
+    let mut options = PrintOptions::new(alloc);
     for command in commands {
-        look.take(alloc, kind, text_of(command)?)?;
+        options.set(alloc, kind, text_of(command)?)?;
     }
     match (kind, case.get("tree")) {
-        ("stream", None) => print_stream(alloc, rows, &look),
-        ("compact", None) => print_compact(alloc, rows, look),
-        ("boxes", None) => print_boxes(alloc, PoolTable::new(alloc, rows)?, &look),
+        ("stream", None) => print_stream(alloc, rows, &options),
+        ("compact", None) => print_compact(alloc, rows, options),
+        ("boxes", None) => print_boxes(alloc, PoolTable::new(alloc, rows)?, &options),
         ("boxes", Some(tree)) => {
             let tree = tree_of(alloc, tree, 9)?;
-            print_boxes(alloc, PoolTable::from_value(tree), &look)
+            print_boxes(alloc, PoolTable::from_value(tree), &options)
         }
         _ => Err(Fault::Unknown("no such kind of case")),
     }
@@ -83,31 +84,39 @@ fn rows_of<'a>(alloc: Global, list: &'a [Value]) -> Result<Vec<Vec<&'a str>>, Fa
     Ok(rows)
 }
 
-fn print_stream(alloc: Global, rows: Vec<Vec<&str>>, look: &Look) -> Result<Printed, Fault> {
+fn print_stream(
+    alloc: Global,
+    rows: Vec<Vec<&str>>,
+    options: &PrintOptions,
+) -> Result<Printed, Fault> {
     let mut table = IterTable::new(rows);
-    table.with(look.config)?;
-    if let Some(count) = look.sniff {
+    table.with(options.config)?;
+    if let Some(count) = options.sniff {
         table.sniff(count);
     }
-    if let Some(count) = look.columns {
+    if let Some(count) = options.columns {
         table.columns(count);
     }
-    if let Some(count) = look.rows {
+    if let Some(count) = options.rows {
         table.rows(count);
     }
-    if let Some(columns) = look.width {
+    if let Some(columns) = options.width {
         table.width(columns);
     }
-    if let Some(lines) = look.height {
+    if let Some(lines) = options.height {
         table.height(lines);
     }
     let mut printed = Printed::new(alloc);
-    printed.answer = table.fmt(alloc, &mut printed.text);
+    printed.outcome = table.fmt(alloc, &mut printed.text);
     Ok(printed)
 }
 
-fn print_compact(alloc: Global, rows: Vec<Vec<&str>>, look: Look) -> Result<Printed, Fault> {
-    let Look {
+fn print_compact(
+    alloc: Global,
+    rows: Vec<Vec<&str>>,
+    options: PrintOptions,
+) -> Result<Printed, Fault> {
+    let PrintOptions {
         config,
         widths,
         width,
@@ -115,7 +124,7 @@ fn print_compact(alloc: Global, rows: Vec<Vec<&str>>, look: Look) -> Result<Prin
         rows: limit,
         skip,
         ..
-    } = look;
+    } = options;
     let widths = match width {
         Some(width) => DimensionValue::Exact(width),
         None => DimensionValue::List(widths),
@@ -129,21 +138,25 @@ fn print_compact(alloc: Global, rows: Vec<Vec<&str>>, look: Look) -> Result<Prin
         table = table.rows(count);
     }
     let mut printed = Printed::new(alloc);
-    printed.answer = table.fmt(&mut printed.text);
+    printed.outcome = table.fmt(&mut printed.text);
     Ok(printed)
 }
 
-fn print_boxes(alloc: Global, mut table: PoolTable, look: &Look) -> Result<Printed, Fault> {
-    table.with(CompactMultilineConfig::from(look.config))?;
-    table.with(look.boxes)?;
+fn print_boxes(
+    alloc: Global,
+    mut table: PoolTable,
+    options: &PrintOptions,
+) -> Result<Printed, Fault> {
+    table.with(CompactMultilineConfig::from(options.config))?;
+    table.with(options.boxes)?;
     let mut printed = Printed::new(alloc);
     printed.is_apart = Some(table.is_apart());
     printed.is_plain = Some(table.is_plain());
-    printed.answer = table.write_to(&mut printed.text);
+    printed.outcome = table.write_to(&mut printed.text);
     Ok(printed)
 }
 
-// A text, or a row or a column of such values. Deeper ones than so many levels aren't read.
+// A text, or a row or a column of values. Fails if the tree is deeper than `levels`.
 fn tree_of(alloc: Global, value: &Value, levels: usize) -> Result<TableValue, Fault> {
     let Some(table) = value.as_table() else {
         return Ok(TableValue::Cell(String::from_str(alloc, text_of(value)?)?));
@@ -163,7 +176,7 @@ fn tree_of(alloc: Global, value: &Value, levels: usize) -> Result<TableValue, Fa
     }
 }
 
-// Records below names, truncated in turn to some columns with a suffix.
+// Truncates the records by each command in order.
 fn print_records(
     alloc: Global,
     rows: Vec<Vec<&str>>,
@@ -182,6 +195,6 @@ fn print_records(
     }
     let mut printed = Printed::new(alloc);
     printed.truncated = Some(count);
-    printed.answer = table.write_to(&mut printed.text);
+    printed.outcome = table.write_to(&mut printed.text);
     Ok(printed)
 }

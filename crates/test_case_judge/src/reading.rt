@@ -1,11 +1,10 @@
-//! What stands in a document, by its key.
+//! Reads typed values of a TOML document, with an error for each missing or wrong one.
 
 use crate::fault::Fault;
 use crate::words::number;
 use std::alloc::Global;
 use toml::{Table, Value};
 
-/// The text at a key.
 pub fn text_at<'a>(entry: &'a Table, key: &str) -> Result<&'a str, Fault> {
     match entry.get(key) {
         Some(value) => text_of(value),
@@ -13,7 +12,6 @@ pub fn text_at<'a>(entry: &'a Table, key: &str) -> Result<&'a str, Fault> {
     }
 }
 
-/// A value that is a text.
 pub fn text_of(value: &Value) -> Result<&str, Fault> {
     match value.as_str() {
         Some(text) => Ok(text),
@@ -21,7 +19,6 @@ pub fn text_of(value: &Value) -> Result<&str, Fault> {
     }
 }
 
-/// A value that is a list.
 pub fn list_of(value: &Value) -> Result<&[Value], Fault> {
     match value.as_array() {
         Some(list) => Ok(list.as_slice()),
@@ -29,7 +26,7 @@ pub fn list_of(value: &Value) -> Result<&[Value], Fault> {
     }
 }
 
-/// The list at a key; without the key it is empty.
+/// The list is empty if the key is missing.
 pub fn list_at<'a>(entry: &'a Table, key: &str) -> Result<&'a [Value], Fault> {
     match entry.get(key) {
         Some(value) => list_of(value),
@@ -37,7 +34,7 @@ pub fn list_at<'a>(entry: &'a Table, key: &str) -> Result<&'a [Value], Fault> {
     }
 }
 
-/// A value that is a number, or the word or the digits of one.
+/// A number may also be a string: digits, or `greatest` for `usize::MAX`.
 pub fn number_of(value: &Value) -> Result<usize, Fault> {
     match value {
         Value::Integer(integer) => match usize::try_from(*integer) {
@@ -48,7 +45,6 @@ pub fn number_of(value: &Value) -> Result<usize, Fault> {
     }
 }
 
-/// The number at a key.
 pub fn number_at(entry: &Table, key: &str) -> Result<usize, Fault> {
     match entry.get(key) {
         Some(value) => number_of(value),
@@ -56,7 +52,6 @@ pub fn number_at(entry: &Table, key: &str) -> Result<usize, Fault> {
     }
 }
 
-/// The numbers of a list.
 pub fn numbers_of(alloc: Global, list: &[Value]) -> Result<Vec<usize>, Fault> {
     let mut numbers = Vec::new(alloc);
     for value in list {

@@ -1,4 +1,4 @@
-//! How values are shown, and what is told where two differ.
+//! Writes actual and expected values as text, and reports those that differ.
 
 use crate::fault::Fault;
 use crate::reading::{number_of, text_of};
@@ -6,7 +6,7 @@ use std::alloc::{AllocError, Global};
 use std::fmt;
 use toml::Value;
 
-// A text whose lines are shown between bars, so that spaces at their ends are seen.
+// Displays each line between bars, so that trailing spaces are visible.
 #[derive(Drop)]
 struct Barred<'a>(&'a str);
 
@@ -19,21 +19,21 @@ impl fmt::Display for Barred<'_> {
     }
 }
 
-/// Tells of a thing that isn't as it is wanted.
+/// Adds nothing to the report if both are equal.
 pub fn compare(
     report: &mut String,
-    thing: &str,
-    drawn: &str,
-    wanted: &str,
+    key: &str,
+    actual: &str,
+    expected: &str,
 ) -> Result<(), AllocError> {
-    if drawn == wanted {
+    if actual == expected {
         return Ok(());
     }
-    let (drawn, wanted) = (Barred(drawn), Barred(wanted));
-    write!(report, "{thing}:\n{drawn}wanted:\n{wanted}")
+    let (actual, expected) = (Barred(actual), Barred(expected));
+    write!(report, "{key}:\n{actual}wanted:\n{expected}")
 }
 
-/// Numbers, each with a space behind it.
+/// Each number is followed by a space.
 pub fn shown_numbers(alloc: Global, numbers: &[usize]) -> Result<String, AllocError> {
     let mut text = String::new(alloc);
     for number in numbers {
@@ -42,7 +42,7 @@ pub fn shown_numbers(alloc: Global, numbers: &[usize]) -> Result<String, AllocEr
     Ok(text)
 }
 
-// A text in quotes, or a number, with a space behind it.
+// A string in quotes, or a number, followed by a space.
 fn show_item(text: &mut String, item: &Value) -> Result<(), Fault> {
     if item.is_str() {
         let item = text_of(item)?;
@@ -72,12 +72,12 @@ fn show_list(text: &mut String, list: &[Value]) -> Result<(), Fault> {
     Ok(())
 }
 
-/// What is wanted, as text: a text as it is, a number in digits, a list by its items, and rows a line each.
-pub fn wanted(alloc: Global, value: &Value) -> Result<String, Fault> {
+/// An expected value, in the form in which actual values are written. Each inner list is a line.
+pub fn expected_text(alloc: Global, value: &Value) -> Result<String, Fault> {
     let mut text = String::new(alloc);
     match value {
-        Value::String(wanted) => text.push_str(wanted.as_str())?,
-        Value::Boolean(wanted) => write!(text, "{wanted}")?,
+        Value::String(string) => text.push_str(string.as_str())?,
+        Value::Boolean(boolean) => write!(text, "{boolean}")?,
         Value::Array(list) => show_list(&mut text, list.as_slice())?,
         _ => write!(text, "{}", number_of(value)?)?,
     }

@@ -1,4 +1,4 @@
-//! What the commands of a case set of its table.
+//! Runs the commands that change the settings of a table.
 
 use crate::fault::Fault;
 use crate::sizing::{
@@ -13,7 +13,7 @@ use tabled::grid::config::{
 };
 use tabled::settings::{Height, Margin, Padding, Style, Width};
 
-/// Obeys a command.
+/// Fails if the command is unknown or malformed, or if the library returns an error.
 pub fn set(alloc: Global, table: &mut Table, command: &str) -> Result<(), Fault> {
     let mut words = Words::new(command);
     let kind = words.word();
@@ -29,7 +29,7 @@ pub fn set(alloc: Global, table: &mut Table, command: &str) -> Result<(), Fault>
         "limit_to" => limit_to(table, words.word())?,
         "wrap_by" | "truncate_by" => narrow_by(table, kind, words.number()?)?,
         "widths" | "heights" | "list" => set_sizes(alloc, table, kind, &mut words)?,
-        _ => set_look(table, kind, &mut words)?,
+        _ => set_format(table, kind, &mut words)?,
     }
     if words.has_more() {
         return Err(Fault::Unknown("too many words"));
@@ -37,7 +37,7 @@ pub fn set(alloc: Global, table: &mut Table, command: &str) -> Result<(), Fault>
     Ok(())
 }
 
-// Stores sizes directly, or lists of them as options.
+// `list` sets the sizes by an option; without it they are stored directly.
 fn set_sizes(
     alloc: Global,
     table: &mut Table,
@@ -56,8 +56,7 @@ fn set_sizes(
     Ok(())
 }
 
-// Sets what is seen around the texts.
-fn set_look(table: &mut Table, kind: &str, words: &mut Words<'_>) -> Result<(), Fault> {
+fn set_format(table: &mut Table, kind: &str, words: &mut Words<'_>) -> Result<(), Fault> {
     match kind {
         "style" => Ok(table.apply(style_of(words.word())?)?),
         "bare" => set_bare(table),
@@ -70,7 +69,6 @@ fn set_look(table: &mut Table, kind: &str, words: &mut Words<'_>) -> Result<(), 
     }
 }
 
-/// A style by its name.
 pub fn style_of(name: &str) -> Result<Style, Fault> {
     match name {
         "ascii" => Ok(Style::ascii()),
@@ -83,7 +81,6 @@ pub fn style_of(name: &str) -> Result<Style, Fault> {
     }
 }
 
-// No borders and no padding.
 fn set_bare(table: &mut Table) -> Result<(), Fault> {
     table.apply(Style::empty())?;
     table.apply(Padding::zero())?;
@@ -97,7 +94,6 @@ fn set_border(table: &mut Table, words: &mut Words<'_>) -> Result<(), Fault> {
     Ok(())
 }
 
-// The borders with another character at one place.
 fn with_border(
     mut borders: Borders<char>,
     place: &str,
@@ -116,7 +112,7 @@ fn with_border(
     Ok(borders)
 }
 
-// A line by its index: its main character, and those at the left, at a bar and at the right.
+// Arguments: the index of the line, then its main, left, intersection and right characters.
 fn set_line(table: &mut Table, words: &mut Words<'_>) -> Result<(), Fault> {
     let index = words.number()?;
     let main = words.mark()?;
@@ -134,7 +130,8 @@ fn set_line(table: &mut Table, words: &mut Words<'_>) -> Result<(), Fault> {
     Ok(())
 }
 
-/// Sizes of the left, the right, the top and the bottom, and then their fills: spaces, if none is given.
+/// Reads the sizes of the left, right, top and bottom, and then their fill characters, which may be
+/// missing.
 pub fn read_sides(words: &mut Words<'_>) -> Result<Sides<Indent>, Fault> {
     let sizes = [
         words.number()?,
@@ -166,7 +163,7 @@ fn set_padding(table: &mut Table, words: &mut Words<'_>) -> Result<(), Fault> {
     Ok(())
 }
 
-// An alignment of the texts of an entity, or of their lines.
+// `lines` sets whether each line of a cell is aligned separately.
 fn set_alignment(table: &mut Table, kind: &str, words: &mut Words<'_>) -> Result<(), Fault> {
     let Some(entity) = words.part()? else {
         return Err(Fault::Unknown("no such entity"));

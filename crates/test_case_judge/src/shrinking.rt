@@ -1,4 +1,4 @@
-//! Lists of sizes that are shrunk by each priority.
+//! Shrinks lists of sizes by each priority.
 
 use crate::fault::Fault;
 use crate::reading::{list_at, list_of, number_at, numbers_of};
@@ -7,28 +7,27 @@ use std::alloc::Global;
 use tabled::settings::peaker::{Peaker, Priority, Steps};
 use toml::Value;
 
-/// Compares the lists that the priorities make with those that are wanted of them.
-pub fn judge_sizes(alloc: Global, case: &toml::Table, report: &mut String) -> Result<(), Fault> {
-    let mut asked = false;
+/// Compares the list that each priority leaves with the expected one.
+pub fn check_sizes(alloc: Global, case: &toml::Table, report: &mut String) -> Result<(), Fault> {
+    let mut has_expected = false;
     for (priority, value) in case {
-        if !is_given(priority.as_str()) {
-            asked = true;
-            judge_list(alloc, case, priority.as_str(), value, report)?;
+        if !is_input(priority.as_str()) {
+            has_expected = true;
+            check_list(alloc, case, priority.as_str(), value, report)?;
         }
     }
-    if asked {
+    if has_expected {
         Ok(())
     } else {
         Err(Fault::Unknown("nothing is wanted"))
     }
 }
 
-// Whether a key says what is given.
-fn is_given(key: &str) -> bool {
+fn is_input(key: &str) -> bool {
     key == "name" || key == "sizes" || key == "minimums" || key == "by"
 }
 
-fn judge_list(
+fn check_list(
     alloc: Global,
     case: &toml::Table,
     priority: &str,
@@ -39,23 +38,23 @@ fn judge_list(
     let mut sizes = numbers_of(alloc, list_at(case, "sizes")?)?;
     let by = number_at(case, "by")?;
     let steps = shrink(priority, minimums.as_slice(), sizes.as_mut_slice(), by)?;
-    if steps > most_steps(sizes.len()) {
+    if steps > max_steps(sizes.len()) {
         return Err(Fault::Unknown("too many steps"));
     }
-    let left = shown_numbers(alloc, sizes.as_slice())?;
-    let wanted = numbers_of(alloc, list_of(value)?)?;
-    let wanted = shown_numbers(alloc, wanted.as_slice())?;
-    compare(report, priority, left.as_str(), wanted.as_str())?;
+    let actual = shown_numbers(alloc, sizes.as_slice())?;
+    let expected = numbers_of(alloc, list_of(value)?)?;
+    let expected = shown_numbers(alloc, expected.as_slice())?;
+    compare(report, priority, actual.as_str(), expected.as_str())?;
     Ok(())
 }
 
-// The visits of columns that are enough for so many sizes, whatever is taken of them.
-fn most_steps(count: usize) -> usize {
+// A bound that doesn't depend on the amount: shrinking must not take one step per column of width.
+fn max_steps(count: usize) -> usize {
     let side = count.saturating_add(1);
     side.saturating_mul(side).saturating_mul(8)
 }
 
-// Shrinks a list, and answers the steps that were taken.
+// Returns the number of steps.
 fn shrink(
     priority: &str,
     minimums: &[usize],

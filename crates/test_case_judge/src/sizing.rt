@@ -1,4 +1,4 @@
-//! Texts, cells and tables that get some columns or lines.
+//! Runs the commands that change the width or height of strings, cells and tables.
 
 use crate::fault::Fault;
 use crate::never::Never;
@@ -14,7 +14,7 @@ use tabled::settings::width::{Justify, MinWidth, SuffixLimit, Truncate, Wrap};
 use tabled::settings::{CellOption, Height, Width};
 use tabled::{Table, TableError};
 
-/// What is done to get some columns or lines.
+/// The way to change a width or height. The last two change heights.
 #[derive(Clone, Copy)]
 pub enum Change {
     Wrap,
@@ -24,7 +24,7 @@ pub enum Change {
     Limit,
 }
 
-/// How many columns or lines there are to be, and how they are reached.
+/// The new width or height, and the options of the change.
 #[derive(Clone, Copy)]
 struct Sizing<'a> {
     size: usize,
@@ -37,8 +37,8 @@ struct Sizing<'a> {
 }
 
 impl<'a> Sizing<'a> {
-    // Takes another word: `keep_words`, `multiline`, `suffix=`, `limit=`, `fill=` or `priority=`.
-    fn take(&mut self, word: &'a str) -> Result<(), Fault> {
+    // `keep_words`, `multiline`, `suffix=`, `limit=`, `fill=` or `priority=`.
+    fn set_option(&mut self, word: &'a str) -> Result<(), Fault> {
         match word.split_once('=') {
             Some(("suffix", suffix)) => self.suffix = suffix,
             Some(("priority", priority)) => self.priority = priority,
@@ -67,7 +67,7 @@ impl<'a> Sizing<'a> {
     }
 }
 
-// What is done with a suffix that has no room: `cut`, `ignore`, or the character that takes its place.
+// What to do if the suffix is too wide: `cut`, `ignore`, or a character that replaces it.
 fn limit(name: &str) -> Result<SuffixLimit, Fault> {
     match name {
         "cut" => Ok(SuffixLimit::Cut),
@@ -79,7 +79,6 @@ fn limit(name: &str) -> Result<SuffixLimit, Fault> {
     }
 }
 
-// The columns or lines, and how they are reached.
 fn read<'a>(words: &mut Words<'a>) -> Result<Sizing<'a>, Fault> {
     let mut sizing = Sizing {
         size: words.number()?,
@@ -92,13 +91,13 @@ fn read<'a>(words: &mut Words<'a>) -> Result<Sizing<'a>, Fault> {
     };
     for word in words.others().split(' ') {
         if !word.is_empty() {
-            sizing.take(word)?;
+            sizing.set_option(word)?;
         }
     }
     Ok(sizing)
 }
 
-/// Changes the cells of an entity, or the whole table.
+/// Changes the cells of an entity, or the entire table.
 pub fn resize(table: &mut Table, change: Change, words: &mut Words<'_>) -> Result<(), Fault> {
     let part = words.part()?;
     let sizing = read(words)?;
@@ -123,7 +122,7 @@ fn resize_cells(
     }
 }
 
-/// Sets the cells of an entity by an option.
+/// Applies an option to the cells of an entity.
 pub fn set_part<O: CellOption<VecRecords<Text<String>>, ColoredConfig>>(
     table: &mut Table,
     entity: Entity,
@@ -167,8 +166,7 @@ fn resize_by<P: Peaker + Drop>(
     }
 }
 
-/// Wraps the whole table to a measure of it: the columns of its greatest or its least texts, or so many hundredths of
-/// its own.
+/// Wraps the table to the width of its widest or narrowest cell, or to a percentage of its width.
 pub fn wrap_to(table: &mut Table, measure: &str) -> Result<(), Fault> {
     match measure {
         "max" => table.apply(Width::wrap(Max))?,
@@ -178,7 +176,7 @@ pub fn wrap_to(table: &mut Table, measure: &str) -> Result<(), Fault> {
     Ok(())
 }
 
-/// Truncates the whole table to a measure of it.
+/// Truncates the table to a width as in `wrap_to`.
 pub fn truncate_to(table: &mut Table, measure: &str) -> Result<(), Fault> {
     match measure {
         "max" => table.apply(Width::truncate(Max))?,
@@ -188,7 +186,7 @@ pub fn truncate_to(table: &mut Table, measure: &str) -> Result<(), Fault> {
     Ok(())
 }
 
-/// Gives all cells the columns of a measure.
+/// Makes all cells equally wide: as the widest, as the narrowest, or n columns.
 pub fn justify_to(table: &mut Table, measure: &str) -> Result<(), Fault> {
     match measure {
         "max" => table.apply(Justify::max())?,
@@ -198,13 +196,14 @@ pub fn justify_to(table: &mut Table, measure: &str) -> Result<(), Fault> {
     Ok(())
 }
 
-/// Limits the whole table to hundredths of its lines.
+/// Limits the table to a percentage of its height.
 pub fn limit_to(table: &mut Table, measure: &str) -> Result<(), Fault> {
     table.apply(Height::limit(percent(measure)?))?;
     Ok(())
 }
 
-/// Wraps or truncates the whole table to so many columns less than it takes, which it has to take then.
+/// Wraps or truncates the table to `less` columns less than its total width. Fails if it doesn't get
+/// exactly that width.
 pub fn narrow_by(table: &mut Table, kind: &str, less: usize) -> Result<(), Fault> {
     let wanted = table.total_width()?.saturating_sub(less);
     if kind == "wrap_by" {
@@ -219,7 +218,6 @@ pub fn narrow_by(table: &mut Table, kind: &str, less: usize) -> Result<(), Fault
     }
 }
 
-// A number with a per cent sign.
 fn percent(measure: &str) -> Result<Percent, Fault> {
     match measure.strip_suffix('%') {
         Some(word) => Ok(Percent(number(word)?)),
@@ -227,7 +225,7 @@ fn percent(measure: &str) -> Result<Percent, Fault> {
     }
 }
 
-/// A text that is cut, split, wrapped or truncated by itself. What follows a text that is split stands behind a bar.
+/// Cuts, splits, wraps or truncates one string. `split` puts a bar between the two parts.
 pub fn narrowed(alloc: Global, text: &str, by: &str) -> Result<String, Fault> {
     let mut words = Words::new(by);
     match words.word() {

@@ -1,10 +1,10 @@
-//! Commands, word by word.
+//! Reads commands word by word.
 
 use crate::fault::Fault;
 use std::alloc::Global;
 use tabled::grid::config::Entity;
 
-/// The words of a command that aren't read yet.
+/// The unread words of a command, separated by single spaces.
 #[derive(Clone, Copy)]
 pub struct Words<'a> {
     rest: &'a str,
@@ -15,7 +15,7 @@ impl<'a> Words<'a> {
         Words { rest }
     }
 
-    /// The next word; none is the empty one.
+    /// The next word, or an empty string at the end.
     pub fn word(&mut self) -> &'a str {
         let (word, rest) = match self.rest.split_once(' ') {
             Some((word, rest)) => (word, rest),
@@ -25,24 +25,22 @@ impl<'a> Words<'a> {
         word
     }
 
-    /// All other words.
+    /// All remaining words.
     pub fn others(&mut self) -> &'a str {
         let others = self.rest;
         self.rest = "";
         others
     }
 
-    /// The next word as a number.
     pub fn number(&mut self) -> Result<usize, Fault> {
         number(self.word())
     }
 
-    /// The next word as a character, or none.
     pub fn mark(&mut self) -> Result<Option<char>, Fault> {
         mark(self.word())
     }
 
-    /// The next words as the cells that are meant. The word `table` names no cells.
+    /// The cells that the next words name, or `None` for `table`.
     pub fn part(&mut self) -> Result<Option<Entity>, Fault> {
         match self.word() {
             "table" => Ok(None),
@@ -57,7 +55,7 @@ impl<'a> Words<'a> {
         }
     }
 
-    /// All other words as numbers.
+    /// All remaining words as numbers.
     pub fn numbers(&mut self, alloc: Global) -> Result<Vec<usize>, Fault> {
         let mut numbers = Vec::new(alloc);
         for word in self.others().split(' ') {
@@ -68,13 +66,12 @@ impl<'a> Words<'a> {
         Ok(numbers)
     }
 
-    /// Whether there are other words.
     pub fn has_more(&self) -> bool {
         !self.rest.is_empty()
     }
 }
 
-/// A number in digits, or the greatest one.
+/// Digits, or `greatest` for `usize::MAX`.
 pub fn number(word: &str) -> Result<usize, Fault> {
     if word == "greatest" {
         return Ok(usize::MAX);
@@ -85,7 +82,7 @@ pub fn number(word: &str) -> Result<usize, Fault> {
     }
 }
 
-/// A character by itself, or the word for none.
+/// A single character, or `none`.
 pub fn mark(word: &str) -> Result<Option<char>, Fault> {
     if word == "none" {
         return Ok(None);

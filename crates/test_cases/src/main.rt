@@ -1,50 +1,49 @@
-//! Tables beside their pictures: reads cases from standard input, has each judged, and tells of each that doesn't come
-//! out as it should.
+//! Checks the test cases on standard input, and prints a report for each one that fails.
 #![tactic(auto)]
 
 use anyhow::{Result, bail};
 use std::alloc::Global;
 use std::io;
-use test_case_judge::{list_of, text_of, told};
+use test_case_judge::{check_case, list_of, text_of};
 use toml::Value;
 
 fn main(rt: HostRuntime) -> Result<()> {
     let input = io::read_to_string(rt.alloc(), rt.stdin())?;
     let document = toml::table_from_str(rt.alloc(), input.as_str())?;
-    let mut held: usize = 0;
+    let mut passed: usize = 0;
     let mut failed: usize = 0;
     for (kind, cases) in &document {
-        let (right, wrong) = tell_all(&rt, rt.alloc(), kind.as_str(), cases)?;
-        held = held.saturating_add(right);
-        failed = failed.saturating_add(wrong);
+        let (more_passed, more_failed) = check_all(&rt, rt.alloc(), kind.as_str(), cases)?;
+        passed = passed.saturating_add(more_passed);
+        failed = failed.saturating_add(more_failed);
     }
     if failed > 0 {
-        bail!("{failed} cases don't hold, {held} do");
+        bail!("{failed} cases don't hold, {passed} do");
     }
-    println!(rt; "{held} cases hold")?;
+    println!(rt; "{passed} cases hold")?;
     Ok(())
 }
 
-// Tells of the cases of a kind that don't hold, and answers how many hold and how many don't.
-fn tell_all(rt: &impl Print, alloc: Global, kind: &str, cases: &Value) -> Result<(usize, usize)> {
-    let mut held: usize = 0;
+// Prints the reports of one kind of cases, and returns the numbers of passed and failed cases.
+fn check_all(rt: &impl Print, alloc: Global, kind: &str, cases: &Value) -> Result<(usize, usize)> {
+    let mut passed: usize = 0;
     let mut failed: usize = 0;
     for case in list_of(cases)? {
-        if tell(rt, alloc, kind, case)? {
-            held = held.saturating_add(1);
+        if check(rt, alloc, kind, case)? {
+            passed = passed.saturating_add(1);
         } else {
             failed = failed.saturating_add(1);
         }
     }
-    Ok((held, failed))
+    Ok((passed, failed))
 }
 
-// Tells of a case that doesn't hold, and answers whether it holds.
-fn tell(rt: &impl Print, alloc: Global, kind: &str, case: &Value) -> Result<bool> {
+// Prints the report of a case that fails, and returns whether the case passed.
+fn check(rt: &impl Print, alloc: Global, kind: &str, case: &Value) -> Result<bool> {
     let Some(case) = case.as_table() else {
         bail!("a case is no table");
     };
-    let report = told(alloc, kind, case)?;
+    let report = check_case(alloc, kind, case)?;
     if report.is_empty() {
         return Ok(true);
     }

@@ -1,4 +1,4 @@
-//! How rows and boxes are printed without a `Table`.
+//! The options of the printers that keep no `Table`, read from commands.
 
 use crate::fault::Fault;
 use crate::settings::{read_sides, style_of};
@@ -8,9 +8,9 @@ use tabled::grid::config::{ANSIStr, AlignmentHorizontal, Borders, CompactConfig,
 use tabled::grid::dimension::{DimensionPriority, PoolTableDimension};
 use tabled::settings::Style;
 
-/// What commands say of a picture.
+/// The options of one case. A printer uses those that apply to it.
 #[derive(Drop)]
-pub struct Look {
+pub struct PrintOptions {
     pub config: CompactConfig,
     pub boxes: PoolTableDimension,
     pub widths: Vec<usize>,
@@ -22,12 +22,12 @@ pub struct Look {
     pub skip: usize,
 }
 
-impl Look {
-    /// Ascii borders, and one column of padding left and right.
-    pub fn new(alloc: Global) -> Look {
+impl PrintOptions {
+    /// Ascii borders, and one column of padding on the left and right.
+    pub fn new(alloc: Global) -> PrintOptions {
         let one = Indent::spaced(1);
         let none = Indent::zero();
-        Look {
+        PrintOptions {
             config: CompactConfig::new()
                 .set_borders(Style::ascii().get_borders())
                 .set_padding(Sides::new(one, one, none, none)),
@@ -42,8 +42,8 @@ impl Look {
         }
     }
 
-    /// Takes a command of a kind of cases.
-    pub fn take(&mut self, alloc: Global, kind: &str, command: &str) -> Result<(), Fault> {
+    /// Sets the option that a command names. `kind` says which options exist.
+    pub fn set(&mut self, alloc: Global, kind: &str, command: &str) -> Result<(), Fault> {
         let mut words = Words::new(command);
         match (kind, words.word()) {
             ("compact", "widths") => self.widths = words.numbers(alloc)?,
@@ -66,7 +66,7 @@ impl Look {
     }
 }
 
-// Which boxes take what is left over.
+// Which boxes get the surplus size.
 fn priority(word: &str) -> Result<DimensionPriority, Fault> {
     match word {
         "first" => Ok(DimensionPriority::First),
@@ -76,7 +76,6 @@ fn priority(word: &str) -> Result<DimensionPriority, Fault> {
     }
 }
 
-// The settings with another one.
 fn configured(
     config: CompactConfig,
     name: &str,
@@ -97,7 +96,7 @@ fn configured(
     }
 }
 
-// A colour by its letter: the upper one is written before a run, and the lower one behind it.
+// A colour writes its letter in upper case before a run, and in lower case after it.
 fn color(letter: &str) -> Result<ANSIStr<'static>, Fault> {
     match letter {
         "none" => Ok(ANSIStr::new("", "")),
@@ -112,7 +111,6 @@ fn color(letter: &str) -> Result<ANSIStr<'static>, Fault> {
     }
 }
 
-// The colours of borders with another one at a place.
 fn with_color(
     mut colors: Borders<ANSIStr<'static>>,
     words: &mut Words<'_>,
@@ -131,7 +129,7 @@ fn with_color(
     Ok(colors)
 }
 
-// The colours of the left, the right, the top and the bottom.
+// Left, right, top and bottom.
 fn read_colors(words: &mut Words<'_>) -> Result<Sides<ANSIStr<'static>>, Fault> {
     let left = color(words.word())?;
     let right = color(words.word())?;
