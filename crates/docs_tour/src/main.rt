@@ -1,21 +1,21 @@
-//! The tour of the README: what people do with tables, printed one after the other.
+//! The tour of the README: prints one table for each common task.
 #![tactic(auto)]
 
-mod made;
+mod errors;
 mod narrow;
-mod refused;
+mod sources;
 mod streamed;
 
 use anyhow::Result;
 
 fn main(rt: HostRuntime) -> Result<()> {
     let alloc = rt.alloc();
-    println!(rt; "{}\n", made::from_values(alloc)?)?;
-    println!(rt; "{}\n", made::from_text(alloc)?)?;
-    let table = made::from_csv(alloc, made::CITIES)?;
-    println!(rt; "{}\n", narrow::dressed(table)?)?;
-    println!(rt; "{}\n", streamed::as_they_come(alloc)?)?;
-    println!(rt; "{}", refused::too_narrow(alloc)?)?;
-    println!(rt; "{:?}", refused::columns())?;
+    println!(rt; "{}\n", sources::from_values(alloc)?)?;
+    println!(rt; "{}\n", sources::from_text(alloc)?)?;
+    let table = sources::from_csv(alloc, sources::CITIES)?;
+    println!(rt; "{}\n", narrow::styled(table)?)?;
+    println!(rt; "{}\n", streamed::stream_rows(alloc)?)?;
+    println!(rt; "{}", errors::too_narrow(alloc)?)?;
+    println!(rt; "{:?}", errors::widths())?;
     Ok(())
 }

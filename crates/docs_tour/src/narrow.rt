@@ -1,12 +1,12 @@
-//! A style, numbers at the right, and a width.
+//! Sets a style, right-aligned numbers, and a width.
 
 use tabled::grid::config::{AlignmentHorizontal, Entity};
 use tabled::settings::peaker::Priority;
 use tabled::settings::{Style, Width};
 use tabled::{Table, TableError};
 
-/// At most 44 columns: the widest column gives way first, and lines break between words.
-pub fn dressed(mut table: Table) -> Result<String, TableError> {
+/// At most 44 columns wide: the widest column shrinks first, and lines break between words.
+pub fn styled(mut table: Table) -> Result<String, TableError> {
     let config = table.get_config_mut().as_mut();
     config.set_alignment_horizontal(Entity::Column(2), AlignmentHorizontal::Right)?;
     let narrow = Width::wrap(44).keep_words(true);

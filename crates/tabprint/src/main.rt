@@ -1,41 +1,42 @@
-//! Prints tab-separated rows from standard input as a table on standard output. Its stored run wraps the texts.
+//! Prints tab-separated rows from standard input as a table on standard output.
+//! The recorded output shows a table that is wrapped.
 #![tactic(auto)]
 
 use std::process::ExitCode;
 use std::{env, io};
 use tabled::run;
 
-/// The status is that of `run`, or 1 with a word on standard error where the words of the command line can't be had.
+/// Returns the status of `run`. If the arguments can't be read, prints an error and returns 1.
 fn main(rt: HostRuntime) -> ExitCode {
-    let words = match arguments(&rt) {
-        Ok(words) => words,
+    let arguments = match read_arguments(&rt) {
+        Ok(arguments) => arguments,
         Err(error) => {
-            let _ = eprintln!(rt; "{}", fault_word(&error));
+            let _ = eprintln!(rt; "{}", error_name(&error));
             return ExitCode::from(1);
         }
     };
     ExitCode::from(run(
         rt.alloc(),
-        words.as_slice(),
+        arguments.as_slice(),
         &mut rt.stdin(),
         &mut rt.stdout(),
         &mut rt.stderr(),
     ))
 }
 
-/// The line for words that couldn't be had: memory was refused, or one is no UTF-8.
-fn fault_word(error: &io::Error) -> &'static str {
+/// Reading arguments fails for one of two reasons: an allocation failed, or one isn't UTF-8.
+fn error_name(error: &io::Error) -> &'static str {
     match error.kind() {
         io::ErrorKind::OutOfMemory => "Memory",
         _ => "Input",
     }
 }
 
-/// The words behind the program's name.
-fn arguments(rt: &HostRuntime) -> io::Result<Vec<String>> {
-    let mut words = Vec::new(rt.alloc());
-    for word in env::args(rt)?.skip(1) {
-        words.push(word)?;
+/// The arguments without the program's name.
+fn read_arguments(rt: &HostRuntime) -> io::Result<Vec<String>> {
+    let mut arguments = Vec::new(rt.alloc());
+    for argument in env::args(rt)?.skip(1) {
+        arguments.push(argument)?;
     }
-    Ok(words)
+    Ok(arguments)
 }

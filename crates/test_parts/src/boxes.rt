@@ -1,4 +1,4 @@
-//! Copies of boxes, and deep trees, which are dropped without recursion.
+//! Tests copies of `PoolTable`, and deep trees, which must be dropped without recursion.
 
 use std::alloc::Global;
 use std::test::Fail;
@@ -11,7 +11,7 @@ const PAIR: &str = "\
 | Hello | World |
 +-------+-------+";
 
-// Whether a copy equals its table, also once that is set.
+// Whether a copy equals its table, before and after the style of the table changes.
 fn equal_copies(table: &mut PoolTable) -> Result<(bool, bool), TableError> {
     let copy = table.clone()?;
     let is_equal = copy == *table;
@@ -34,7 +34,7 @@ fn a_table_is_displayed_without_a_width(rt: HostRuntime) -> Result<(), Fail> {
     Ok(())
 }
 
-// A text in n rows and columns, each of one box.
+// A text in `levels` nested rows and columns of one box each.
 fn wrapped(alloc: Global, levels: usize) -> Result<TableValue, TableError> {
     let mut value = TableValue::Cell(String::from_str(alloc, "a")?);
     for level in 0..levels {

@@ -1,6 +1,5 @@
-//! Tests of parts of the library that aren't data of `test_cases`, nor told by a clause: worked
-//! examples of texts and priorities, kinds of rows, options, measures, values, sinks and sources of
-//! a caller's own, and deep trees. All code here is for tests.
+//! Tests what no contract states and `test_cases` doesn't cover. Many tests implement a trait of the
+//! library, as a user would.
 #![tactic(auto)]
 
 #[cfg(test)]

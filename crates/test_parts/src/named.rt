@@ -1,4 +1,4 @@
-//! A value whose field has a name of its own.
+//! A value whose field name must be escaped.
 ghost use Rattle.std.specs.Prelude.{◌≡◌, ◌∷◌, [], codes};
 
 use std::alloc::Global;
@@ -6,7 +6,7 @@ use std::borrow::CowStr;
 use tabled_base::TableError;
 use tabled_value::Tabled;
 
-/// A text under a name with a quote.
+/// The name of its field contains a quote.
 #[derive(Drop)]
 pub(crate) struct Quoted(pub &'static str);
 

@@ -1,4 +1,4 @@
-//! Options and measures of a caller's own.
+//! Tests custom options and measurements.
 ghost use Rattle.std.specs.Prelude.{◌≡◌, ◌≤◌, ◌+◌, ◌^◌, length};
 ghost use Rattle.tabled_base.specs.declared.error.TableError.TheVariants.{Range};
 
@@ -11,7 +11,7 @@ use tabled_base::{
 use tabled_config::{ColoredConfig, SpannedConfig};
 use tabled_set::{Measurement, Width, Wrap};
 
-// Counts in the configuration how often it was applied.
+// The configuration is the number of times that the option was applied.
 #[derive(Drop)]
 struct Counted;
 
@@ -59,7 +59,7 @@ fn an_option_counts_up_to_the_range(rt: HostRuntime) {
     assert_eq!(rt; (first, second), (Ok(()), Err(TableError::Range)));
 }
 
-// As many as there are rows.
+// Measures the number of rows.
 #[derive(Drop)]
 struct AsRows;
 
@@ -75,7 +75,7 @@ impl Measurement<Width> for AsRows {
     }
 }
 
-// A number past the range.
+// Always fails with `Range`.
 #[derive(Drop)]
 struct Endless;
 
@@ -93,28 +93,28 @@ impl Measurement<Width> for Endless {
     }
 }
 
-// What an option answers on the second row, and what it leaves of the cells.
-fn tried<O: CellOption<VecRecords<Text<String>>, ColoredConfig>>(
+// Returns the result of an option on the second row, and the cells afterwards.
+fn change_row<O: CellOption<VecRecords<Text<String>>, ColoredConfig>>(
     alloc: Global,
     option: &O,
 ) -> Result<(Result<(), TableError>, String), TableError> {
     let mut records = records_of(alloc, ROWS)?;
     let mut config = ColoredConfig::new(SpannedConfig::new(alloc));
-    let answer = option.change(&mut records, &mut config, Entity::Row(1));
-    Ok((answer, shown(alloc, &records)?))
+    let outcome = option.change(&mut records, &mut config, Entity::Row(1));
+    Ok((outcome, shown(alloc, &records)?))
 }
 
 #[test]
 fn a_measure_reads_the_records(rt: HostRuntime) -> Result<(), Fail> {
-    let (answer, left) = tried(rt.alloc(), &Wrap::new(AsRows))?;
-    assert!(rt; answer == Ok(()) && left.as_str() == "2x2 [abc][de] [fg\nh][ij\nk]");
+    let (outcome, left) = change_row(rt.alloc(), &Wrap::new(AsRows))?;
+    assert!(rt; outcome == Ok(()) && left.as_str() == "2x2 [abc][de] [fg\nh][ij\nk]");
     Ok(())
 }
 
 #[test]
-fn a_refused_measure_leaves_the_cells(rt: HostRuntime) -> Result<(), Fail> {
-    let (answer, left) = tried(rt.alloc(), &Width::truncate(Endless))?;
-    assert!(rt; answer == Err(TableError::Range));
+fn a_failed_measure_leaves_the_cells(rt: HostRuntime) -> Result<(), Fail> {
+    let (outcome, left) = change_row(rt.alloc(), &Width::truncate(Endless))?;
+    assert!(rt; outcome == Err(TableError::Range));
     assert!(rt; left.as_str() == "2x2 [abc][de] [fgh][ijk]");
     Ok(())
 }

@@ -1,5 +1,4 @@
-//! Worked examples of the priorities: lists that grow, and columns that are named. Lists that shrink
-//! are data of `test_cases`.
+//! Tests how priorities grow lists and select columns. `test_cases` covers lists that shrink.
 
 use tabled_priority::{Peaker, Priority, PriorityNone, Steps, is_level};
 

@@ -1,4 +1,4 @@
-//! How far streamed tables read their source.
+//! Tests how many rows an `IterTable` takes from its source.
 ghost use Rattle.std.specs.Prelude.{[], ◌∷◌};
 
 use std::alloc::Global;
@@ -10,7 +10,7 @@ use tabled_base::{CellText, TableError};
 use tabled_line::IoSink;
 use tabled_table::IterTable;
 
-// Takes n bytes, and then none.
+// Accepts `left` more bytes.
 #[derive(Drop)]
 struct Narrow {
     left: usize,
@@ -28,7 +28,7 @@ impl Write for Narrow {
     }
 }
 
-// A cell that lends nothing, so that its rows may be lent.
+// A cell without borrowed data, so that the table can borrow the iterator of its rows.
 #[derive(Drop, Clone, Copy)]
 struct Word {}
 
@@ -46,7 +46,7 @@ fn hundred(alloc: Global) -> Result<Source, TableError> {
     Ok(vec![in alloc; [Word {}, Word {}]; 100]?.into_iter())
 }
 
-// Sniffs some rows, shows some of them, and returns how many of the source are left.
+// Returns the number of rows left in the source.
 fn left(alloc: Global, sniffed: usize, shown: usize) -> Result<usize, TableError> {
     let mut rows = hundred(alloc)?;
     let mut table = IterTable::new(&mut rows);
@@ -56,7 +56,7 @@ fn left(alloc: Global, sniffed: usize, shown: usize) -> Result<usize, TableError
     Ok(rows.len())
 }
 
-// Rows that are sniffed, that are shown, and that are left.
+// Rows sniffed, rows shown, and rows left in the source.
 const LEFT: [(usize, usize, usize); 3] = [(0, 0, 100), (2, 3, 97), (2, 1, 98)];
 
 #[test]
@@ -67,17 +67,19 @@ fn no_row_is_taken_that_is_neither_sniffed_nor_shown(rt: HostRuntime) -> Result<
     Ok(())
 }
 
-// Prints through a writer that takes n bytes, and returns how many rows are left.
+// Prints to a writer that fails after `bytes` bytes, and returns the number of rows left.
 fn left_behind(rows: &mut Source, alloc: Global, bytes: usize) -> (Result<(), TableError>, usize) {
     let mut table = IterTable::new(&mut *rows);
     table.sniff(1);
-    let answer = table.fmt(alloc, &mut IoSink::new(Narrow { left: bytes }));
-    (answer, rows.len())
+    let outcome = table.fmt(alloc, &mut IoSink::new(Narrow { left: bytes }));
+    (outcome, rows.len())
 }
 
+// Bytes that the writer accepts, and rows left in the source.
 const TAKEN: [(usize, usize); 3] = [(0, 99), (54, 98), (55, 97)];
 
-// The horizontal lines above two rows and the rows are four lines of 13 bytes, with three line feeds.
+// Two rows and the horizontal lines above them take 55 bytes: four lines of 13, and three line
+// feeds.
 #[test]
 fn a_row_is_taken_once_the_lines_above_it_are_out(rt: HostRuntime) -> Result<(), Fail> {
     for (bytes, rows) in TAKEN {
@@ -88,14 +90,14 @@ fn a_row_is_taken_once_the_lines_above_it_are_out(rt: HostRuntime) -> Result<(),
     Ok(())
 }
 
-// Equal rows of one letter, and one of two behind them.
+// Prints `count` rows of one letter, and then a row of two.
 fn widened(alloc: Global, count: usize) -> Result<String, TableError> {
     let mut rows = vec![in alloc; ["a"]; count]?;
     rows.push(["bb"])?;
     IterTable::new(rows).to_string(alloc)
 }
 
-// A thousand rows are sniffed where nothing else is said: the row behind them is cut to theirs.
+// By default 1,000 rows are sniffed, so that row 1,001 is cut to their width.
 #[test]
 fn a_thousand_rows_are_sniffed(rt: HostRuntime) -> Result<(), Fail> {
     let text = widened(rt.alloc(), 1000)?;

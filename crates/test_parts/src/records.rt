@@ -1,4 +1,4 @@
-//! Records of values, and headers that a function returns.
+//! Tests `ExtendedTable`: escaping, copies, and headers that a function returns.
 
 use crate::named::Quoted;
 use crate::shown::assert_text;
@@ -35,8 +35,8 @@ fn both(alloc: Global, first: &'static str) -> Result<ExtendedTable, TableError>
     ExtendedTable::from_rows(alloc, [["k"], [first], ["w"]])
 }
 
-// What printing under headers that a function returns leaves in a text.
-fn left_under<G: LabelFn + Drop>(
+// Returns also the text that was printed before an error.
+fn print_under<G: LabelFn + Drop>(
     alloc: Global,
     table: ExtendedTable,
     g: G,
@@ -44,18 +44,18 @@ fn left_under<G: LabelFn + Drop>(
     requires { G.callable g }
 {
     let mut text = String::new(alloc);
-    let answer = table.template(FnTemplate::new(g)).write_to(&mut text);
-    (answer, text)
+    let outcome = table.template(FnTemplate::new(g)).write_to(&mut text);
+    (outcome, text)
 }
 
-// A character of two columns takes two.
+// The line is as wide as `中`, which is two columns wide.
 #[test]
 fn an_empty_header_is_a_line(rt: HostRuntime) -> Result<(), Fail> {
     let alloc = rt.alloc();
     let table = both(alloc, "中")?;
-    let (answer, text) = left_under(alloc, table, |_index: usize| Ok(String::new(alloc)));
+    let (outcome, text) = print_under(alloc, table, |_index: usize| Ok(String::new(alloc)));
     assert_eq!(rt;
-        (answer, text.as_str()),
+        (outcome, text.as_str()),
         (Ok(()), "--+---\nk | 中\n--+---\nk | w")
     );
     Ok(())
@@ -70,20 +70,19 @@ fn a_failed_header_leaves_the_records_before_its_own(rt: HostRuntime) -> Result<
         (2, "-r0--\nk | v\n-r1--\nk | w"),
     ] {
         let table = both(alloc, "v")?;
-        let (answer, text) = left_under(alloc, table, |index: usize| {
+        let (outcome, text) = print_under(alloc, table, |index: usize| {
             if index < first {
                 format!(in alloc; "r{index}")
             } else {
                 Err(AllocError)
             }
         });
-        assert_eq!(rt; (answer.is_ok(), text.as_str()), (first == 2, wanted));
+        assert_eq!(rt; (outcome.is_ok(), text.as_str()), (first == 2, wanted));
     }
     Ok(())
 }
 
-// What Display writes of a copy of a table.
-fn copied(alloc: Global, table: &ExtendedTable) -> Result<String, TableError> {
+fn display_copy(alloc: Global, table: &ExtendedTable) -> Result<String, TableError> {
     let copy = table.clone()?;
     Ok(format!(in alloc; "{copy}")?)
 }
@@ -92,5 +91,5 @@ fn copied(alloc: Global, table: &ExtendedTable) -> Result<String, TableError> {
 fn a_copy_displays_the_same_picture(rt: HostRuntime) -> Result<(), Fail> {
     let table = both(rt.alloc(), "v")?;
     let wanted = "-[ RECORD 0 ]-\nk | v\n-[ RECORD 1 ]-\nk | w";
-    assert_text(&rt, copied(rt.alloc(), &table), wanted)
+    assert_text(&rt, display_copy(rt.alloc(), &table), wanted)
 }

@@ -1,4 +1,4 @@
-//! The words of errors, and kinds of rows and records that are walked.
+//! Tests the messages of errors, and the types of rows and records that can be iterated.
 
 use crate::shown::{assert_text, records_of, shown};
 use std::alloc::Global;
@@ -6,7 +6,7 @@ use std::test::Fail;
 use tabled_base::{Builder, CellText, IntoRecords, Records, TableError};
 use tabled_records::{CutCell, EmptyRecords};
 
-const WORDS: [(TableError, &str); 6] = [
+const MESSAGES: [(TableError, &str); 6] = [
     (TableError::Memory, "memory"),
     (TableError::ShortWidths, "short widths"),
     (TableError::ShortHeights, "short heights"),
@@ -16,16 +16,16 @@ const WORDS: [(TableError, &str); 6] = [
 ];
 
 #[test]
-fn each_error_has_its_words(rt: HostRuntime) -> Result<(), Fail> {
-    for (error, words) in WORDS {
+fn each_error_has_its_message(rt: HostRuntime) -> Result<(), Fail> {
+    for (error, message) in MESSAGES {
         let found = format!(in rt.alloc(); "{error}")?;
-        assert!(rt; found.as_str() == words, "at {words}");
+        assert!(rt; found.as_str() == message, "at {message}");
     }
     Ok(())
 }
 
-// The rows as a builder takes them, through `IntoRecords` alone.
-fn walked<I: IntoRecords>(alloc: Global, rows: I) -> Result<String, TableError>
+// Reads the rows as a builder does, through `IntoRecords` alone.
+fn collect_rows<I: IntoRecords>(alloc: Global, rows: I) -> Result<String, TableError>
 where
     I::Cell: CellText + Drop,
     requires { I.ends rows }
@@ -37,22 +37,22 @@ where
 const WANT: &str = "2x2 [a][bb] [ccc][]";
 
 #[test]
-fn slices_of_rows_are_walked(rt: HostRuntime) -> Result<(), Fail> {
+fn slices_of_rows_are_iterated(rt: HostRuntime) -> Result<(), Fail> {
     let rows = [["a", "bb"], ["ccc", ""]];
-    assert_text(&rt, walked(rt.alloc(), &rows[..]), WANT)
+    assert_text(&rt, collect_rows(rt.alloc(), &rows[..]), WANT)
 }
 
 #[test]
-fn iterators_of_rows_are_walked(rt: HostRuntime) -> Result<(), Fail> {
+fn iterators_of_rows_are_iterated(rt: HostRuntime) -> Result<(), Fail> {
     let rows = "a,bb;ccc".split(';').map(|row: &str| row.split(','));
-    assert_text(&rt, walked(rt.alloc(), rows), WANT)
+    assert_text(&rt, collect_rows(rt.alloc(), rows), WANT)
 }
 
 #[test]
 fn borrowed_records_give_their_rows(rt: HostRuntime) -> Result<(), Fail> {
     let records = records_of(rt.alloc(), &[&["a", "bb"], &["ccc", ""]])?;
     let rows = Records::iter_rows(&records);
-    assert_text(&rt, walked(rt.alloc(), rows), WANT)
+    assert_text(&rt, collect_rows(rt.alloc(), rows), WANT)
 }
 
 #[test]

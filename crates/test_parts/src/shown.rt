@@ -1,4 +1,4 @@
-//! Records of the tests, and how their cells are shown.
+//! Records for the tests, and a compact text form of their cells.
 ghost use Rattle.std.specs.Prelude.{◌<◌, length};
 
 use std::alloc::Global;
@@ -6,13 +6,10 @@ use std::process::Abort;
 use std::test::Fail;
 use tabled_base::{Builder, PeekableRecords, Position, TableError, Text, VecRecords};
 
-/// Rows of texts.
 pub(crate) type Rows = &'static [&'static [&'static str]];
 
-/// Four cells.
 pub(crate) const ROWS: Rows = &[&["abc", "de"], &["fgh", "ijk"]];
 
-/// Records of rows.
 pub(crate) fn records_of(
     alloc: Global,
     rows: Rows,
@@ -24,7 +21,7 @@ pub(crate) fn records_of(
     Ok(builder.build())
 }
 
-/// The shape, and the cells row by row, each in brackets.
+/// The shape, and then each row with its cells in brackets.
 pub(crate) fn shown<R: PeekableRecords>(alloc: Global, records: &R) -> Result<String, TableError> {
     let mut all = format!(in alloc; "{}x{}", records.count_rows(), records.count_columns())?;
     for row in 0..records.count_rows() {
@@ -43,7 +40,7 @@ fn show_row<R: PeekableRecords>(all: &mut String, records: &R, row: usize) -> Re
     Ok(())
 }
 
-/// Stops a test where a text isn't the wanted one; one that is refused ends it.
+/// Fails the test if the text differs or is an error.
 pub(crate) fn assert_text(
     rt: &impl Abort,
     text: Result<String, TableError>,

@@ -1,4 +1,4 @@
-//! A sink of a caller's own, whose allocation fails.
+//! Tests a custom sink whose allocation fails.
 
 use std::alloc::Global;
 use std::test::Fail;
@@ -6,7 +6,8 @@ use tabled_base::TableError;
 use tabled_line::TextSink;
 use tabled_table::IterTable;
 
-// The first row is sniffed, and has two lines. A text of the second one ends with a character that is filled in.
+// The first row is sniffed, and has two lines. The second cell of the second row is cut inside of
+// `中`, and filled up to the width.
 const PICTURE: &str = "\
 +----+------+
 | a  | 中中 |
@@ -21,14 +22,14 @@ fn table() -> IterTable<[[&'static str; 2]; 2]> {
     table
 }
 
-// Takes so many texts, and wants memory for the next one that isn't there.
+// Accepts `texts` writes, and then fails with `Memory`.
 #[derive(Drop)]
-struct Sparing {
+struct LimitedSink {
     taken: String,
     texts: usize,
 }
 
-impl TextSink for Sparing {
+impl TextSink for LimitedSink {
     ghost sent = { λ sink. ⟦<String as TextSink>⟧.sent sink.taken };
 
     fn write_text(&mut self, text: &str) -> Result<(), TableError> {
@@ -42,13 +43,13 @@ impl TextSink for Sparing {
 
 fn printed(alloc: Global, texts: usize) -> (Result<(), TableError>, String) {
     let taken = String::new(alloc);
-    let mut sink = Sparing { taken, texts };
-    let answer = table().fmt(alloc, &mut sink);
-    (answer, sink.taken)
+    let mut sink = LimitedSink { taken, texts };
+    let outcome = table().fmt(alloc, &mut sink);
+    (outcome, sink.taken)
 }
 
-fn is_right(answer: Result<(), TableError>, taken: &str) -> bool {
-    match answer {
+fn is_right(outcome: Result<(), TableError>, taken: &str) -> bool {
+    match outcome {
         Ok(()) => taken == PICTURE,
         Err(error) => error == TableError::Memory && PICTURE.starts_with(taken),
     }
@@ -58,9 +59,9 @@ fn is_right(answer: Result<(), TableError>, taken: &str) -> bool {
 fn a_sink_without_memory_stops_a_table_anywhere(rt: HostRuntime) -> Result<(), Fail> {
     let mut last = Ok(());
     for texts in 0..100 {
-        let (answer, taken) = printed(rt.alloc(), texts);
-        assert!(rt; is_right(answer, taken.as_str()), "{texts} texts: {taken}");
-        last = answer;
+        let (outcome, taken) = printed(rt.alloc(), texts);
+        assert!(rt; is_right(outcome, taken.as_str()), "{texts} texts: {taken}");
+        last = outcome;
     }
     assert!(rt; last.is_ok(), "100 texts weren't enough");
     Ok(())

@@ -1,9 +1,10 @@
-//! What texts take, which are plain, where they are cut, and which wrappings have the fewest lines.
+//! Tests functions on strings: width, plain strings, cutting, and wrapping into the fewest lines.
 use tabled_text::{
     count_lines, cut_length, is_additive, is_additive_column, is_fullest, is_plain,
     is_plain_column, lines, text_width,
 };
 
+// A string, its width, and its number of lines.
 const MEASURES: [(&str, usize, usize); 13] = [
     ("", 0, 1),
     ("a", 1, 1),
@@ -64,7 +65,7 @@ fn other_characters_are_not_plain(rt: HostRuntime) {
     }
 }
 
-// `…` and `▀` take one column, as most fills do.
+// `…` and `▀` are one column wide, but not plain.
 const ONE_COLUMN: [(char, bool); 12] = [
     ('a', true),
     (' ', true),
@@ -94,6 +95,7 @@ fn dots_blocks_and_braille_are_additive_columns(rt: HostRuntime) {
     }
 }
 
+// A string, a width, and the length in bytes of a cut that needs no fill.
 const CUTS: [(&str, usize, Option<usize>); 8] = [
     ("123\n456789", 4, Some(8)),
     ("123\n45", 3, Some(3)),
@@ -112,6 +114,7 @@ fn a_cut_without_filling_is_a_beginning(rt: HostRuntime) {
     }
 }
 
+// A string, a wrapping, the width, whether words are kept, and whether the wrapping is fullest.
 const WRAPPINGS: [(&str, &str, usize, bool, bool); 14] = [
     ("111 234 1", "111 \n234 \n1", 4, true, true),
     ("ab", "a\nb", 2, false, false),

@@ -1,11 +1,11 @@
-//! What an error looks like, and what a column is.
+//! Handles an error, and shows how wide strings are.
 
 use std::alloc::Global;
 use tabled::grid::util::string::text_width;
 use tabled::settings::Width;
 use tabled::{Table, TableError};
 
-/// The second column is stored as 2 columns wide, and its first cell needs 4.
+/// The second column is set to a width of 2, and its first cell needs 4 with its padding.
 pub fn too_narrow(alloc: Global) -> Result<&'static str, TableError> {
     let widths = Width::list(alloc, [5, 2])?;
     let mut table = Table::nohead(alloc, [("a", "bb"), ("ccc", "")])?;
@@ -16,8 +16,8 @@ pub fn too_narrow(alloc: Global) -> Result<&'static str, TableError> {
     }
 }
 
-/// The columns that texts take in a terminal, by `unicode_width`.
-pub fn columns() -> [usize; 4] {
+/// The widths of strings in a terminal, by `unicode_width`.
+pub fn widths() -> [usize; 4] {
     [
         text_width("Paris"),
         text_width("北京"),

@@ -1,4 +1,4 @@
-//! Tables of values, of a text, and of comma-separated values.
+//! Makes tables from values, from a string, and from comma-separated values.
 
 use anyhow::bail;
 use csv::ReaderBuilder;
@@ -9,13 +9,13 @@ use tabled::{Plan, Table, TableError, render};
 pub const CITIES: &str =
     "City,Country,People\n\"Vaduz, the capital\",Liechtenstein,5774\n北京,China,21893095\n";
 
-/// A row for each value; here a value is a pair.
+/// Each value is a row. Here a value is a pair.
 pub fn from_values(alloc: Global) -> Result<String, TableError> {
     let rows = [("Ada", 1815), ("Grace", 1906)];
     Table::nohead(alloc, rows)?.to_text()
 }
 
-/// A row for each line, a cell between tabs. No cell is copied.
+/// Each line is a row, and tabs separate its cells. No cell is copied.
 pub fn from_text(alloc: Global) -> Result<String, TableError> {
     let mut out = String::new(alloc);
     let rows = "Name\tBorn\nAda\t1815\nGrace\t1906\n";
@@ -23,7 +23,7 @@ pub fn from_text(alloc: Global) -> Result<String, TableError> {
     Ok(out)
 }
 
-/// A row for each record of the kit's CSV reader.
+/// Each record of the `csv` crate is a row.
 pub fn from_csv(alloc: Global, text: &str) -> anyhow::Result<Table> {
     let mut builder = Builder::new(alloc);
     let mut reader = ReaderBuilder::new();
