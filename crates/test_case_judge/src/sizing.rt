@@ -202,8 +202,8 @@ pub fn limit_to(table: &mut Table, measure: &str) -> Result<(), Fault> {
     Ok(())
 }
 
-/// Wraps or truncates the table to `less` columns less than its total width. Fails if it doesn't get
-/// exactly that width.
+/// Wraps or truncates the table to `less` columns less than its total width. Fails if it gets
+/// another width.
 pub fn narrow_by(table: &mut Table, kind: &str, less: usize) -> Result<(), Fault> {
     let wanted = table.total_width()?.saturating_sub(less);
     if kind == "wrap_by" {

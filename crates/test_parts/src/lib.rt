@@ -1,5 +1,5 @@
-//! Tests what no contract states and `test_cases` doesn't cover. Many tests implement a trait of the
-//! library, as a user would.
+//! Tests what no contract states and `test_cases` doesn't cover. Many tests implement a trait of
+//! the library, as a user would.
 #![tactic(auto)]
 
 #[cfg(test)]
