@@ -68,6 +68,7 @@ impl ShortText {
         }
     }
 
+    #[inline(always)]
     fn text(&self) -> &str
         ensures text { result.now ≡ self.now }
         ensures short { length result.now ≤ SHORT_TEXT }

@@ -63,28 +63,34 @@ impl<'a, R: PeekableRecords> ChangedRecords<'a, R> {
 impl<'a, R: PeekableRecords> ExactRecords for ChangedRecords<'a, R> {
     ghost cells = { λ r. r };
 
+    #[inline(always)]
     fn count_rows(&self) -> usize {
         self.records.count_rows()
     }
 
+    #[inline(always)]
     fn count_columns(&self) -> usize {
         self.records.count_columns()
     }
 }
 
 impl<'a, R: PeekableRecords> PeekableRecords for ChangedRecords<'a, R> {
+    #[inline(always)]
     fn get_text(&self, at: Position) -> &str {
         self.get_measured(at).0
     }
 
+    #[inline(always)]
     fn get_width(&self, at: Position) -> usize {
         self.get_measured(at).1
     }
 
+    #[inline(always)]
     fn count_lines(&self, at: Position) -> usize {
         self.get_measured(at).2
     }
 
+    #[inline(always)]
     fn get_measured(&self, at: Position) -> (&str, usize, usize) {
         let index = index_of(self.records, at);
         match self.cells[index].measured() {

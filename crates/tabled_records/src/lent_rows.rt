@@ -40,24 +40,29 @@ impl<'a> Model for LentRows<'a> {
 impl<'a> ExactRecords for LentRows<'a> {
     ghost cells = { λ r. r };
 
+    #[inline(always)]
     fn count_rows(&self) -> usize {
         self.rows.len()
     }
 
+    #[inline(always)]
     fn count_columns(&self) -> usize {
         self.rows.columns()
     }
 }
 
 impl<'a> PeekableRecords for LentRows<'a> {
+    #[inline(always)]
     fn get_text(&self, at: Position) -> &str {
         self.get_measured(at).0
     }
 
+    #[inline(always)]
     fn get_width(&self, at: Position) -> usize {
         self.get_measured(at).1
     }
 
+    #[inline(always)]
     fn count_lines(&self, at: Position) -> usize {
         self.get_measured(at).2
     }

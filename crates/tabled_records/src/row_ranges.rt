@@ -47,6 +47,7 @@ impl Pairs {
     }
 
     /// Returns the number of pairs.
+    #[inline(always)]
     pub fn len(&self) -> usize
         ensures { result ≡ length self.now }
     {
@@ -124,6 +125,7 @@ impl RowRanges {
     }
 
     /// Returns the number of rows.
+    #[inline(always)]
     pub fn len(&self) -> usize
         ensures { result ≡ length self.now }
     {
@@ -131,6 +133,7 @@ impl RowRanges {
     }
 
     /// Returns the number of texts in the longest row.
+    #[inline(always)]
     pub fn columns(&self) -> usize
         ensures { result ≡ longest_range self.now }
     {
