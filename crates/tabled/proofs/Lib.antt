@@ -2,6 +2,7 @@ pub mod FittedTables
 pub mod LowTables
 pub mod Noting
 pub mod Outputs
+pub mod PlainTexts
 pub mod RenderedTables
 pub mod BytesSince
 pub mod StreamedTables

@@ -169,7 +169,7 @@ onto R x (part ∷ parts) r h =
     All-cons (All R) (x ∷ part) parts (All-cons R x part r (All-head (All R) part parts h)) (All-tail (All R) part parts h)
 
 -- what holds of each element that parts nothing holds in each part
-parted : {X : Type 0} (R : X → Type 0) (p : X → Bool) (xs : List X) → All (λ x. p x ≡ false → R x) xs → All (All R) (slice_split p xs)
+pub parted : {X : Type 0} (R : X → Type 0) (p : X → Bool) (xs : List X) → All (λ x. p x ≡ false → R x) xs → All (All R) (slice_split p xs)
 parted R p [] h = All-cons (All R) [] [] (All-nil R) (All-nil (All R))
 parted {X} R p (x ∷ xs) h =
     let S : X → Type 0 = λ y. p y ≡ false → R y in

@@ -297,7 +297,7 @@ module _ (cells : Cells) (config : SpannedConfig) (e : is_empty cells ≡ true) 
 -- ---- new tables
 
 -- what is told of a whole table is told of the new one, whose settings keep texts apart
-best_new : (plan : Plan) (cells : Cells) (t : Sheet) → IsBestOf plan (new_sheet cells) t → IsBestPlanned plan cells t
+pub best_new : (plan : Plan) (cells : Cells) (t : Sheet) → IsBestOf plan (new_sheet cells) t → IsBestPlanned plan cells t
 best_new plan cells t b = record { edges = b.edges new_apart; best = b }
 
 -- under each other plan all is measured before it is printed

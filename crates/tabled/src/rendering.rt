@@ -1,5 +1,6 @@
 //! `render`: prints a text as a table, and narrows it by wrapping or truncating its cells.
 ghost use Rattle.std.specs.Prelude.{◌≡◌, ◌⊎◌, IfErr, IfOk, false, length, All};
+ghost use Rattle.std.specs.List.{list_all};
 ghost use Rattle.tabled_text.specs.Measure.{lines_of};
 ghost use Rattle.tabled_base.specs.Cells.{IsRectangular};
 ghost use Rattle.tabled_base.specs.declared.error.TableError.TheVariants.{Memory, Range, Writer};
@@ -10,7 +11,7 @@ ghost use Rattle.tabled_size.specs.Effective.{effective};
 ghost use Rattle.tabled_size.specs.Sheet.{estimated, is_empty};
 ghost use Rattle.tabled_size.specs.TextCells.{AreTexts};
 ghost use Rattle.tabled_table.specs.NewConfig.{new_config};
-ghost use Rattle.tabled.specs.Planned.{measured};
+ghost use Rattle.tabled.specs.Planned.{is_plain_byte, measured};
 ghost use Rattle.tabled.specs.Rendered.{IsMade, IsRendered, IsRenderedOf};
 
 use crate::order_priority::OrderPriority;
@@ -97,11 +98,7 @@ fn print_measured<R: PeekableRecords, S: TextSink>(
 {
     match plan {
         Plan::Buffered | Plan::Streamed => print_estimated(alloc, sink, rows, config.as_ref()),
-        // Cutting reads each cell several times, which cells of their own make cheaper.
-        Plan::Shortened { .. } => {
-            print_narrowed(alloc, lend_cells(alloc, rows)?, config, plan, sink)
-        }
-        Plan::Wrapped { .. } => {
+        Plan::Shortened { .. } | Plan::Wrapped { .. } => {
             print_narrowed(alloc, ChangedRecords::new(alloc, rows)?, config, plan, sink)
         }
     }
@@ -145,6 +142,14 @@ fn print_records<R: PeekableRecords, S: TextSink>(
     }
 }
 
+/// Whether a text is printable ASCII, tabs and line feeds.
+fn is_plain_text(text: &str) -> bool
+    ensures { result ≡ list_all is_plain_byte text.now }
+{
+    text.bytes()
+        .all(|byte| matches!(byte, b'\t' | b'\n' | b' '..=b'~'))
+}
+
 /// Prints tab-separated rows as a table, under a plan.
 ///
 /// A row ends at a line feed and a cell at a tab. The empty text has no rows, and short rows get
@@ -170,6 +175,11 @@ pub fn render<S: TextSink>(
         return Ok(());
     }
     let rows = text_rows(alloc, text)?;
+    // A stream cuts no cell of such a text, and so it prints the whole table.
+    if is_plain_text(text) {
+        let config = ColoredConfig::new(new_config(alloc));
+        return print_measured(alloc, &rows, config, plan, sink);
+    }
     print_records(alloc, &rows, plan, sink)
 }
 

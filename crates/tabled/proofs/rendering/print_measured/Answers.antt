@@ -24,23 +24,12 @@ returns-in-Buffered g c =
     (prints_made Buffered (estimated cells config) true (estimated cells config) old r new (buffered_made cells config c.requires.rectangular c.requires.texts) shown)
 
 pub print_narrowed-requires-clause-texts : goal.print_narrowed-requires-clause-texts
-print_narrowed-requires-clause-texts g c = subst AreTexts (sym c.in_ok-lend_cells-in-Shortened.ensures.ok) c.requires.texts
+print_narrowed-requires-clause-texts g c = subst AreTexts (sym c.in_ok-new-in-Shortened.ensures.ok) c.requires.texts
 
 pub print_narrowed-requires-clause-rectangular : goal.print_narrowed-requires-clause-rectangular
-print_narrowed-requires-clause-rectangular g c = subst IsRectangular (sym c.in_ok-lend_cells-in-Shortened.ensures.ok) c.requires.rectangular
+print_narrowed-requires-clause-rectangular g c = subst IsRectangular (sym c.in_ok-new-in-Shortened.ensures.ok) c.requires.rectangular
 
-pub print_narrowed-requires-in-Wrapped-clause-texts : goal.print_narrowed-requires-in-Wrapped-clause-texts
-print_narrowed-requires-in-Wrapped-clause-texts g c = subst AreTexts (sym c.in_ok-new-in-Wrapped.ensures.ok) c.requires.texts
-
-pub print_narrowed-requires-in-Wrapped-clause-rectangular : goal.print_narrowed-requires-in-Wrapped-clause-rectangular
-print_narrowed-requires-in-Wrapped-clause-rectangular g c = subst IsRectangular (sym c.in_ok-new-in-Wrapped.ensures.ok) c.requires.rectangular
-
-pub returns-in_ok-lend_cells-in-Shortened : goal.returns-in_ok-lend_cells-in-Shortened
-returns-in_ok-lend_cells-in-Shortened g c =
+pub returns-in_ok-new-in-Shortened : goal.returns-in_ok-new-in-Shortened
+returns-in_ok-new-in-Shortened g c =
     subst (λ (cells : Cells). IsRenderedOf (measured c.args.plan) (estimated cells c.args.config.config) (g.S.TextSink.sent c.args.sink.now)
-    c.print_narrowed.result (g.S.TextSink.sent c.print_narrowed.new.sink)) c.in_ok-lend_cells-in-Shortened.ensures.ok c.print_narrowed.ensures
-
-pub returns-in_ok-new-in-Wrapped : goal.returns-in_ok-new-in-Wrapped
-returns-in_ok-new-in-Wrapped g c =
-    subst (λ (cells : Cells). IsRenderedOf (measured c.args.plan) (estimated cells c.args.config.config) (g.S.TextSink.sent c.args.sink.now)
-    c.print_narrowed-in-Wrapped.result (g.S.TextSink.sent c.print_narrowed-in-Wrapped.new.sink)) c.in_ok-new-in-Wrapped.ensures.ok c.print_narrowed-in-Wrapped.ensures
+    c.print_narrowed.result (g.S.TextSink.sent c.print_narrowed.new.sink)) c.in_ok-new-in-Shortened.ensures.ok c.print_narrowed.ensures

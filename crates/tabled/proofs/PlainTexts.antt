@@ -1,0 +1,117 @@
+-- Texts of printable ASCII, whose tables are the same if they are streamed.
+use Rattle.std.proofs.Common.{◌≡◌, ℕ, ◌+◌, ◌-◌, ◌≤◌, ◌<◌, ◌==◌, ◌||◌, Bool, true, false, cond, List, [], length, replicate, map, take, Result, ⊎_elim, refl, sym, ap, subst, arith}
+use Rattle.std.specs.Int.{is_in_range}
+use Rattle.std.specs.List.{All, AllPass, list_all, slice_index}
+use Rattle.std.proofs.lemmas.Bool.{cases_Bool}
+use Rattle.std.proofs.lemmas.Bool.Decides.{nat_tests}
+use Rattle.std.proofs.lemmas.List.Elements.{All-append, All-map, All-nil, All-replicate, All-take, All-weaker}
+use Rattle.std.proofs.lemmas.List.Sums.{AllPass-from_list_all, list_all-from_AllPass}
+use Rattle.tabled_base.specs.Cells.{IsInside, cell_at, lengthened}
+use Rattle.tabled_base.specs.declared.error.TableError.{TableError}
+use Rattle.tabled_grid.proofs.EstimatedSizes.{holds_estimated}
+use Rattle.tabled_line.specs.Sent.{Sent}
+use Rattle.tabled_records.specs.TextRows.{cells_of, most_cells, row_lines, text_rows, without_last_feed}
+use Rattle.tabled_set.specs.BestNarrowing.{inner_width}
+use Rattle.tabled_size.specs.Estimates.{needed_width}
+use Rattle.tabled_size.specs.TextCells.{AreTexts}
+use Rattle.tabled_table.proofs.Sheets.{sheet_lines}
+use Rattle.tabled_table.specs.NewConfig.{new_config}
+use Rattle.tabled_table.specs.TableSheet.{new_sheet}
+use Rattle.tabled_text.specs.Cut.{IsCut}
+use Rattle.tabled_text.specs.Measure.{lines_of, text_columns}
+use Rattle.tabled_text.proofs.Kept.{cut-printable}
+use Rattle.tabled_text.proofs.PlainLines.{plain_line-printable, text_columns-plain_line}
+use Rattle.tabled.specs.declared.plan.Plan.{Plan}
+use Rattle.tabled.specs.declared.plan.Plan.TheVariants.{Buffered, Streamed, Wrapped, Shortened}
+use Rattle.tabled.specs.Headline.{IsBestOf, IsBestPlanned}
+use Rattle.tabled.specs.Planned.{Cells, IsPlanned, IsPlannedOf, IsStreamedFrom, is_plain_byte, measured}
+use Rattle.tabled.specs.Rendered.{Halts, IsRendered, IsRenderedOf}
+use Rattle.tabled.proofs.Outputs.{parted, text_rectangular, texts_of_text}
+use Rattle.tabled.proofs.RenderedTables.{best_new, prints_as, rendered_new, whole_lines}
+
+-- a byte of a line
+abbrev in_line : ℕ → Bool
+in_line b = (b == 9) || is_in_range 0x20 0x7E b
+
+abbrev printable : ℕ → Bool
+printable = is_in_range 0x20 0x7E
+
+lines_plain : (text : List ℕ) → AllPass is_plain_byte text → All (AllPass in_line) (lines_of text)
+lines_plain text h =
+    parted (λ b. in_line b ≡ true) (λ b. b == 10) text
+    (All-weaker (λ b. is_plain_byte b ≡ true) (λ b. (b == 10) ≡ false → in_line b ≡ true) (λ b p no. grind arith) text h)
+
+inner_plain : (text : List ℕ) → AllPass is_plain_byte text → AllPass is_plain_byte (without_last_feed text)
+inner_plain text h =
+    let Q : Bool → Type 0 = λ b. AllPass is_plain_byte (cond b (take (length text - 1) text) text) in
+    ⊎_elim (λ y. subst Q (sym y) (All-take (λ b. is_plain_byte b ≡ true) (length text - 1) text h)) (λ no. subst Q (sym no) h)
+    (cases_Bool (slice_index text (length text - 1) == 10))
+
+rows_plain : (text : List ℕ) → AllPass is_plain_byte text → All (AllPass in_line) (row_lines text)
+rows_plain text h =
+    let Q : Bool → Type 0 = λ b. All (AllPass in_line) (cond b [] (lines_of (without_last_feed text))) in
+    ⊎_elim (λ y. subst Q (sym y) (All-nil (AllPass in_line))) (λ no. subst Q (sym no) (lines_plain (without_last_feed text) (inner_plain text h)))
+    (cases_Bool (length text == 0))
+
+row_plain : (n : ℕ) (line : List ℕ) → AllPass in_line line → All (AllPass printable) (lengthened n (cells_of line))
+row_plain n line h =
+    All-append (AllPass printable) (cells_of line) (replicate (n - length (cells_of line)) [])
+    (parted (λ b. printable b ≡ true) (λ b. b == 9) line
+    (All-weaker (λ b. in_line b ≡ true) (λ b. (b == 9) ≡ false → printable b ≡ true) (λ b p no. grind arith) line h))
+    (All-replicate (AllPass printable) (n - length (cells_of line)) [] (All-nil (λ b. printable b ≡ true)))
+
+cells_plain : (text : List ℕ) → AllPass is_plain_byte text → All (All (AllPass printable)) (text_rows text)
+unfolding text_rows
+cells_plain text h =
+    let n = most_cells (row_lines text) in
+    All-map (All (AllPass printable)) (λ line. lengthened n (cells_of line)) (row_lines text)
+    (All-weaker (AllPass in_line) (λ line. All (AllPass printable) (lengthened n (cells_of line))) (row_plain n) (row_lines text) (rows_plain text h))
+
+-- ---- the table of such a text
+
+module _ (text : List ℕ) (plain : list_all is_plain_byte text ≡ true) (texts : AreTexts (text_rows text)) where
+  abbrev cells : Cells
+  cells = text_rows text
+
+  -- no cell is cut
+  cell_kept : (row column : ℕ) → IsInside cells row column → IsCut (inner_width (new_sheet cells) row column) (cell_at cells row column) (cell_at cells row column)
+  cell_kept row column inside =
+      let cell = cell_at cells row column in
+      let long = text_rectangular text row [] inside.row_in in
+      let there = inside.column_in in
+      let shown : list_all printable cell ≡ true =
+      list_all-from_AllPass printable cell (cells_plain text (AllPass-from_list_all is_plain_byte text plain) row [] inside.row_in column [] (omega arith)) in
+      let wide : text_columns cell ≡ length cell = text_columns-plain_line (plain_line-printable cell shown) in
+      let held : needed_width cells new_config row column ≤ slice_index (new_sheet cells).widths column =
+      holds_estimated cells new_config row column inside.row_in inside.column_in in
+      cut-printable (inner_width (new_sheet cells) row column) cell shown (omega arith)
+
+  streamed : IsStreamedFrom (new_sheet cells) (new_sheet cells)
+  streamed = record {
+    config = refl;
+    widths = refl;
+    cells = record { rows = refl; row_lengths = λ row. refl; cells = cell_kept };
+    heights = refl;
+  }
+
+  best : IsBestPlanned Streamed cells (new_sheet cells)
+  best = best_new Streamed cells (new_sheet cells) (record {
+    edges = whole_lines cells new_config (text_rectangular text) texts;
+    lines = sheet_lines (new_sheet cells);
+    total = tt;
+    least = tt;
+    fewest = tt;
+    longest = tt;
+    alike = λ exact. refl;
+  })
+
+  -- a plan that prints the whole table streams it
+  pub rendered_plain : {T : Type 0} (plan : Plan) (old : Sent) (r : Result T TableError) (new : Sent) → IsRenderedOf (measured plan) (new_sheet cells) old r new
+      → IsRendered plan cells old r new
+  rendered_plain Buffered old r new h = rendered_new Buffered cells old r new h
+  rendered_plain Streamed old r new h =
+      prints_as (IsPlannedOf Buffered (new_sheet cells)) (IsBestOf Buffered (new_sheet cells)) (IsPlanned Streamed cells) (IsBestPlanned Streamed cells)
+      (λ e. ⊥) (Halts Streamed) (new_sheet cells) old r new
+      (λ t p. subst (IsPlanned Streamed cells) (sym p) streamed) (λ t p b. subst (IsBestPlanned Streamed cells) (sym p) best) (λ e never. absurd never) h
+  rendered_plain (Wrapped n words order) old r new h = rendered_new (Wrapped n words order) cells old r new h
+  rendered_plain (Shortened n order) old r new h = rendered_new (Shortened n order) cells old r new h
