@@ -60,10 +60,10 @@ cleared_none false = refl
 
 -- ---- the sizes of a table that stays as it is
 
-abbrev sized_by : Cells → SpannedConfig → List ℕ → List ℕ → Sheet
+abbrev pub sized_by : Cells → SpannedConfig → List ℕ → List ℕ → Sheet
 sized_by cells config widths heights = record { cells = cells; config = config; widths = widths; heights = heights }
 
-whole_list : (xs : List ℕ) (count : ℕ) → length xs ≡ count → take count xs ≡ xs
+pub whole_list : (xs : List ℕ) (count : ℕ) → length xs ≡ count → take count xs ≡ xs
 whole_list xs count e = ap (λ k. take k xs) (sym e) ∙ take-length xs
 
 -- a list that was filled in stands, whether it was cleared then or not

@@ -1,5 +1,4 @@
 pub mod FittedTables
-pub mod LowTables
 pub mod Noting
 pub mod Outputs
 pub mod PlainTexts

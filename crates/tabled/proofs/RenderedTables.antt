@@ -54,7 +54,7 @@ pub changed_columns : (chosen : ℕ → ℕ → Bool) (change : ℕ → ℕ → 
     → columns new ≡ columns old
 changed_columns chosen change old new h = sym (first_length new) ∙ h.row_lengths 0 ∙ first_length old
 
-changed_rectangular : (chosen : ℕ → ℕ → Bool) (change : ℕ → ℕ → List ℕ → List ℕ → Type 0) (old new : Cells) → AreChanged chosen change old new
+pub changed_rectangular : (chosen : ℕ → ℕ → Bool) (change : ℕ → ℕ → List ℕ → List ℕ → Type 0) (old new : Cells) → AreChanged chosen change old new
     → IsRectangular old → IsRectangular new
 changed_rectangular chosen change old new h q = λ k d l.
     let rows = h.rows in
@@ -199,7 +199,7 @@ prints_as planned best planned' best' halts halts' whole old (Err e) new gives g
 
 -- ---- texts without a row
 
-no_place : (cells : Cells) → is_empty cells ≡ true → (row column : ℕ) → IsInside cells row column → ⊥
+pub no_place : (cells : Cells) → is_empty cells ≡ true → (row column : ℕ) → IsInside cells row column → ⊥
 no_place cells e row column inside =
     let r = inside.row_in in
     let c = inside.column_in in

@@ -1,390 +1,193 @@
--- Tables that are printed row by row, with all rows read ahead.
-use Rattle.std.proofs.Common.{◌≡◌, ℕ, ◌+◌, ◌<◌, ◌≤◌, ◌^◌, ◌==◌, ◌||◌, ◌⊎◌, Bool, true, false, List, [], ◌∷◌, ◌++◌, zero, suc, if◌then◌else◌, not, nat_lt, length, map, take, Result, Ok, Err, All, inl, inr, ⊎_elim, refl, sym, ap, ◌∙◌, subst, arith, append-nil, append_assoc, length-append}
-use Rattle.std.specs.List.{slice_index_or}
-use Rattle.std.proofs.lemmas.Bool.{cases_lt, cases_Bool}
-use Rattle.std.proofs.lemmas.Bool.Decides.{nat_tests}
-use Rattle.std.proofs.lemmas.List.{get_or_past, nil_from_length}
-use Rattle.std.proofs.lemmas.List.Elements.{All-head, All-tail}
-use Rattle.std.specs.Io.KnownBytes.{Appends}
+-- Tables whose cells are cut to the content widths of their columns.
+use Rattle.std.proofs.Common.{◌≡◌, ◌≢◌, ℕ, ◌+◌, ◌-◌, ◌<◌, ◌≤◌, ◌==◌, ◌&&◌, Bool, true, false, List, [], length, All, Bor, Option, Some, None, Result, Ok, Err, OnOk, option_map, unwrap_or, ⊎_elim, refl, sym, ap, ◌∙◌, subst, arith, get_or}
 use Rattle.std.specs.Str.{IsUtf8}
-use Rattle.tabled_base.specs.Cells.{IsRectangular, cell_at, columns}
-use Rattle.tabled_base.specs.declared.error.TableError.{TableError}
-use Rattle.tabled_base.specs.declared.error.TableError.TheVariants.{Memory, Range}
-use Rattle.tabled_set.specs.CellChanges.{AreChanged}
-use Rattle.tabled_config.specs.Spanned.{spanned_of_compact}
-use Rattle.tabled_config.specs.declared.compact.CompactConfig.{CompactConfig}
+use Rattle.std.proofs.Math.ListN.{set}
+use Rattle.std.proofs.lemmas.Bool.{cases_Bool, eq-eqb, eqb-true}
+use Rattle.std.proofs.lemmas.List.{ext_get_or, get_or-set_other, get_or-set_same, length-set}
+use Rattle.std.proofs.lemmas.List.Elements.{All-from_get_or}
+use Rattle.tabled_base.specs.Cells.{IsInside, IsRectangular, cell_at, columns, with_cell}
+use Rattle.tabled_config.specs.declared.spanned.SpannedConfig.{SpannedConfig}
 use Rattle.tabled_config.specs.Settings.{style_at}
-use Rattle.tabled_grid.specs.ApartSheet.{IsApartConfig}
-use Rattle.tabled_grid.specs.Printed.{IsPrintable}
-use Rattle.tabled_grid.proofs.EstimatedSizes.{sized_estimated}
+use Rattle.tabled_grid.proofs.EstimatedSizes.{holds_estimated, passes_too_high, passes_too_wide, sized_estimated}
+use Rattle.tabled_grid.specs.Printed.{IsOutOfRange}
 use Rattle.tabled_priority.specs.Permitted.{at}
-use Rattle.tabled_set.specs.BestNarrowing.{inner_width}
+use Rattle.tabled_set.specs.CellChanges.{AreChanged}
 use Rattle.tabled_set.specs.Minimums.{side_padding}
-use Rattle.tabled_line.specs.Sent.{IsCause, Sent}
-use Rattle.tabled_size.specs.Estimates.{column_width, estimated_heights, estimated_widths}
-use Rattle.tabled_size.specs.Sheet.{Sheet, is_empty}
+use Rattle.tabled_set.proofs.ChangingCells.{IsInside-before, at-chosen, covers-cell, match-false, match-true}
+use Rattle.tabled_set.specs.Common.{Cell, covers}
+use Rattle.tabled_set.proofs.ExactTotals.{changed_empty}
+use Rattle.tabled_size.specs.Estimates.{estimated_heights, estimated_widths, needed_width}
+use Rattle.tabled_size.proofs.Totalling.{heights_length, widths_length}
+use Rattle.tabled_size.specs.Effective.{effective, effective_sizes}
+use Rattle.tabled_size.specs.FilledIn.{HasNoEstimate, IsFilledIn}
+use Rattle.tabled_size.specs.Stored.{heights_of, widths_of}
+use Rattle.tabled_size.specs.Holds.{Holds}
+use Rattle.tabled_size.specs.Sheet.{Sheet, estimated, is_empty}
 use Rattle.tabled_size.specs.TextCells.{AreTexts}
-use Rattle.tabled_size.specs.Totals.{filled_height, filled_width}
-use Rattle.tabled_size.proofs.Passing.{width_at}
-use Rattle.tabled_table.specs.Stream.GoesOn.{GoesOn}
-use Rattle.tabled_text.specs.Exact.{IsExactLine}
-use Rattle.tabled_table.specs.Stream.LikeTable.{AreMeasured, IsLikeTable}
-use Rattle.tabled_line.specs.NewConfig.{IsNewConfig}
-use Rattle.tabled_table.specs.Stream.NewTable.{new_settings}
-use Rattle.tabled_table.specs.Stream.Printed.{text_above}
-use Rattle.tabled_table.specs.Stream.Streamed.{IsStreamed, column_count, content_width, sniffed, stream_height, stream_widths, tallest}
-use Rattle.tabled_table.specs.Stream.Streams.{AreEnough, AreSniffed, IsFilled, IsTooHighFirst, PrintsStream}
-use Rattle.tabled_table.specs.Stream.Streams.{StreamStops, StopsAtEnd, StopsAtRow, StopsEarly, StopsInRows, Streams, stream_total}
-use Rattle.tabled_table.specs.declared.iter_table.settings.StreamSettings.{StreamSettings}
-use Rattle.tabled_table.proofs.Stream.SameSheet.{all-sniffed, counted-columns, heights-same, like_table, row-cut, width-same, widths-same}
-use Rattle.tabled_table.proofs.Stream.StreamedTexts.{streamed_holds, streamed_rectangular, streamed_texts}
-use Rattle.tabled_table.proofs.Stream.WholeTexts.{goes_on}
-use Rattle.tabled_table.specs.NewConfig.{new_config}
-use Rattle.tabled_table.specs.TableSheet.{new_sheet}
-use Rattle.tabled_table.proofs.NewTables.{new_apart}
+use Rattle.tabled_size.specs.declared.complete_dimension.CompleteDimension.{CompleteDimension}
 use Rattle.tabled_table.proofs.Sheets.{sheet_lines, sheet_texts}
-use Rattle.tabled_text.specs.Cut.{IsCut}
-use Rattle.tabled_text.specs.Measure.{greatest, lines_of}
+use Rattle.tabled_text.specs.Exact.{IsExactLine}
+use Rattle.tabled_text.specs.Fitting.{FitsIn}
+use Rattle.tabled_text.specs.Measure.{text_columns}
+use Rattle.tabled_text.proofs.ExactLines.{exact-kept}
+use Rattle.tabled_text.proofs.FittingLaws.{fits-cut}
 use Rattle.tabled.specs.declared.plan.Plan.TheVariants.{Streamed}
-use Rattle.tabled.specs.Headline.{IsBestPlanned}
-use Rattle.tabled.specs.Planned.{Cells, IsPlanned}
-use Rattle.tabled.specs.Rendered.{BreaksOff, Halts, IsRendered, PassesRange}
-use Rattle.tabled.proofs.LowTables.{low_total}
-use Rattle.tabled.proofs.RenderedTables.{changed_columns}
+use Rattle.tabled.specs.Planned.{Cells, cut_to}
+use Rattle.tabled.specs.Rendered.{IsMade}
+use Rattle.tabled.proofs.FittedTables.{sized_by, whole_list}
+use Rattle.tabled.proofs.RenderedTables.{changed_columns, changed_rectangular, no_place}
 
--- ---- the settings of a new stream are those of a new table
+-- ---- one cell
 
-enough_sniffed : (settings : StreamSettings) (rows : Cells) (whole : Bool) → AreEnough settings rows whole → AreSniffed settings rows whole
-enough_sniffed settings rows whole (inl h) = inl h
-enough_sniffed settings rows whole (inr (h, _)) = inr h
+rest_false : (x y : Bool) → x ≡ true → (x && y) ≡ false → y ≡ false
+rest_false true y e h = h
+rest_false false y e h = let bad : false ≡ true = e in cc
 
-new_spanned_is : (c : CompactConfig) → IsNewConfig c → spanned_of_compact c ≡ new_config
-unfolding new_config
-new_spanned_is c n =
-    ap spanned_of_compact n.set ∙ ap (λ m. record new_config { margin = m }) n.is_plain.margin
+pub on_ok : {T E P Q : Type 0} (r : Result T E) → (P → Q) → OnOk r P → OnOk r Q
+on_ok (Ok x) f p = f p
+on_ok (Err e) f p = tt
 
--- what the cells of a new stream have on their sides
-padded_two : (c : CompactConfig) → IsNewConfig c → c.padding.left.size + c.padding.right.size ≡ 2
-padded_two c n = ap (λ (d : CompactConfig). d.padding.left.size + d.padding.right.size) n.set
+other : (i j : ℕ) → (i == j) ≡ false → j ≢ i
+other i j apart same = let both : (i == j) ≡ true = eq-eqb i j (sym same) in let bad : true ≡ false = sym both ∙ apart in cc
 
-sides_two : (row column : ℕ) → side_padding new_config row column ≡ 2
-unfolding new_config style_at
-sides_two row column = refl
-
--- what holds of the elements of a list holds of those of its end
-behind_all : {A : Type 0} (P : A → Type 0) (xs ys : List A) → All P (xs ++ ys) → All P ys
-behind_all P [] ys h = h
-behind_all P (x ∷ xs) ys h = behind_all P xs ys (All-tail P x (xs ++ ys) h)
-
--- all rows are read ahead, and nothing else is given
-abbrev pub all_ahead : Cells → StreamSettings
-all_ahead cells = record new_settings { sniff = length cells }
-
-low_none : (k : ℕ) → greatest (map (λ text. length (lines_of text)) (take k [])) ≤ 1
-low_none zero = omega arith
-low_none (suc k) = omega arith
-
--- rows of single lines are low
-low_lines : (row : List (List ℕ)) (k : ℕ) → All (λ cell. length (lines_of cell) ≡ 1) row → greatest (map (λ text. length (lines_of text)) (take k row)) ≤ 1
-low_lines [] k h = low_none k
-low_lines (cell ∷ row) zero h = omega arith
-low_lines (cell ∷ row) (suc k) h =
-    let One : List ℕ → Type 0 = λ t. length (lines_of t) ≡ 1 in
-    let first = All-head One cell row h in
-    let others = low_lines row k (All-tail One cell row h) in
-    omega arith
-
-low_height : (cells : Cells) (c : CompactConfig) → IsNewConfig c → (ahead : Cells) (index : ℕ) (row : List (List ℕ))
-    → All (λ cell. length (lines_of cell) ≡ 1) row → stream_height (all_ahead cells) c ahead index row ≤ 1
-low_height cells c n ahead index row h =
-    let none : c.padding.top.size + c.padding.bottom.size ≡ 0 = ap (λ (d : CompactConfig). d.padding.top.size + d.padding.bottom.size) n.set in
-    let count = column_count (all_ahead cells) ahead in
-    let low = low_lines row count h in
-    let Q : Bool → Type 0 = λ b. (if b then 1 else tallest count row) + (c.padding.top.size + c.padding.bottom.size) ≤ 1 in
-    ⊎_elim (λ y. subst Q (sym y) (omega arith)) (λ no. subst Q (sym no) (omega arith)) (cases_Bool (not (nat_lt index (length ahead))))
-
-or_left : (x y : Bool) → (x || y) ≡ false → x ≡ false
-or_left true y h = h
-or_left false y h = refl
-
-or_right : (x y : Bool) → (x || y) ≡ false → y ≡ false
-or_right true y h = let no : true ≡ false = h in cc
-or_right false y h = h
-
-positive : (n : ℕ) → (n == 0) ≡ false → 0 < n
-positive n h = grind (arith, nat_tests)
-
-full_rows : (cells : Cells) → is_empty cells ≡ false → (0 < length cells) × (0 < columns cells)
-full_rows cells h =
-    (positive (length cells) (or_left (length cells == 0) (columns cells == 0) h), positive (columns cells) (or_right (length cells == 0) (columns cells == 0) h))
-
-module _ (cells : Cells) (full : is_empty cells ≡ false) (rectangular : IsRectangular cells) where
-  measured : AreMeasured (all_ahead cells) cells
-  measured = record {
-    has_row = (full_rows cells full).0;
-    has_column = (full_rows cells full).1;
-    rectangular = rectangular;
-    sniffed = omega arith;
-    no_columns = refl;
-    no_rows = refl;
-    no_width = refl;
-    no_height = refl;
-  }
-
-  module _ (c : CompactConfig) (n : IsNewConfig c) where
-    room_is : (row column : ℕ) → column < columns cells → inner_width (new_sheet cells) row column ≡ content_width (all_ahead cells) cells column
-    room_is row column h =
-        let there : at (estimated_widths cells new_config) column ≡ column_width cells new_config column = width_at cells new_config column h in
-        let same : column_width cells (spanned_of_compact c) column ≡ column_width cells new_config column = ap (λ g. column_width cells g column) (new_spanned_is c n) in
-        let width = width-same measured c column in
-        let two = padded_two c n in
-        let sides = sides_two row column in
-        omega arith
-
-    cells_cut : (t : Sheet) → IsStreamed (all_ahead cells) c cells cells t
-        → AreChanged (λ row column. true) (λ row column. IsCut (inner_width (new_sheet cells) row column)) cells t.cells
-    cells_cut t s = record {
-      rows = s.as_many;
-      row_lengths = λ row. ⊎_elim
-          (λ (inside : row < length cells).
-          let cut = row-cut measured row (slice_index_or t.cells row []) inside (s.cells row inside) in
-          ap length cut.0 ∙ cut.1 ∙ sym (rectangular row [] inside))
-          (λ (past : length cells ≤ row).
-          let many = s.as_many in
-          ap length (get_or_past t.cells row [] (omega arith)) ∙ sym (ap length (get_or_past cells row [] past)))
-          (cases_lt row (length cells));
-      cells = λ row column inside.
-          let r = s.cells row inside.row_in in
-          let cut = row-cut measured row (slice_index_or t.cells row []) inside.row_in r in
-          let long = cut.1 in
-          let within = inside.column_in in
-          let each = r.each column (omega arith) in
-          let room = room_is row column inside.column_in in
-          subst (λ k. IsCut k (cell_at cells row column) (cell_at t.cells row column)) (sym room)
-          (subst (λ l. IsCut (content_width (all_ahead cells) cells column) (cell_at cells row column) (slice_index_or l column [])) (sym cut.0) each);
+-- a cell that is set changes, and no other
+pub set-changed : (cells : Cells) (row column : ℕ) (text : List ℕ) (change : ℕ → ℕ → List ℕ → List ℕ → Type 0) → IsInside cells row column → IsRectangular cells
+    → change row column (cell_at cells row column) text → AreChanged (covers (Cell row column)) change cells (with_cell cells row column text)
+set-changed cells row column text change inside rectangular h =
+    let line = get_or cells row [] in
+    let new = set line column text in
+    let row_in = inside.row_in in
+    let long : column < length line = let l = rectangular row [] row_in in let k = inside.column_in in omega arith in
+    record {
+      rows = length-set cells row new;
+      row_lengths = λ r. ⊎_elim
+          (λ yes. subst (λ k. length (get_or (set cells row new) k []) ≡ length (get_or cells k [])) (eqb-true row r yes)
+          (ap length (get_or-set_same cells row new [] row_in) ∙ length-set line column text))
+          (λ no. ap length (get_or-set_other cells row r new [] (other row r no)))
+          (cases_Bool (row == r));
+      cells = λ r c _. ⊎_elim
+          (λ yes.
+          let here = covers-cell row column r c yes in
+          let read : cell_at (set cells row new) row column ≡ text =
+          ap (λ l. get_or l column []) (get_or-set_same cells row new [] row_in) ∙ get_or-set_same line column text [] long in
+          match-true (change r c (cell_at cells r c) (cell_at (set cells row new) r c)) (cell_at (set cells row new) r c ≡ cell_at cells r c) yes
+          (subst (λ i. change i c (cell_at cells i c) (cell_at (set cells row new) i c)) (sym here.0)
+          (subst (λ j. change row j (cell_at cells row j) (cell_at (set cells row new) row j)) (sym here.1)
+          (subst (change row column (cell_at cells row column)) (sym read) h))))
+          (λ no. match-false (change r c (cell_at cells r c) (cell_at (set cells row new) r c)) (cell_at (set cells row new) r c ≡ cell_at cells r c) no
+          (⊎_elim
+          (λ same. subst (λ i. cell_at (set cells row new) i c ≡ cell_at cells i c) (eqb-true row r same)
+          (ap (λ l. get_or l c []) (get_or-set_same cells row new [] row_in)
+          ∙ get_or-set_other line column c text [] (other column c (rest_false (row == r) (column == c) same no))))
+          (λ apart. ap (λ l. get_or l c []) (get_or-set_other cells row r new [] (other row r apart)))
+          (cases_Bool (row == r))))
+          (cases_Bool (covers (Cell row column) r c));
     }
 
-    -- the streamed table of all rows is the one that is planned
-    streamed_planned : (t : Sheet) → IsStreamed (all_ahead cells) c cells cells t → IsPlanned Streamed cells t
-    streamed_planned t s =
-        let e = new_spanned_is c n in
-        record {
-          config = s.settings_of ∙ e;
-          widths = s.widths ∙ widths-same measured c ∙ ap (estimated_widths cells) e;
-          cells = cells_cut t s;
-          heights = heights-same measured c t.heights s.as_high s.heights ∙ ap (estimated_heights cells) e;
-        }
+-- ---- all cells
 
-    like : All (All IsExactLine) cells → IsLikeTable (all_ahead cells) cells
-    like exact = record { measured = measured; exact = exact }
+module _ (cells : Cells) (config : SpannedConfig) (rectangular : IsRectangular cells) (texts : AreTexts cells) where
+  abbrev widths : List ℕ
+  widths = estimated_widths cells config
 
-    streamed_best : (t : Sheet) → IsStreamed (all_ahead cells) c cells cells t → IsBestPlanned Streamed cells t
-    streamed_best t s =
-        let e = new_spanned_is c n in
-        let apart = subst (λ g. IsApartConfig g (length t.cells) (columns t.cells)) (sym (s.settings_of ∙ e)) (new_apart (length t.cells) (columns t.cells)) in
-        let edges = sheet_texts t (streamed_rectangular s) apart (streamed_texts s) (streamed_holds s) in
-        record {
-          edges = edges;
-          best = record {
-            edges = λ _. edges;
-            lines = sheet_lines t;
-            total = tt;
-            least = tt;
-            fewest = tt;
-            longest = tt;
-            alike = λ exact.
-                let whole : sniffed (all_ahead cells) cells ≡ cells = all-sniffed measured in
-                like_table (like exact) c t (subst (λ x. IsStreamed (all_ahead cells) c x cells t) (sym whole) s)
-                ∙ ap (λ g. record { cells = cells; config = g; widths = estimated_widths cells g; heights = estimated_heights cells g }) e;
-          };
-        }
+  -- a column holds its cells and their padding
+  needed-held : (row column : ℕ) → IsInside cells row column → text_columns (cell_at cells row column) + side_padding config row column ≤ at widths column
+  needed-held row column h = holds_estimated cells config row column h.row_in h.column_in
 
-    -- where the width is in range, all is: a row is a line with a line above it, and few enough rows stand in memory
-    streamed_printable : All (All (λ cell. length (lines_of cell) ≡ 1)) cells → length cells < 2 ^ 63
-        → filled_width new_config (columns cells) (estimated_widths cells new_config) < 2 ^ 64
-        → (t : Sheet) → IsStreamed (all_ahead cells) c cells cells t → IsPrintable t
-    streamed_printable lines few within t s =
-        let p = streamed_planned t s in
-        let many : columns t.cells ≡ columns cells =
-        changed_columns (λ row column. true) (λ row column. IsCut (inner_width (new_sheet cells) row column)) cells t.cells p.cells in
-        let wide : filled_width t.config (columns t.cells) t.widths ≡ filled_width new_config (columns cells) (estimated_widths cells new_config) =
-        ap (λ g. filled_width g (columns t.cells) t.widths) p.config ∙ ap (λ k. filled_width new_config k t.widths) many
-        ∙ ap (filled_width new_config (columns cells)) p.widths in
-        let high : filled_height t.config (length t.cells) t.heights ≡ filled_height new_config (length cells) t.heights =
-        ap (λ g. filled_height g (length t.cells) t.heights) p.config ∙ ap (λ k. filled_height new_config k t.heights) s.as_many in
-        let low = low_total (length cells) t.heights (λ row b.
-        let same = s.heights row b in
-        let one = low_height cells c n cells row (slice_index_or cells row []) (lines row [] b) in
-        omega arith) in
-        let sized = (sized_estimated cells new_config).columns in
-        let as_wide = ap length p.widths in
-        let as_high = s.as_high in
-        let as_many = s.as_many in
-        record {
-          sized = record { columns = omega arith; rows = omega arith };
-          holds = streamed_holds s;
-          in_range = record { width = omega arith; height = omega arith };
-        }
+  room : (row column : ℕ) → IsInside cells row column → text_columns (cell_at cells row column) ≤ at widths column - side_padding config row column
+  room row column h = let held = needed-held row column h in omega arith
 
-    -- ---- what was printed, where some rows were taken and others are behind them
-    module _ (texts : AreTexts cells) (lines : All (All (λ cell. length (lines_of cell) ≡ 1)) cells) (few : length cells < 2 ^ 63) (rows behind : Cells)
-        (whole : Bool) (parts : cells ≡ rows ++ behind) (none : whole ≡ true → behind ≡ []) where
-      all_taken : AreSniffed (all_ahead cells) rows whole → rows ≡ cells
-      all_taken h =
-          let nothing : behind ≡ [] = ⊎_elim none
-          (λ (l : length cells ≤ length rows).
-          let e = ap length parts in
-          let m = length-append rows behind in
-          nil_from_length behind (omega arith)) h in
-          sym (parts ∙ ap (λ b. rows ++ b) nothing ∙ append-nil rows)
+  module _ (after : Cells) (changed : AreChanged (λ row column. true) (cut_to widths config) cells after) where
+    abbrev t : Sheet
+    t = record { cells = after; config = config; widths = widths; heights = estimated_heights cells config }
 
-      whole_streamed : {t : Sheet} {shown : Cells} → rows ≡ cells → IsStreamed (all_ahead cells) c (sniffed (all_ahead cells) rows) shown t
-          → IsStreamed (all_ahead cells) c cells shown t
-      whole_streamed {t} {shown} e s =
-          subst (λ x. IsStreamed (all_ahead cells) c x shown t) (ap (sniffed (all_ahead cells)) e ∙ all-sniffed measured) s
+    cut-fits : (row column : ℕ) → IsInside after row column → FitsIn (at widths column - side_padding config row column) (cell_at after row column)
+    cut-fits row column inside =
+        fits-cut (at widths column - side_padding config row column) (cell_at cells row column) (cell_at after row column)
+        (at-chosen row column changed (IsInside-before changed inside) refl)
 
-      -- the columns of the stream are those of the new table
-      total_is : rows ≡ cells
-          → stream_total (all_ahead cells) c (sniffed (all_ahead cells) rows) ≡ filled_width new_config (columns cells) (estimated_widths cells new_config)
-      total_is e =
-          let ahead : sniffed (all_ahead cells) rows ≡ cells = ap (sniffed (all_ahead cells)) e ∙ all-sniffed measured in
-          ap (stream_total (all_ahead cells) c) ahead
-          ∙ ap (λ g. filled_width g (column_count (all_ahead cells) cells) (stream_widths (all_ahead cells) c cells)) (new_spanned_is c n)
-          ∙ ap (λ k. filled_width new_config k (stream_widths (all_ahead cells) c cells)) (counted-columns measured)
-          ∙ ap (filled_width new_config (columns cells)) (widths-same measured c ∙ ap (estimated_widths cells) (new_spanned_is c n))
+    cut-rectangular : IsRectangular after
+    cut-rectangular = changed_rectangular (λ row column. true) (cut_to widths config) cells after changed rectangular
 
-      -- so that it can be printed where they are in range
-      printable : (t : Sheet) → rows ≡ cells → IsStreamed (all_ahead cells) c cells cells t
-          → stream_total (all_ahead cells) c (sniffed (all_ahead cells) rows) < 2 ^ 64 → IsPrintable t
-      printable t e s within = streamed_printable lines few (subst (λ k. k < 2 ^ 64) (total_is e) within) t s
+    cut-texts : AreTexts after
+    cut-texts = All-from_get_or (All IsUtf8) after []
+        (λ row h. All-from_get_or IsUtf8 (get_or after row []) []
+        (λ column l.
+        let long = cut-rectangular row [] h in
+        (cut-fits row column (record { row_in = h; column_in = omega arith })).utf8))
 
-      -- there is a row that is shown, and a column
-      has_cells : rows ≡ cells → IsFilled (all_ahead cells) rows
-      has_cells e = subst (IsFilled (all_ahead cells)) (sym e) (record {
-        shown = (full_rows cells full).0;
-        columns = subst (λ k. 0 < k) (sym (ap (column_count (all_ahead cells)) (all-sniffed measured) ∙ counted-columns measured)) (full_rows cells full).1;
-      })
+    cut-holds : Holds t
+    cut-holds row column h l =
+        let inside : IsInside after row column = record { row_in = h; column_in = l } in
+        let held = needed-held row column (IsInside-before changed inside) in
+        let fits = (cut-fits row column inside).columns in
+        omega arith
 
-      rendered_ok : {R : Type 0} (x : R) (old new : Sent) → Streams {T = R} (all_ahead cells) c rows whole old (Ok x) new → IsRendered {T = R} Streamed cells old (Ok x) new
-      rendered_ok x old new h =
-          let e = all_taken (enough_sniffed (all_ahead cells) rows whole h.enough) in
-          let s = subst (λ l. IsStreamed (all_ahead cells) c cells l h.sheet) e (whole_streamed e h.streamed.streamed) in
-          record {
-            table = h.sheet;
-            is_planned = streamed_planned h.sheet s;
-            is_best = streamed_best h.sheet s;
-            is_printable = inr (printable h.sheet e s (h.streamed.width (has_cells e)));
-            sends = h.sends;
-          }
+    -- exact lines aren't cut
+    cut-same : All (All IsExactLine) cells → after ≡ cells
+    cut-same exact =
+        ext_get_or [] after cells changed.rows
+        (λ row h. ext_get_or [] (get_or after row []) (get_or cells row []) (changed.row_lengths row)
+        (λ column l.
+        let inside : IsInside cells row column = IsInside-before changed
+        (record { row_in = h; column_in = (let long = cut-rectangular row [] h in omega arith) }) in
+        let long = rectangular row [] inside.row_in in
+        let there = inside.column_in in
+        exact-kept (at widths column - side_padding config row column) (cell_at cells row column) (cell_at after row column)
+        (exact row [] inside.row_in column [] (omega arith)) (room row column inside) (at-chosen row column changed inside refl)))
 
-      -- the table of the rows that were shown goes on
-      further : (t : Sheet) (shown rest : Cells) → rows ≡ cells → rows ≡ shown ++ rest → IsStreamed (all_ahead cells) c (sniffed (all_ahead cells) rows) shown t
-          → GoesOn (all_ahead cells) c cells shown rest t
-      further t shown rest e p s =
-          let both : cells ≡ shown ++ rest = sym e ∙ p in
-          let count = counted-columns measured in
-          let some = full_rows cells full in
-          let many = ap length both in
-          goes_on shown rest t (whole_streamed e s) (behind_all (All IsUtf8) shown rest (subst AreTexts both texts)) (omega (arith, some.1)) (omega (arith, some.0))
+    pub streamed_made : IsMade Streamed (estimated cells config) t
+    streamed_made = record {
+      planned = record { config = refl; widths = refl; cells = changed; heights = refl };
+      best = record {
+        edges = λ apart. sheet_texts t cut-rectangular (apart (length after) (columns after)) cut-texts cut-holds;
+        lines = sheet_lines t;
+        total = tt;
+        least = tt;
+        fewest = tt;
+        longest = tt;
+        alike = λ exact. ap (λ c. record { cells = c; config = config; widths = widths; heights = estimated_heights cells config }) (cut-same exact);
+      };
+      same = changed_empty (λ row column. true) (cut_to widths config) cells after changed;
+      sized =
+          let sized = sized_estimated cells config in
+          let rows = changed.rows in
+          let many = changed_columns (λ row column. true) (cut_to widths config) cells after changed in
+          let wide = sized.columns in
+          let high = sized.rows in
+          record { columns = omega arith; rows = omega arith };
+      holds = cut-holds;
+    }
 
-      broken : (t : Sheet) (shown rest : Cells) (old new : Sent) (error : TableError) (front after : List ℕ) → rows ≡ cells → rows ≡ shown ++ rest
-          → IsStreamed (all_ahead cells) c (sniffed (all_ahead cells) rows) shown t
-          → stream_total (all_ahead cells) c (sniffed (all_ahead cells) rows) < 2 ^ 64
-          → front ++ after ≡ text_above t (column_count (all_ahead cells) (sniffed (all_ahead cells) rows)) (length shown)
-          → Appends old.bytes new.bytes front → IsCause error old.grows old.failures new.failures ⊎ Halts Streamed error
-          → BreaksOff (IsPlanned Streamed cells) (IsBestPlanned Streamed cells) (Halts Streamed) old error new
-      broken t shown rest old new error front after e p s within w added cause =
-          let g = further t shown rest e p s in
-          let both : cells ≡ shown ++ rest = sym e ∙ p in
-          let streamed = subst (λ l. IsStreamed (all_ahead cells) c cells l g.sheet) (sym both) g.streamed in
-          let count : column_count (all_ahead cells) (sniffed (all_ahead cells) rows) ≡ column_count (all_ahead cells) cells =
-          ap (column_count (all_ahead cells)) (ap (sniffed (all_ahead cells)) e ∙ all-sniffed measured) in
-          record {
-            table = g.sheet;
-            is_planned = streamed_planned g.sheet streamed;
-            is_best = streamed_best g.sheet streamed;
-            is_printable = printable g.sheet e streamed within;
-            front = front;
-            rest = after ++ g.more;
-            whole = sym (append_assoc front after g.more) ∙ ap (λ l. l ++ g.more) (w ∙ ap (λ k. text_above t k (length shown)) count) ∙ g.text;
-            added = added;
-            cause = cause;
-          }
+-- ---- where a cell passes the range
 
-      -- no row is too high
-      never_high : (shown rest : Cells) → rows ≡ cells → rows ≡ shown ++ rest → IsTooHighFirst (all_ahead cells) c (sniffed (all_ahead cells) rows) (length shown) rest → ⊥
-      never_high shown [] e p h = h
-      never_high shown (row ∷ rest) e p h =
-          let One : List ℕ → Type 0 = λ cell. length (lines_of cell) ≡ 1 in
-          let both : cells ≡ shown ++ row ∷ rest = sym e ∙ p in
-          let each = All-head (All One) row rest (behind_all (All One) shown (row ∷ rest) (subst (All (All One)) both lines)) in
-          let low = low_height cells c n (sniffed (all_ahead cells) rows) (length shown) row each in
-          omega arith
+pub not_estimated : (cells : Cells) (config : SpannedConfig) (none : CompleteDimension) → HasNoEstimate none cells config
+    → (is_empty cells ≡ false) × IsOutOfRange (estimated cells config)
+not_estimated cells config none h =
+    ⊎_elim
+    (λ w. (filled w.1.row w.1.column (record { row_in = w.1.row_in; column_in = w.1.column_in }), passes_too_wide cells config w.1))
+    (λ w. (filled w.1.row w.1.column (record { row_in = w.1.row_in; column_in = w.1.column_in }), passes_too_high cells config w.1)) h
+  where
+    filled : (row column : ℕ) → IsInside cells row column → is_empty cells ≡ false
+    filled row column inside = ⊎_elim (λ yes. absurd (no_place cells yes row column inside)) (λ no. no) (cases_Bool (is_empty cells))
 
-      stopped_early : (error : TableError) (old new : Sent) → StopsEarly (all_ahead cells) c rows whole old error new
-          → ((error ≡ Memory) × (new ≡ old)) ⊎ ((error ≡ Range) × (new ≡ old) × PassesRange (IsPlanned Streamed cells) (new_sheet cells))
-      stopped_early error old new h = ⊎_elim
-          (λ r.
-          let e = all_taken r.1 in
-          let wide : 2 ^ 64 ≤ filled_width new_config (columns cells) (estimated_widths cells new_config) = subst (λ k. 2 ^ 64 ≤ k) (total_is e) r.3 in
-          inr (r.0, h.same, inl (inl wide)))
-          (λ m. inl (m.0, h.same)) h.cause
+-- ---- the sizes that were filled in
 
-      stopped_at_row : (error : TableError) (old new : Sent) → StopsAtRow (all_ahead cells) c rows whole old error new
-          → BreaksOff (IsPlanned Streamed cells) (IsBestPlanned Streamed cells) (Halts Streamed) old error new
-      stopped_at_row error old new h =
-          let b = h.begun in
-          let e = all_taken b.read in
-          let memory : error ≡ Memory = ⊎_elim (λ r. absurd (never_high h.shown h.rest e b.parts r.1)) (λ m. m.0) h.cause in
-          broken h.sheet h.shown h.rest old new error (text_above h.sheet (column_count (all_ahead cells) (sniffed (all_ahead cells) rows)) (length h.shown)) []
-          e b.parts b.streamed b.width (append-nil _) h.sends.added (inr (refl, memory))
+pub widths_read : (r : Option (Bor (List ℕ))) (d u : Bor (List ℕ)) (wide : List ℕ) → option_map (λ s. s.now) r ≡ Some wide → u ≡ unwrap_or r d → u.now ≡ wide
+widths_read None d u wide e h = let bad : ⊥ = cc in absurd bad
+widths_read (Some x) d u wide e h = ap (λ (b : Bor (List ℕ)). b.now) h ∙ ap (λ o. unwrap_or o []) e
 
-      stopped_in_rows : (error : TableError) (old new : Sent) → StopsInRows (all_ahead cells) c rows whole old error new
-          → BreaksOff (IsPlanned Streamed cells) (IsBestPlanned Streamed cells) (Halts Streamed) old error new
-      stopped_in_rows error old new h =
-          let b = h.begun in
-          let s = h.stops.stops in
-          broken h.sheet h.shown h.rest old new error s.front s.rest (all_taken b.read) b.parts b.streamed b.width s.whole s.added (inl s.cause)
-
-      stopped_at_end : (error : TableError) (old new : Sent) → StopsAtEnd (all_ahead cells) c rows whole old error new
-          → BreaksOff (IsPlanned Streamed cells) (IsBestPlanned Streamed cells) (Halts Streamed) old error new
-      stopped_at_end error old new h =
-          let e = all_taken (enough_sniffed (all_ahead cells) rows whole h.enough) in
-          let s = subst (λ l. IsStreamed (all_ahead cells) c cells l h.sheet) e (whole_streamed e h.streamed.streamed) in
-          record {
-            table = h.sheet;
-            is_planned = streamed_planned h.sheet s;
-            is_best = streamed_best h.sheet s;
-            is_printable = printable h.sheet e s (h.streamed.width (has_cells e));
-            front = h.stops.stops.front;
-            rest = h.stops.stops.rest;
-            whole = h.stops.stops.whole;
-            added = h.stops.stops.added;
-            cause = inl h.stops.stops.cause;
-          }
-
-      rendered_err : (R : Type 0) (error : TableError) (old new : Sent) → StreamStops (all_ahead cells) c rows whole old error new
-          → IsRendered {T = R} Streamed cells old (Err error) new
-      rendered_err R error old new h =
-          ⊎_elim
-          (λ a. ⊎_elim (λ m. inl m) (λ r. inr (full, inl r)) (stopped_early error old new a))
-          (λ k. inr (full, inr (⊎_elim (stopped_at_row error old new) (⊎_elim (stopped_in_rows error old new) (stopped_at_end error old new)) k)))
-          h
-
-    -- a stream of rows of which some came first printed the table that is planned
-    pub streamed_rendered : {R : Type 0} (comes : Cells → Bool → Type 0) (old : Sent) (r : Result R TableError) (new : Sent) → AreTexts cells
-        → All (All (λ cell. length (lines_of cell) ≡ 1)) cells → length cells < 2 ^ 63 → PrintsStream (all_ahead cells) c comes old r new
-        → ((rows : Cells) (whole : Bool) → comes rows whole → (behind : Cells) × (cells ≡ rows ++ behind) × (whole ≡ true → behind ≡ []))
-        → IsRendered Streamed cells old r new
-    streamed_rendered comes old (Ok x) new texts lines few p first =
-        let b = first p.rows p.whole p.came in rendered_ok texts lines few p.rows b.0 p.whole b.1 b.2 x old new p.streams
-    streamed_rendered {R} comes old (Err e) new texts lines few p first =
-        let b = first p.rows p.whole p.came in rendered_err texts lines few p.rows b.0 p.whole b.1 b.2 R e old new p.streams
-
-    -- where the settings say that all rows are read ahead
-    pub streamed_by : {R : Type 0} (settings : StreamSettings) (comes : Cells → Bool → Type 0) (old : Sent) (r : Result R TableError) (new : Sent) → settings ≡ all_ahead cells
-        → AreTexts cells → All (All (λ cell. length (lines_of cell) ≡ 1)) cells → length cells < 2 ^ 63 → PrintsStream settings c comes old r new
-        → ((rows : Cells) (whole : Bool) → comes rows whole → (behind : Cells) × (cells ≡ rows ++ behind) × (whole ≡ true → behind ≡ []))
-        → IsRendered Streamed cells old r new
-    streamed_by settings comes old r new e texts lines few p first =
-        streamed_rendered comes old r new texts lines few (subst (λ s. PrintsStream s c comes old r new) e p) first
+pub filled_in : (cells after : Cells) (config : SpannedConfig) (none sizes : CompleteDimension) → widths_of none ≡ None → heights_of none ≡ None
+    → IsFilledIn none cells config sizes → length after ≡ length cells → columns after ≡ columns cells
+    → effective after config sizes ≡ sized_by after config (estimated_widths cells config) (estimated_heights cells config)
+filled_in cells after config none sizes no_widths no_heights f rows many =
+    let wide = estimated_widths cells config in
+    let high = estimated_heights cells config in
+    let widths : effective_sizes (widths_of sizes) (estimated_widths after config) (columns after) ≡ wide =
+    ap (λ o. effective_sizes o (estimated_widths after config) (columns after)) (f.widths ∙ ap (λ o. Some (unwrap_or o wide)) no_widths)
+    ∙ whole_list wide (columns after) (widths_length cells config ∙ sym many) in
+    let heights : effective_sizes (heights_of sizes) (estimated_heights after config) (length after) ≡ high =
+    ap (λ o. effective_sizes o (estimated_heights after config) (length after)) (f.heights ∙ ap (λ o. Some (unwrap_or o high)) no_heights)
+    ∙ whole_list high (length after) (heights_length cells config ∙ sym rows) in
+    ap (λ w. sized_by after config w (effective_sizes (heights_of sizes) (estimated_heights after config) (length after))) widths
+    ∙ ap (λ h. sized_by after config wide h) heights

@@ -3,8 +3,9 @@ use Rattle.std.specs.Prelude.{◌≡◌, ◌==◌, ◌||◌, ℕ, ◌-◌, Bool,
 use Rattle.std.specs.Int.{is_in_range}
 use Rattle.tabled_set.specs.CellChanges.{AreChanged, if_wider, truncating, wrapping}
 use Rattle.tabled_set.specs.declared.truncate.SuffixLimit.TheVariants.{Cut}
-use Rattle.tabled_set.specs.BestNarrowing.{inner_width}
-use Rattle.tabled_set.specs.Minimums.{minimums}
+use Rattle.tabled_config.specs.declared.spanned.SpannedConfig.{SpannedConfig}
+use Rattle.tabled_priority.specs.Permitted.{at}
+use Rattle.tabled_set.specs.Minimums.{minimums, side_padding}
 use Rattle.tabled_set.specs.Narrowed.{for_content_size}
 use Rattle.tabled_size.specs.Estimates.{estimated_heights}
 use Rattle.tabled_size.specs.Sheet.{Sheet}
@@ -40,11 +41,15 @@ pub record IsNarrowedTo (shrinks : List ℕ → List ℕ → ℕ → List ℕ �
 abbrev pub FitsInto : (List ℕ → List ℕ → ℕ → List ℕ → Type 0) → (ℕ → List ℕ → List ℕ → Type 0) → ℕ → Sheet → Sheet → Type 0
 FitsInto shrinks change n old new = MatchBool (nat_le (total_width old) n) (new ≡ old) (IsNarrowedTo shrinks change n old new)
 
+-- a cell is cut to the content width of its column
+abbrev pub cut_to : List ℕ → SpannedConfig → ℕ → ℕ → List ℕ → List ℕ → Type 0
+cut_to widths config row column = IsCut (at widths column - side_padding config row column)
+
 -- a streamed table has the sizes of the new one, and each cell is cut to its content width
 pub record IsStreamedFrom (old new : Sheet) : Type 0 where
   pub config : new.config ≡ old.config
   pub widths : new.widths ≡ old.widths
-  pub cells : AreChanged (λ row column. true) (λ row column. IsCut (inner_width old row column)) old.cells new.cells
+  pub cells : AreChanged (λ row column. true) (cut_to old.widths old.config) old.cells new.cells
   pub heights : new.heights ≡ old.heights
 
 -- the table that a plan makes of a whole one: the same, or one that fits into n columns

@@ -1,7 +1,6 @@
 //! `render`: prints a text as a table, and narrows it by wrapping or truncating its cells.
-ghost use Rattle.std.specs.Prelude.{◌≡◌, ◌⊎◌, IfErr, IfOk, false, length, All};
+ghost use Rattle.std.specs.Prelude.{◌≡◌, ◌⊎◌, IfErr, IfOk, false};
 ghost use Rattle.std.specs.List.{list_all};
-ghost use Rattle.tabled_text.specs.Measure.{lines_of};
 ghost use Rattle.tabled_base.specs.Cells.{IsRectangular};
 ghost use Rattle.tabled_base.specs.declared.error.TableError.TheVariants.{Memory, Range, Writer};
 ghost use Rattle.tabled_config.specs.Options.{with_style};
@@ -16,16 +15,15 @@ ghost use Rattle.tabled.specs.Rendered.{IsMade, IsRendered, IsRenderedOf};
 
 use crate::order_priority::OrderPriority;
 use crate::plan::Plan;
+use crate::streaming::cut_cells;
 use std::alloc::Global;
-use tabled_base::{
-    CellText, ExactRecords, PeekableRecords, RecordsMut, TableError, TableOption, VecRecords,
-};
-use tabled_config::{ColoredConfig, Style};
+use tabled_base::{PeekableRecords, RecordsMut, TableError, TableOption};
+use tabled_config::{ColoredConfig, SpannedConfig, Style};
 use tabled_grid::{TextSink, print_estimated, print_standing};
-use tabled_records::{ChangedRecords, lend_cells, text_rows};
+use tabled_records::{ChangedRecords, text_rows};
 use tabled_set::{Truncate, Wrap};
-use tabled_size::CompleteDimension;
-use tabled_table::{IterTable, new_config};
+use tabled_size::{CompleteDimension, Estimate};
+use tabled_table::new_config;
 
 /// Wraps or truncates the cells of a table with estimated sizes, as a plan says, and returns its
 /// new sizes.
@@ -104,21 +102,24 @@ fn print_measured<R: PeekableRecords, S: TextSink>(
     }
 }
 
-/// Prints records as an `IterTable` that reads all rows ahead.
-fn print_streamed<T: CellText, S: TextSink>(
+/// Prints the table that an `IterTable` streams that reads all rows ahead: each cell is cut to its
+/// column.
+fn print_streamed<R: PeekableRecords, S: TextSink>(
     alloc: Global,
+    rows: &R,
+    config: &SpannedConfig,
     sink: &mut S,
-    records: &VecRecords<T>,
 ) -> Result<(), TableError>
-    requires filled { is_empty records.now ≡ false }
-    requires texts { AreTexts records.now }
-    requires lines { All (All (λ cell. length (lines_of cell) ≡ 1)) records.now }
-    requires rectangular { IsRectangular records.now }
-    ensures { IsRendered Plan.Streamed records.now (S.sent sink.old) result (S.sent sink.new) }
+    requires texts { AreTexts (R.cells rows.now) }
+    requires rectangular { IsRectangular (R.cells rows.now) }
+    ensures { IsRenderedOf Plan.Streamed (estimated (R.cells rows.now) config.now)
+        (S.sent sink.old) result (S.sent sink.new) }
 {
-    let mut table = IterTable::new(records.as_rows());
-    let whole = *table.sniff(records.count_rows());
-    whole.fmt(alloc, sink)
+    let mut sizes = CompleteDimension::new(alloc);
+    sizes.estimate(rows, config)?;
+    let mut cells = ChangedRecords::new(alloc, rows)?;
+    cut_cells(&mut cells, config, sizes.get_widths().unwrap_or(&[]))?;
+    print_standing(sink, &cells, config, &sizes)
 }
 
 fn print_records<R: PeekableRecords, S: TextSink>(
@@ -127,14 +128,12 @@ fn print_records<R: PeekableRecords, S: TextSink>(
     plan: Plan,
     sink: &mut S,
 ) -> Result<(), TableError>
-    requires filled { is_empty (R.cells rows.now) ≡ false }
     requires texts { AreTexts (R.cells rows.now) }
-    requires lines { All (All (λ cell. length (lines_of cell) ≡ 1)) (R.cells rows.now) }
     requires rectangular { IsRectangular (R.cells rows.now) }
     ensures { IsRendered plan (R.cells rows.now) (S.sent sink.old) result (S.sent sink.new) }
 {
     match plan {
-        Plan::Streamed => print_streamed(alloc, sink, &lend_cells(alloc, rows)?),
+        Plan::Streamed => print_streamed(alloc, rows, &new_config(alloc), sink),
         _ => {
             let config = ColoredConfig::new(new_config(alloc));
             print_measured(alloc, rows, config, plan, sink)

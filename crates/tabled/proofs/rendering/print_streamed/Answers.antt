@@ -1,33 +1,44 @@
-use Rattle.std.proofs.Common.{◌≡◌, ◌∙◌, ◌<◌, ◌^◌, ◌++◌, Bor, List, Vec, Global, length, map, ap, subst, sym, arith}
-use Rattle.std.proofs.lemmas.List.{length-map}
-use Rattle.tabled_base.specs.Cells.{texts_of}
-use Rattle.tabled_line.specs.NewConfig.{IsNewConfig}
-use Rattle.tabled_table.specs.Stream.NewTable.{new_settings}
-use Rattle.tabled_table.specs.declared.iter_table.settings.StreamSettings.{StreamSettings}
-use Rattle.tabled_table.specs.declared.iter_table.IterTable.{IterTable}
-use Rattle.tabled_records.proofs.LentBegin.{lent_rows_begin}
-use Rattle.tabled.proofs.StreamedTables.{all_ahead, streamed_by}
+use Rattle.std.proofs.Common.{◌≡◌, ◌∙◌, Some, ap, inl, inr, not, subst, sym, true, unwrap_or, ⊎_elim}
+use Rattle.tabled_grid.specs.Printed.{Prints}
+use Rattle.tabled_set.proofs.ChangingCells.{columns-changed}
+use Rattle.tabled_set.specs.CellChanges.{AreChanged}
+use Rattle.tabled_size.specs.Estimates.{estimated_heights, estimated_widths}
+use Rattle.tabled_size.specs.Sheet.{Sheet, estimated}
+use Rattle.tabled_size.specs.Stored.{is_stored}
+use Rattle.tabled.specs.declared.plan.Plan.TheVariants.{Streamed}
+use Rattle.tabled.specs.Headline.{IsBestOf}
+use Rattle.tabled.specs.Planned.{IsPlannedOf, cut_to}
+use Rattle.tabled.proofs.FittedTables.{sized_by}
+use Rattle.tabled.proofs.RenderedTables.{prints_made, refused_early}
+use Rattle.tabled.proofs.StreamedTables.{filled_in, not_estimated, streamed_made, widths_read}
 use Rattle.tabled.proofs.rendering.print_streamed.Goals as goal
+
+pub returns-in_err-estimate : goal.returns-in_err-estimate
+returns-in_err-estimate g c =
+    let cells = g.R.ExactRecords.cells c.args.rows.now in
+    let config = c.args.config.now in
+    let whole = estimated cells config in
+    refused_early (IsPlannedOf Streamed whole) (IsBestOf Streamed whole) (λ e. ⊥) whole (g.S.TextSink.sent c.args.sink.now) c.from_residual.result _ c.from_residual.ensures.1
+    (⊎_elim (λ m. inl m) (λ k. inr k.0) c.in_err-estimate.ensures.only)
+    (λ r. ⊎_elim (λ m. let bad : ⊥ = cc in absurd bad) (λ k. let n = not_estimated cells config c.new-sizes.result k.1 in (n.0, inl n.1)) c.in_err-estimate.ensures.only)
 
 pub returns : goal.returns
 returns g c =
-    let cells = c.args.records.now in
-    let text = g.T.CellText.text in
-    let table = c.sniff-whole.result.now in
-    let set = c.sniff-whole.ensures.set in
-    let settings : table.settings ≡ all_ahead cells =
-    ap (λ (t : IterTable (Bor (List (Vec g.row.T.Denot Global)))). t.settings) set
-    ∙ ap (λ (s : StreamSettings). record s { sniff = c.count_rows.result }) c.new-table.ensures.settings
-    ∙ ap (λ n. record new_settings { sniff = n }) c.count_rows.ensures in
-    let config = ap (λ (t : IterTable (Bor (List (Vec g.row.T.Denot Global)))). t.config) set in
-    let records = ap (λ (t : IterTable (Bor (List (Vec g.row.T.Denot Global)))). t.records) set ∙ c.new-table.ensures.records in
-    let texts : texts_of text table.records.now ≡ cells = ap (λ (b : Bor (List (Vec g.row.T.Denot Global))). texts_of text b.now) records ∙ c.as_rows.ensures in
-    let listed = c.as_rows.result.now in
-    let short : length listed < 2 ^ 63 = omega arith in
-    let as_many : length cells ≡ length listed = sym (ap length c.as_rows.ensures) ∙ length-map listed (λ row. map text row.items) in
-    let few : length cells < 2 ^ 63 = omega arith in
-    streamed_by cells c.requires.filled c.requires.rectangular table.config (subst IsNewConfig (sym config) c.new-table.ensures.config) table.settings _
-    (g.S.TextSink.sent c.args.sink.now) c.fmt.result (g.S.TextSink.sent c.fmt.new.sink) settings c.requires.texts c.requires.lines few c.fmt.ensures.printed
-    (λ rows whole came.
-    let l = lent_rows_begin text table.records.now came.1 (λ it made. made.0) (λ row it made. made.0) in
-    (l.0, sym texts ∙ l.1 ∙ ap (λ rs. rs ++ l.0) (sym came.2), l.2))
+    let cells = g.R.ExactRecords.cells c.args.rows.now in
+    let config = c.args.config.now in
+    let sizes = c.estimate.new.self in
+    let after = c.cut_cells.new.records in
+    let filled = c.in_ok-estimate.ensures.ok in
+    let wide = estimated_widths cells config in
+    let stored : c.unwrap_or.result.now ≡ wide =
+    widths_read c.get_widths.result _ c.unwrap_or.result wide
+    (c.get_widths.ensures ∙ filled.widths ∙ ap (λ o. Some (unwrap_or o wide)) c.new-sizes.ensures.widths) c.unwrap_or.ensures in
+    let changed : AreChanged (λ row column. true) (cut_to wide config) cells after =
+    subst (λ old. AreChanged (λ row column. true) (cut_to wide config) old after) c.in_ok-cells.ensures.ok
+    (subst (λ w. AreChanged (λ row column. true) (cut_to w config) c.in_ok-cells.cells after) stored c.in_ok-cut_cells.ensures.ok) in
+    let old = g.S.TextSink.sent c.args.sink.now in
+    let new = g.S.TextSink.sent c.print_standing.new.sink in
+    let same = filled_in cells after config c.new-sizes.result sizes c.new-sizes.ensures.widths c.new-sizes.ensures.heights filled changed.rows (columns-changed changed) in
+    prints_made Streamed (estimated cells config) (not (is_stored sizes)) (sized_by after config wide (estimated_heights cells config)) old c.print_standing.result new
+    (streamed_made cells config c.requires.rectangular c.requires.texts after changed)
+    (subst (λ (t : Sheet). Prints (not (is_stored sizes)) t old c.print_standing.result new) same c.print_standing.ensures)

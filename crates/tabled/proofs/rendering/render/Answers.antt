@@ -2,15 +2,14 @@ use Rattle.std.proofs.Common.{◌≡◌, ◌∙◌, ℕ, List, length, All, Ok, 
 use Rattle.tabled_base.specs.Cells.{IsRectangular}
 use Rattle.tabled_records.specs.TextRows.{text_rows}
 use Rattle.tabled_config.specs.declared.spanned.SpannedConfig.{SpannedConfig}
-use Rattle.tabled_size.specs.Sheet.{estimated, is_empty}
+use Rattle.tabled_size.specs.Sheet.{estimated}
 use Rattle.tabled_table.specs.NewConfig.{new_config}
 use Rattle.tabled_size.specs.TextCells.{AreTexts}
-use Rattle.tabled_text.specs.Measure.{lines_of}
 use Rattle.tabled.specs.Planned.{Cells, measured}
 use Rattle.tabled.specs.Rendered.{IsRendered, IsRenderedOf}
 use Rattle.tabled.proofs.PlainTexts.{rendered_plain}
 use Rattle.tabled.proofs.RenderedTables.{only_rendered, rendered_empty}
-use Rattle.tabled.proofs.Outputs.{one_line_each, text_empty, text_filled, text_rectangular, texts_of_text}
+use Rattle.tabled.proofs.Outputs.{text_empty, text_rectangular, texts_of_text}
 use Rattle.tabled.proofs.rendering.render.Goals as goal
 
 pub returns-then-is_empty-clause-rendered : goal.returns-then-is_empty-clause-rendered
@@ -49,15 +48,8 @@ returns-then-is_plain_text-clause-only g c =
     (subst (λ (cells : Cells). IsRenderedOf (measured plan) (estimated cells new_config) old r new) c.in_ok-rows.ensures.ok
     (subst (λ (d : SpannedConfig). IsRenderedOf (measured plan) (estimated c.in_ok-rows.rows d) old r new) (c.new-config.ensures ∙ c.new_config.ensures) c.print_measured.ensures)))
 
-pub print_records-requires-clause-filled : goal.print_records-requires-clause-filled
-print_records-requires-clause-filled g c = ap is_empty c.in_ok-rows.ensures.ok ∙ text_filled c.args.text.now c.if-is_empty.ensures
-
 pub print_records-requires-clause-texts : goal.print_records-requires-clause-texts
 print_records-requires-clause-texts g c = subst AreTexts (sym c.in_ok-rows.ensures.ok) (texts_of_text c.args.text.now c.utf8.text)
-
-pub print_records-requires-clause-lines : goal.print_records-requires-clause-lines
-print_records-requires-clause-lines g c =
-    subst (All (All (λ (cell : List ℕ). length (lines_of cell) ≡ 1))) (sym c.in_ok-rows.ensures.ok) (one_line_each c.args.text.now)
 
 pub print_records-requires-clause-rectangular : goal.print_records-requires-clause-rectangular
 print_records-requires-clause-rectangular g c = subst IsRectangular (sym c.in_ok-rows.ensures.ok) (text_rectangular c.args.text.now)
