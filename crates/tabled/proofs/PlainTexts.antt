@@ -1,10 +1,9 @@
 -- Texts of printable ASCII, whose tables are the same if they are streamed.
-use Rattle.std.proofs.Common.{◌≡◌, ℕ, ◌+◌, ◌-◌, ◌≤◌, ◌<◌, ◌==◌, ◌||◌, Bool, true, false, cond, List, [], length, replicate, map, take, Result, ⊎_elim, refl, sym, ap, subst, arith}
+use Rattle.std.proofs.Common.{◌≡◌, ℕ, ◌-◌, ◌≤◌, ◌==◌, ◌||◌, Bool, true, false, cond, List, [], ◌∷◌, length, replicate, take, Result, ⊎_elim, refl, sym, subst, arith}
 use Rattle.std.specs.Int.{is_in_range}
-use Rattle.std.specs.List.{All, AllPass, list_all, slice_index}
+use Rattle.std.specs.List.{All, AllPass, list_all, onto_first, slice_index, slice_split}
 use Rattle.std.proofs.lemmas.Bool.{cases_Bool}
-use Rattle.std.proofs.lemmas.Bool.Decides.{nat_tests}
-use Rattle.std.proofs.lemmas.List.Elements.{All-append, All-map, All-nil, All-replicate, All-take, All-weaker}
+use Rattle.std.proofs.lemmas.List.Elements.{All-append, All-cons, All-head, All-map, All-nil, All-replicate, All-tail, All-take, All-weaker}
 use Rattle.std.proofs.lemmas.List.Sums.{AllPass-from_list_all, list_all-from_AllPass}
 use Rattle.tabled_base.specs.Cells.{IsInside, cell_at, lengthened}
 use Rattle.tabled_base.specs.declared.error.TableError.{TableError}
@@ -26,8 +25,24 @@ use Rattle.tabled.specs.declared.plan.Plan.TheVariants.{Buffered, Streamed, Wrap
 use Rattle.tabled.specs.Headline.{IsBestOf, IsBestPlanned}
 use Rattle.tabled.specs.Planned.{Cells, IsPlanned, IsPlannedOf, IsStreamedFrom, is_plain_byte, measured}
 use Rattle.tabled.specs.Rendered.{Halts, IsRendered, IsRenderedOf}
-use Rattle.tabled.proofs.Outputs.{parted, text_rectangular, texts_of_text}
+use Rattle.tabled.proofs.Outputs.{text_rectangular}
 use Rattle.tabled.proofs.RenderedTables.{best_new, prints_as, rendered_new, whole_lines}
+
+-- a part begins with one more element that it may have
+onto : {X : Type 0} (R : X → Type 0) (x : X) (parts : List (List X)) → R x → All (All R) parts → All (All R) (onto_first x parts)
+onto R x [] r h = All-cons (All R) (x ∷ []) [] (All-cons R x [] r (All-nil R)) (All-nil (All R))
+onto R x (part ∷ parts) r h =
+    All-cons (All R) (x ∷ part) parts (All-cons R x part r (All-head (All R) part parts h)) (All-tail (All R) part parts h)
+
+-- what holds of each element that parts nothing holds in each part
+parted : {X : Type 0} (R : X → Type 0) (p : X → Bool) (xs : List X) → All (λ x. p x ≡ false → R x) xs → All (All R) (slice_split p xs)
+parted R p [] h = All-cons (All R) [] [] (All-nil R) (All-nil (All R))
+parted {X} R p (x ∷ xs) h =
+    let S : X → Type 0 = λ y. p y ≡ false → R y in
+    let more = parted R p xs (All-tail S x xs h) in
+    let Q : Bool → Type 0 = λ b. All (All R) (cond b ([] ∷ slice_split p xs) (onto_first x (slice_split p xs))) in
+    ⊎_elim (λ y. subst Q (sym y) (All-cons (All R) [] (slice_split p xs) (All-nil R) more))
+    (λ no. subst Q (sym no) (onto R x (slice_split p xs) (All-head S x xs h no) more)) (cases_Bool (p x))
 
 -- a byte of a line
 abbrev in_line : ℕ → Bool

@@ -7,7 +7,6 @@ use Rattle.std.proofs.lemmas.List.{ext_get_or, get_or-set_other, get_or-set_same
 use Rattle.std.proofs.lemmas.List.Elements.{All-from_get_or}
 use Rattle.tabled_base.specs.Cells.{IsInside, IsRectangular, cell_at, columns, with_cell}
 use Rattle.tabled_config.specs.declared.spanned.SpannedConfig.{SpannedConfig}
-use Rattle.tabled_config.specs.Settings.{style_at}
 use Rattle.tabled_grid.proofs.EstimatedSizes.{holds_estimated, passes_too_high, passes_too_wide, sized_estimated}
 use Rattle.tabled_grid.specs.Printed.{IsOutOfRange}
 use Rattle.tabled_priority.specs.Permitted.{at}
@@ -16,7 +15,7 @@ use Rattle.tabled_set.specs.Minimums.{side_padding}
 use Rattle.tabled_set.proofs.ChangingCells.{IsInside-before, at-chosen, covers-cell, match-false, match-true}
 use Rattle.tabled_set.specs.Common.{Cell, covers}
 use Rattle.tabled_set.proofs.ExactTotals.{changed_empty}
-use Rattle.tabled_size.specs.Estimates.{estimated_heights, estimated_widths, needed_width}
+use Rattle.tabled_size.specs.Estimates.{estimated_heights, estimated_widths}
 use Rattle.tabled_size.proofs.Totalling.{heights_length, widths_length}
 use Rattle.tabled_size.specs.Effective.{effective, effective_sizes}
 use Rattle.tabled_size.specs.FilledIn.{HasNoEstimate, IsFilledIn}

@@ -20,7 +20,7 @@ pub enum Order {
 pub enum Plan {
     /// Measures the whole table, and then prints it.
     Buffered,
-    /// Prints row by row, and cuts each cell to its column.
+    /// Cuts each cell to its column, as an `IterTable` that reads all rows ahead.
     Streamed,
     /// Wraps the cells of a table that is wider than `target` columns, with `words` between words
     /// where possible.

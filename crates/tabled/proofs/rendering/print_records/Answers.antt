@@ -1,7 +1,6 @@
 use Rattle.std.proofs.Common.{◌∙◌, subst, sym}
 use Rattle.tabled_config.specs.declared.spanned.SpannedConfig.{SpannedConfig}
 use Rattle.tabled_size.specs.Sheet.{estimated}
-use Rattle.tabled_size.specs.TextCells.{AreTexts}
 use Rattle.tabled_table.specs.NewConfig.{new_config}
 use Rattle.tabled.specs.Planned.{measured}
 use Rattle.tabled.specs.declared.plan.Plan.{Plan}

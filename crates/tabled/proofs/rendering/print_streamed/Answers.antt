@@ -1,4 +1,4 @@
-use Rattle.std.proofs.Common.{◌≡◌, ◌∙◌, Some, ap, inl, inr, not, subst, sym, true, unwrap_or, ⊎_elim}
+use Rattle.std.proofs.Common.{◌≡◌, ◌∙◌, Some, ap, inl, inr, not, subst, true, unwrap_or, ⊎_elim}
 use Rattle.tabled_grid.specs.Printed.{Prints}
 use Rattle.tabled_set.proofs.ChangingCells.{columns-changed}
 use Rattle.tabled_set.specs.CellChanges.{AreChanged}

@@ -1,4 +1,4 @@
-use Rattle.std.proofs.Common.{◌≡◌, ◌∙◌, ℕ, List, length, All, Ok, ap, refl, subst, sym}
+use Rattle.std.proofs.Common.{◌∙◌, Ok, refl, subst, sym}
 use Rattle.tabled_base.specs.Cells.{IsRectangular}
 use Rattle.tabled_records.specs.TextRows.{text_rows}
 use Rattle.tabled_config.specs.declared.spanned.SpannedConfig.{SpannedConfig}

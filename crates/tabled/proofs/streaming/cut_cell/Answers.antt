@@ -1,4 +1,4 @@
-use Rattle.std.proofs.Common.{◌≡◌, string_bytes, sym, subst}
+use Rattle.std.proofs.Common.{string_bytes, sym, subst}
 use Rattle.std.specs.Cow.{cow_str_bytes}
 use Rattle.tabled_base.specs.Cells.{cell_at}
 use Rattle.tabled_set.specs.CellChanges.{AreChanged}

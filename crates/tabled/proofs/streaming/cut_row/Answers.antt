@@ -1,5 +1,5 @@
 use Rattle.std.proofs.Common.{arith, subst}
-use Rattle.tabled_set.proofs.ChangingCells.{AreChanged-next, AreChanged-same, IsInside-changed}
+use Rattle.tabled_set.proofs.ChangingCells.{AreChanged-next, IsInside-changed}
 use Rattle.tabled_set.specs.Common.{IsCut}
 use Rattle.tabled.proofs.streaming.cut_row.Goals as goal
 
