@@ -5,7 +5,7 @@ use crate::reading::Rows;
 use std::alloc::Global;
 use tabled::grid::config::{AlignmentHorizontal, ColoredConfig, Entity, new_config};
 use tabled::grid::dimension::CompleteDimension;
-use tabled::grid::records::lend_cells;
+use tabled::grid::records::ChangedRecords;
 use tabled::grid::{print_estimated, print_standing};
 use tabled::settings::{Style, TableOption, Width};
 use tabled::{TableError, TextSink};
@@ -37,7 +37,7 @@ pub fn put_rows<S: TextSink>(
     let Some(width) = width else {
         return print_estimated(alloc, sink, &rows.records, config.as_ref());
     };
-    let mut cells = lend_cells(alloc, &rows.records)?;
+    let mut cells = ChangedRecords::new(alloc, &rows.records)?;
     let mut sizes = CompleteDimension::new(alloc);
     let narrow = Width::wrap(width).keep_words(true);
     let narrow = narrow.priority(NumbersLast {

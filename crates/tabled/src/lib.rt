@@ -283,7 +283,9 @@ pub mod grid {
             CellText, ExactRecords, IntoRecords, PeekableRecords, Records, RecordsMut, Text,
             VecRecords,
         };
-        pub use tabled_records::{EmptyRecords, IterRecords, JoinedRecords, LentRows, lend_cells};
+        pub use tabled_records::{
+            ChangedRecords, EmptyRecords, IterRecords, JoinedRecords, LentRows,
+        };
 
         /// Views of records that are read row by row.
         ///

@@ -6,7 +6,6 @@ pub mod EmptyRuns
 pub mod FirstRuns
 pub mod Joining
 pub mod LaterRuns
-pub mod LentBegin
 pub mod LimitedRuns
 pub mod PassRuns
 pub mod Rows

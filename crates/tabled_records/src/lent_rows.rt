@@ -1,22 +1,20 @@
-//! Rows whose cells borrow one text or the cells of other records.
+//! Rows whose cells borrow one text.
 ghost use Rattle.std.specs.Prelude.{◌≡◌, ℕ, List, length, [], ◌<◌, ◌≤◌, IfErr, IfOk, OnErr, map};
 ghost use Rattle.std.specs.Prelude.{true};
-ghost use Rattle.std.specs.Prelude.{slice_index_or};
 ghost use Rattle.tabled_records.specs.Joined.{AreKept, texts_from};
 ghost use Rattle.tabled_records.specs.JoinedRows.{AreRanges, rows_in};
 ghost use Rattle.std.specs.List.{slice_range};
 ghost use Rattle.std.specs.Str.{IsCharBoundary};
-ghost use Rattle.tabled_base.specs.Cells.{lengthened, columns};
+ghost use Rattle.tabled_base.specs.Cells.{lengthened};
 ghost use Rattle.tabled_records.specs.LentRows.{HasNo, IsLent, IsPrintable};
 ghost use Rattle.tabled_records.specs.TextRows.{cells_of, most_cells, text_rows};
 ghost use Rattle.tabled_base.specs.declared.error.TableError.TheVariants.{Memory};
 ghost use Rattle.tabled_text.specs.Measure.{lines_of};
 
 use crate::row_ranges::{Pairs, RowRanges};
-use std::alloc::{AllocError, Global};
-use std::borrow::CowStr;
+use std::alloc::Global;
 use std::marker::Model;
-use tabled_base::{ExactRecords, PeekableRecords, Position, TableError, Text, VecRecords};
+use tabled_base::{ExactRecords, PeekableRecords, Position, TableError};
 use tabled_text::{line_width, run_end};
 
 /// Rows whose cells borrow one text. Rows shorter than the longest end with empty cells.
@@ -154,40 +152,4 @@ fn cell_columns(text: &str, start: usize, end: usize, printable: bool) -> usize
     } else {
         line_width(&text[start..end])
     }
-}
-
-/// Makes records whose cells borrow those of `records`: no text is copied or measured again. A cell
-/// that is set gets its own text. Error: `Memory`.
-pub fn lend_cells<R: PeekableRecords>(
-    alloc: Global,
-    records: &R,
-) -> Result<VecRecords<Text<CowStr<'_, Global>>>, TableError>
-    ensures ok { IfOk result (λ lent. lent ≡ R.cells records.now) }
-    ensures only { IfErr result (λ e. e ≡ Memory) }
-{
-    let count = records.count_rows();
-    let columns = records.count_columns();
-    let mut rows = Vec::with_capacity(alloc, count)?;
-    'rows: for row in 0..count {
-        rows.push(lend_row(alloc, records, row, columns)?)?;
-    }
-    Ok(VecRecords::new(rows))
-}
-
-fn lend_row<R: PeekableRecords>(
-    alloc: Global,
-    records: &R,
-    row: usize,
-    count: usize,
-) -> Result<Vec<Text<CowStr<'_, Global>>>, AllocError>
-    requires row { row < length (R.cells records.now) }
-    requires columns { count ≡ columns (R.cells records.now) }
-    requires long { length (slice_index_or (R.cells records.now) row []) ≡ count }
-    ensures ok { IfOk result (λ lent. lent.items ≡ slice_index_or (R.cells records.now) row []) }
-{
-    let mut cells = Vec::with_capacity(alloc, count)?;
-    'cells: for column in 0..count {
-        cells.push(Text::lend(records, Position::new(row, column)))?;
-    }
-    Ok(cells)
 }

@@ -5,7 +5,7 @@
 //! - `row_ranges.rt`: `RowRanges`, rows as ranges of a list of texts, and `Pairs`, a list of pairs
 //!   that takes half the memory while the numbers are small.
 //! - `lent_rows.rt`: `LentRows`, rows whose cells borrow one text; `text_rows` finds them in a
-//!   text. `lend_cells` makes records whose cells borrow those of other records.
+//!   text.
 //! - `flat_rows.rt`: `FlatRows`, rows whose cells are in one list.
 //! - `joined_records.rt`: `JoinedRecords`, rows of texts that are joined in one buffer.
 //! - `changed_records.rt`: `ChangedRecords`, other records with some cells changed;
@@ -43,6 +43,6 @@ pub use changed_records::ChangedRecords;
 pub use empty::{EmptyCells, EmptyRecords, EmptyRows};
 pub use iter_records::IterRecords;
 pub use joined_records::JoinedRecords;
-pub use lent_rows::{LentRows, lend_cells, text_rows};
+pub use lent_rows::{LentRows, text_rows};
 pub use limits::{FirstCells, LaterRows, LimitColumns, LimitRows, NarrowRows, SkipRows};
 pub use truncate::{CutCell, CutCells, CutRows, TruncateContent};
