@@ -6,7 +6,6 @@ ghost use Rattle.tabled_base.specs.ShortOr.{bytes_of};
 
 use arrayvec::ArrayString;
 use std::alloc::{AllocError, Global};
-use std::borrow::CowStr;
 use std::convert::AsStr;
 use std::fmt;
 
@@ -39,22 +38,6 @@ impl Shorten for String {
 
     fn shorten(&mut self, length: usize) {
         self.truncate(length);
-    }
-}
-
-impl<'a> Shorten for CowStr<'a, Global> {
-    fn owned(text: String) -> CowStr<'a, Global> {
-        CowStr::Owned(text)
-    }
-
-    fn shorten(&mut self, length: usize) {
-        match self {
-            CowStr::Borrowed(text) => {
-                let (front, _) = text.split_at(length);
-                *text = front;
-            }
-            CowStr::Owned(text) => text.truncate(length),
-        }
     }
 }
 

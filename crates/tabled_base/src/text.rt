@@ -1,17 +1,14 @@
 //! `Text`, a string with its width and number of lines.
 ghost use Rattle.std.specs.Prelude.{◌≡◌, ◌++◌, ◌<◌, ℕ, List, length, take, IfErr, IfOk};
 ghost use Rattle.std.specs.Str.{IsCharBoundary};
-ghost use Rattle.tabled_base.specs.Cells.{IsInside, cell_at};
 ghost use Rattle.tabled_base.specs.ShortOr.{FitsBehind};
 ghost use Rattle.tabled_base.specs.declared.error.TableError.TheVariants.{Memory};
 ghost use Rattle.tabled_text.specs.Measure.{lines_of, text_columns};
 
 use crate::error::TableError;
-use crate::position::Position;
-use crate::records::{CellText, PeekableRecords};
+use crate::records::CellText;
 use crate::short_or::{SHORT_TEXT, ShortOr, Shorten};
 use std::alloc::Global;
-use std::borrow::CowStr;
 use std::convert::AsStr;
 use std::marker::Model;
 use tabled_text::text_measures;
@@ -78,22 +75,6 @@ impl<S: Shorten + Drop> Text<S> {
         let (columns, lines) = text_measures(self.text.as_str());
         self.columns = columns;
         self.lines = lines;
-    }
-}
-
-impl<'a> Text<CowStr<'a, Global>> {
-    /// Borrows the text of a cell with its measures, without copying. Records that store the
-    /// measures aren't measured again.
-    pub fn lend<R: PeekableRecords>(records: &'a R, at: Position) -> Text<CowStr<'a, Global>>
-        requires inside { IsInside (R.cells records.now) at.row at.column }
-        ensures { result ≡ cell_at (R.cells records.now) at.row at.column }
-    {
-        let (text, columns, lines) = records.get_measured(at);
-        Text {
-            text: ShortOr::Other(CowStr::Borrowed(text)),
-            columns,
-            lines,
-        }
     }
 }
 
