@@ -30,12 +30,9 @@ pub enum RowValues<'a, T> {
 fn value_of<'a, T>(global: &'a T, changes: &'a [(Entity, T)], place: Option<usize>) -> &'a T
     ensures { result.now ≡ value_of global.now changes.now place }
 {
-    let Some(place) = place else {
-        return global;
-    };
-    match changes.get(place) {
-        Some(change) => &change.1,
-        None => global,
+    match place {
+        Some(place) if place < changes.len() => &changes[place].1,
+        _ => global,
     }
 }
 
