@@ -1,29 +1,29 @@
 -- The sizes that stand: those that a dimension stores, and estimates where it stores none.
-use Rattle.std.proofs.Common.{◌≡◌, ℕ, ◌<◌, ◌≤◌, ◌^◌, ◌⊎◌, ◌&&◌, inl, inr, ⊎_elim, List, length, Option, Some, None, Result, Ok, Err, IfErr, OnOk, MatchResult, Bool, is_some, true, false, refl, sym, ap, subst, ◌∙◌, arith}
+use Rattle.std.proofs.Common.{◌≡◌, ℕ, ◌<◌, ◌≤◌, ◌^◌, ◌⊎◌, ◌&&◌, inl, inr, ⊎_elim, List, length, Option, Some, None, Result, Ok, Err, IfErr, OnOk, MatchResult, Bool, is_some, take, unwrap_or, true, false, refl, sym, ap, subst, ◌∙◌, arith}
+use Rattle.std.specs.List.{slice_index}
 use Rattle.std.specs.Result.{IsErrAnd}
+use Rattle.std.proofs.lemmas.List.{get_or-take, length-take-le}
 use Rattle.tabled_base.specs.Cells.{columns}
 use Rattle.tabled_base.specs.declared.error.TableError.{TableError}
 use Rattle.tabled_base.specs.declared.error.TableError.TheVariants.{Memory, ShortWidths, ShortHeights, Narrow, Range, Writer}
 use Rattle.tabled_config.specs.declared.spanned.SpannedConfig.{SpannedConfig}
 use Rattle.tabled_size.specs.declared.complete_dimension.CompleteDimension.{CompleteDimension}
-use Rattle.tabled_size.specs.Estimates.{estimated_heights, estimated_widths}
+use Rattle.tabled_size.specs.Estimates.{estimated_heights, estimated_widths, needed_width}
 use Rattle.tabled_size.specs.FilledIn.{HasNoEstimate, IsFilledIn}
 use Rattle.tabled_size.specs.Reached.{reached}
-use Rattle.tabled_size.specs.Sheet.{Sheet, estimated, is_empty}
+use Rattle.tabled_size.specs.Sheet.{Sheet, estimated}
 use Rattle.tabled_size.specs.Entries.{stored_at}
 use Rattle.tabled_size.specs.Effective.{effective, effective_sizes}
 use Rattle.tabled_size.specs.Stored.{heights_of, is_stored, widths_of}
 use Rattle.tabled_size.specs.Totals.{filled_height, filled_width}
-use Rattle.tabled_size.proofs.Passing.{too_high_passes, too_wide_passes}
-use Rattle.tabled_size.proofs.Reaching.{reached_filled, reached_effective}
+use Rattle.tabled_size.proofs.Passing.{too_high_passes, too_wide_passes, width_at, width_ge}
+use Rattle.tabled_size.proofs.Reaching.{reached_filled, reached_effective, reached_stored}
 use Rattle.tabled_size.proofs.Totalling.{heights_length, reached_stands, widths_length}
 use Rattle.tabled_grid.specs.Grid.{sheet_by}
 use Rattle.tabled_size.specs.Holds.{Holds, IsSized}
 use Rattle.tabled_grid.specs.Narrow.{IsNarrow}
-use Rattle.tabled_grid.specs.Printed.{IsRefused, IsOutOfRange, Prints}
-use Rattle.tabled_line.specs.Sent.{Sent}
+use Rattle.tabled_grid.specs.Printed.{IsRefused, IsOutOfRange}
 use Rattle.tabled_grid.proofs.EstimatedSizes.{holds_estimated}
-use Rattle.tabled_grid.proofs.Printing.{refused_so}
 
 abbrev sized_by : List (List (List ℕ)) → SpannedConfig → List ℕ → List ℕ → Sheet
 sized_by cells config widths heights = record { cells = cells; config = config; widths = widths; heights = heights }
@@ -55,6 +55,12 @@ module _ (o : Option (List ℕ)) (list estimates : List ℕ) (count n : ℕ) (e 
 pub sizes_estimated : (o : Option (List ℕ)) (estimates : List ℕ) (count : ℕ) → length estimates ≡ count → o ≡ None
     → count ≤ length (effective_sizes o estimates count)
 sizes_estimated o estimates count e s = subst (λ p. count ≤ length (effective_sizes p estimates count)) (sym s) (omega arith)
+
+-- a function that hands an error on
+pub handed_on : {T : Type 0} (Q : T → Type 0) (P : TableError → Type 0) (r : Result T TableError) (e : TableError) → IsErrAnd r (λ d. d ≡ e) → P e
+    → MatchResult r Q P
+handed_on Q P (Ok x) e i h = absurd i
+handed_on Q P (Err d) e i h = subst P (sym i) h
 
 -- what a check of stored sizes returns
 pub short_refused : {T : Type 0} (r : Result T TableError) (t : Sheet) (e : TableError) → IsErrAnd r (λ d. d ≡ e)
@@ -96,22 +102,13 @@ module _ (cells : List (List (List ℕ))) (config : SpannedConfig) where
       (reached_effective (heights_of sizes) (estimated_heights cells config) (length cells) h)
 
   -- and where estimates fill in what isn't
-  pub answered_filled : (sizes copy new : CompleteDimension) → widths_of copy ≡ widths_of sizes → heights_of copy ≡ heights_of sizes → IsFilledIn copy cells config new → answered cells config new ≡ effective cells config sizes
-  answered_filled sizes copy new w h filled =
+  pub answered_filled : (sizes new : CompleteDimension) → IsFilledIn sizes cells config new → answered cells config new ≡ effective cells config sizes
+  answered_filled sizes new filled =
       same_sizes _ _ _ _
       (ap (λ o. reached (stored_at o) (columns cells)) filled.widths
-      ∙ reached_filled (widths_of copy) (estimated_widths cells config) (columns cells) (widths_length cells config)
-      ∙ ap (λ o. effective_sizes o (estimated_widths cells config) (columns cells)) w)
+      ∙ reached_filled (widths_of sizes) (estimated_widths cells config) (columns cells) (widths_length cells config))
       (ap (λ o. reached (stored_at o) (length cells)) filled.heights
-      ∙ reached_filled (heights_of copy) (estimated_heights cells config) (length cells) (heights_length cells config)
-      ∙ ap (λ o. effective_sizes o (estimated_heights cells config) (length cells)) h)
-
-  -- a copy has the sizes that stand
-  pub same_effective : (sizes copy : CompleteDimension) → widths_of copy ≡ widths_of sizes → heights_of copy ≡ heights_of sizes → effective cells config copy ≡ effective cells config sizes
-  same_effective sizes copy w h =
-      same_sizes _ _ _ _
-      (ap (λ o. effective_sizes o (estimated_widths cells config) (columns cells)) w)
-      (ap (λ o. effective_sizes o (estimated_heights cells config) (length cells)) h)
+      ∙ reached_filled (heights_of sizes) (estimated_heights cells config) (length cells) (heights_length cells config))
 
   -- where nothing is stored the estimates stand
   pub effective_estimated : (sizes : CompleteDimension) → widths_of sizes ≡ None → heights_of sizes ≡ None → effective cells config sizes ≡ estimated cells config
@@ -167,15 +164,43 @@ module _ (cells : List (List (List ℕ))) (config : SpannedConfig) where
       subst (λ ws. Holds (sized_by cells config ws (effective cells config sizes).heights)) (ap stands (sym s)) (holds_estimated cells config)
 
   -- a size that can't be estimated makes a total pass
-  pub passes_effective : (sizes : CompleteDimension) → HasNoEstimate sizes cells config → IsOutOfRange (effective cells config sizes)
+  passes_effective : (sizes : CompleteDimension) → HasNoEstimate sizes cells config → IsOutOfRange (effective cells config sizes)
   passes_effective sizes cause =
       ⊎_elim
       (λ w. inl (subst (λ o. 2 ^ 64 ≤ filled_width config (columns cells) (effective_sizes o (estimated_widths cells config) (columns cells))) (sym w.0) (too_wide_passes cells config w.1)))
       (λ h. inr (subst (λ o. 2 ^ 64 ≤ filled_height config (length cells) (effective_sizes o (estimated_heights cells config) (length cells))) (sym h.0) (too_high_passes cells config h.1))) cause
 
-  pub refused_unestimated : {T : Type 0} (sizes copy : CompleteDimension) (a : Sent) (r : Result T TableError) (e : TableError) → widths_of copy ≡ widths_of sizes → heights_of copy ≡ heights_of sizes → is_empty cells ≡ false → IsSized (effective cells config sizes) → Holds (effective cells config sizes) → (e ≡ Memory) ⊎ ((e ≡ Range) × HasNoEstimate copy cells config) → IsErrAnd r (λ d. d ≡ e) → Prints true (effective cells config sizes) a r a
-  refused_unestimated sizes copy a r e w h filled sized held cause is =
-      let P : TableError → Type 0 = IsRefused (effective cells config sizes) in
+  pub refused_unestimated : (sizes copy : CompleteDimension) (e : TableError) → widths_of copy ≡ widths_of sizes → heights_of copy ≡ heights_of sizes
+      → IsSized (effective cells config sizes) → Holds (effective cells config sizes)
+      → (e ≡ Memory) ⊎ ((e ≡ Range) × HasNoEstimate copy cells config) → (e ≡ Memory) ⊎ IsRefused (effective cells config sizes) e
+  refused_unestimated sizes copy e w h sized held cause =
       let same : HasNoEstimate copy cells config → HasNoEstimate sizes cells config = ⊎_elim (λ x. inl (sym w ∙ x.0, x.1)) (λ x. inr (sym h ∙ x.0, x.1)) in
-      refused_so (effective cells config sizes) a r e filled
-      (⊎_elim (λ m. inl m) (λ x. inr (subst P (sym x.0) (sized, held, passes_effective sizes (same x.1)))) cause) is
+      ⊎_elim (λ m. inl m)
+      (λ x. inr (subst (IsRefused (effective cells config sizes)) (sym x.0) (sized, held, passes_effective sizes (same x.1)))) cause
+
+  -- stored widths that are as large as the estimates hold the cells
+  pub held_enough : (sizes : CompleteDimension) (list : List ℕ) → widths_of sizes ≡ Some list
+      → ((c : ℕ) → c < columns cells → slice_index (estimated_widths cells config) c ≤ slice_index list c) → Holds (effective cells config sizes)
+  held_enough sizes list some enough row column r c =
+      let n = columns cells in
+      let fits : needed_width cells config row column ≤ slice_index (take n list) column =
+      omega (arith, width_at cells config column c, width_ge cells config row column r, enough column c, get_or-take n list column 0 c) in
+      subst (λ o. needed_width cells config row column ≤ slice_index (effective_sizes o (estimated_widths cells config) n) column) (sym some) fits
+
+  pub sized_enough : (sizes : CompleteDimension) (list : List ℕ) → widths_of sizes ≡ Some list → is_stored sizes ≡ false
+      → columns cells ≤ length list → IsSized (effective cells config sizes)
+  sized_enough sizes list some one long =
+      sized_widths sizes list (columns cells) refl some one
+      (subst (λ o. columns cells ≤ length (reached (stored_at o) (columns cells))) (sym some)
+      (omega (arith, ap length (reached_stored list (columns cells)), length-take-le (columns cells) list long)))
+
+  -- and heights that are estimated complete them
+  pub filled_heights : (sizes new : CompleteDimension) (list : List ℕ) → widths_of sizes ≡ Some list → is_stored sizes ≡ false
+      → widths_of new ≡ widths_of sizes → heights_of new ≡ Some (estimated_heights cells config) → IsFilledIn sizes cells config new
+  filled_heights sizes new list some one w h =
+      let none : heights_of sizes ≡ None =
+      none-from (heights_of sizes) (subst (λ o. (is_some o && is_some (heights_of sizes)) ≡ false) some one) in
+      record {
+        widths = w ∙ some ∙ ap (λ o. Some (unwrap_or o (estimated_widths cells config))) (sym some);
+        heights = h ∙ ap (λ o. Some (unwrap_or o (estimated_heights cells config))) (sym none);
+      }

@@ -1,13 +1,12 @@
 -- Tables with estimated sizes: they hold their cells, so that the range alone can refuse them.
-use Rattle.std.proofs.Common.{◌≡◌, ℕ, ◌<◌, inl, inr, ◌==◌, ◌||◌, false, List, length, refl, arith}
-use Rattle.std.proofs.lemmas.Bool.Decides.{nat_tests}
+use Rattle.std.proofs.Common.{◌≡◌, ℕ, inl, inr, List, length, refl, arith}
 use Rattle.std.proofs.lemmas.List.FromFn.{length-map-range_with_len}
 use Rattle.tabled_base.specs.Cells.{columns}
 use Rattle.tabled_base.specs.declared.error.TableError.{TableError}
 use Rattle.tabled_base.specs.declared.error.TableError.TheVariants.{Memory, ShortWidths, ShortHeights, Narrow, Range, Writer}
 use Rattle.tabled_config.specs.declared.spanned.SpannedConfig.{SpannedConfig}
 use Rattle.tabled_size.specs.Estimates.{IsTooHigh, IsTooWide, column_width, estimated_heights, estimated_widths, row_height}
-use Rattle.tabled_size.specs.Sheet.{estimated, is_empty}
+use Rattle.tabled_size.specs.Sheet.{estimated}
 use Rattle.tabled_size.proofs.Passing.{too_high_passes, too_wide_passes, width_at, width_ge}
 use Rattle.tabled_size.specs.Holds.{Holds, IsSized}
 use Rattle.tabled_grid.specs.Printed.{IsRefused, IsOutOfRange}
@@ -44,16 +43,3 @@ passes_too_wide cells config h = inl (too_wide_passes cells config h)
 -- a cell that needs more lines than a number can say makes the total height pass
 pub passes_too_high : (cells : List (List (List ℕ))) (config : SpannedConfig) → IsTooHigh cells config → IsOutOfRange (estimated cells config)
 passes_too_high cells config h = inr (too_high_passes cells config h)
-
-some_of_both : (row column m n : ℕ) → row < m → column < n → ((m == 0) || (n == 0)) ≡ false
-some_of_both row column m n r c = grind (arith, nat_tests)
-
--- a table with a cell isn't empty
-pub filled_inside : (cells : List (List (List ℕ))) (row column : ℕ) → row < length cells → column < columns cells → is_empty cells ≡ false
-filled_inside cells row column r c = some_of_both row column (length cells) (columns cells) r c
-
-pub filled_too_wide : (cells : List (List (List ℕ))) (config : SpannedConfig) → IsTooWide cells config → is_empty cells ≡ false
-filled_too_wide cells config h = filled_inside cells h.row h.column h.row_in h.column_in
-
-pub filled_too_high : (cells : List (List (List ℕ))) (config : SpannedConfig) → IsTooHigh cells config → is_empty cells ≡ false
-filled_too_high cells config h = filled_inside cells h.row h.column h.row_in h.column_in

@@ -4,12 +4,11 @@ use Rattle.std.specs.Result.{IsErrAnd}
 use Rattle.tabled_base.specs.declared.error.TableError.{TableError}
 use Rattle.tabled_base.specs.declared.error.TableError.TheVariants.{Memory, ShortWidths, ShortHeights, Narrow, Range, Writer}
 use Rattle.tabled_config.specs.declared.spanned.SpannedConfig.{SpannedConfig}
-use Rattle.tabled_size.specs.Estimates.{IsTooHigh, IsTooWide}
 use Rattle.tabled_size.specs.Sheet.{Sheet, estimated, is_empty}
 use Rattle.tabled_grid.specs.Picture.{picture, table_text}
 use Rattle.tabled_grid.specs.Printed.{Ends, IsPrintable, IsRefused, Prints}
 use Rattle.tabled_line.specs.Sent.{Sends, Sent, Stops}
-use Rattle.tabled_grid.proofs.EstimatedSizes.{holds_estimated, passes_too_high, passes_too_wide, refused_estimated, sized_estimated}
+use Rattle.tabled_grid.proofs.EstimatedSizes.{refused_estimated}
 use Rattle.tabled_line.proofs.Sending.{sends-none, sends-along}
 
 picture_none : (t : Sheet) → is_empty t.cells ≡ true → table_text t ≡ []
@@ -19,12 +18,6 @@ picture_none t e = rw e refl
 -- an empty table prints nothing
 pub prints_nothing : (t : Sheet) (a : Sent) → is_empty t.cells ≡ true → ((is_empty t.cells ≡ true) ⊎ IsPrintable t) × Sends a a (table_text t)
 prints_nothing t a e = (inl e, sends-along a a [] (table_text t) (sends-none a) (sym (picture_none t e)))
-
--- a call that takes no memory of its own is one that may
-pub estimating : {T : Type 0} (t : Sheet) (a b : Sent) (r : Result T TableError) → Prints false t a r b → Prints true t a r b
-estimating t a b (Ok x) p = p
-estimating t a b (Err e) p =
-    (p.0, ⊎_elim (λ r. inl r) (λ h. ⊎_elim (λ m. let never = m.0 in absurd (cc)) (λ s. inr (inr s)) h) p.1)
 
 -- refused before anything was written
 refused_early : (t : Sheet) (a : Sent) (e : TableError) → is_empty t.cells ≡ false → (e ≡ Memory) ⊎ IsRefused t e → (is_empty t.cells ≡ false) × Ends true t a e a
@@ -36,14 +29,6 @@ refused_so t a (Ok x) e filled cause h = absurd h
 refused_so t a (Err d) e filled cause h =
     let P : TableError → Type 0 = λ k. (is_empty t.cells ≡ false) × Ends true t a k a in
     subst P (sym h) (refused_early t a e filled cause)
-
--- a cell that is too wide, or too high
-pub refused_too_large : {T : Type 0} (cells : List (List (List ℕ))) (config : SpannedConfig) (a : Sent) (r : Result T TableError) (e : TableError) → is_empty cells ≡ false → (e ≡ Memory) ⊎ ((e ≡ Range) × (IsTooWide cells config ⊎ IsTooHigh cells config)) → IsErrAnd r (λ d. d ≡ e) → Prints true (estimated cells config) a r a
-refused_too_large cells config a r e filled cause h =
-    let P : TableError → Type 0 = IsRefused (estimated cells config) in
-    let passes : IsTooWide cells config ⊎ IsTooHigh cells config → _ = ⊎_elim (λ w. passes_too_wide cells config w) (λ t. passes_too_high cells config t) in
-    refused_so (estimated cells config) a r e filled
-    (⊎_elim (λ m. inl m) (λ x. inr (subst P (sym x.0) (sized_estimated cells config, holds_estimated cells config, passes x.1))) cause) h
 
 stopped_only : (a b : Sent) (e : TableError) (text : List ℕ) → Stops a e b text → (e ≡ Memory) ⊎ ((e ≡ Range) ⊎ (e ≡ Writer))
 stopped_only a b Memory text s = inl refl

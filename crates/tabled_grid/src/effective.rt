@@ -1,10 +1,14 @@
 //! Prints records with their effective sizes: the stored ones, or else estimates.
-ghost use Rattle.std.specs.Prelude.{◌≡◌, ◌⊎◌, IfErr, not, true};
+ghost use Rattle.std.specs.Prelude.{◌≡◌, ◌⊎◌, ◌<◌, ◌≤◌, ℕ, IfErr, IfSome, MatchResult, false};
+ghost use Rattle.std.specs.Prelude.{length, not, true};
+ghost use Rattle.std.specs.List.{slice_index};
 ghost use Rattle.tabled_base.specs.declared.error.TableError.TheVariants.{Memory, Range, Writer};
-ghost use Rattle.tabled_size.specs.Sheet.{estimated};
+ghost use Rattle.tabled_size.specs.Sheet.{estimated, is_empty};
 ghost use Rattle.tabled_size.specs.Effective.{effective};
+ghost use Rattle.tabled_size.specs.FilledIn.{IsFilledIn};
+ghost use Rattle.tabled_size.specs.Holds.{Holds, IsSized};
 ghost use Rattle.tabled_size.specs.Stored.{is_stored};
-ghost use Rattle.tabled_grid.specs.Printed.{Prints};
+ghost use Rattle.tabled_grid.specs.Printed.{IsRefused, Prints};
 ghost use Rattle.tabled_line.specs.Sent.{Sent};
 
 use crate::checks::check_stored;
@@ -14,7 +18,84 @@ use std::alloc::Global;
 use tabled_base::{PeekableRecords, TableError};
 use tabled_config::SpannedConfig;
 use tabled_line::TextSink;
-use tabled_size::{CompleteDimension, Estimate, is_empty};
+use tabled_size::{CompleteDimension, Estimate, estimate_sizes, is_empty};
+
+/// Whether there are at least the needed sizes.
+fn are_enough(sizes: &[usize], needed: &[usize]) -> bool
+    ensures enough { result ≡ true → length needed.now ≤ length sizes.now }
+    ensures each { result ≡ true → (i : ℕ) → i < length needed.now
+        → slice_index needed.now i ≤ slice_index sizes.now i }
+{
+    needed.len() <= sizes.len() && (0..needed.len()).all(|i| needed[i] <= sizes[i])
+}
+
+/// Completes stored widths with estimated heights. One pass over the cells also gives the needed
+/// widths, which check the stored ones. `None` if a cell doesn't fit, and wherever an error is
+/// possible.
+fn with_heights<R: PeekableRecords>(
+    records: &R,
+    config: &SpannedConfig,
+    stored: &CompleteDimension,
+) -> Option<CompleteDimension>
+    requires { is_stored stored.now ≡ false }
+    ensures { let t = effective (R.cells records.now) config.now stored.now in
+        IfSome result (λ sizes. IsFilledIn stored.now (R.cells records.now) config.now sizes
+        × IsSized t × Holds t) }
+{
+    let widths = stored.get_widths()?;
+    let Ok((needed, heights)) = estimate_sizes(stored.allocator(), records, config) else {
+        return None;
+    };
+    if !are_enough(widths, &needed) {
+        return None;
+    }
+    let Ok(mut sizes) = stored.clone() else {
+        return None;
+    };
+    sizes.set_heights(heights);
+    Some(sizes)
+}
+
+/// Returns the stored sizes, checked and completed with estimates. Errors: `Memory`, or those of
+/// `check_stored` and `estimate`.
+fn complete<R: PeekableRecords>(
+    records: &R,
+    config: &SpannedConfig,
+    stored: &CompleteDimension,
+) -> Result<CompleteDimension, TableError>
+    requires { is_stored stored.now ≡ false }
+    ensures { let t = effective (R.cells records.now) config.now stored.now in
+        MatchResult result (λ sizes. IsFilledIn stored.now (R.cells records.now) config.now sizes
+        × IsSized t × Holds t) (λ e. (e ≡ Memory) ⊎ IsRefused t e) }
+{
+    if let Some(sizes) = with_heights(records, config, stored) {
+        return Ok(sizes);
+    }
+    check_stored(records, config, stored)?;
+    let mut sizes = stored.clone()?;
+    sizes.estimate(records, config)?;
+    Ok(sizes)
+}
+
+/// Prints records with sizes that aren't all stored. The sizes and the cursors take 17 KB of stack,
+/// which `print_grid` doesn't need, so this is a separate function.
+#[inline(never)]
+fn print_completed<R: PeekableRecords, S: TextSink>(
+    sink: &mut S,
+    records: &R,
+    config: &SpannedConfig,
+    stored: &CompleteDimension,
+) -> Result<(), TableError>
+    requires filled { is_empty (R.cells records.now) ≡ false }
+    requires missing { is_stored stored.now ≡ false }
+    ensures { Prints true (effective (R.cells records.now) config.now stored.now)
+        (S.sent sink.old) result (S.sent sink.new) }
+{
+    let sizes = complete(records, config, stored)?;
+    let memory = Some(sizes.allocator());
+    let grid = Grid::new(records, config, &sizes, memory);
+    print_checked(memory, sink, &grid)
+}
 
 /// Prints records with their effective sizes: the stored ones, or else those that the cells need. A
 /// table with no row or no column prints nothing.
@@ -42,12 +123,7 @@ pub fn print_standing<R: PeekableRecords, S: TextSink>(
     if stored.is_complete() {
         return print_grid(sink, records, config, stored);
     }
-    check_stored(records, config, stored)?;
-    let mut sizes = stored.clone()?;
-    sizes.estimate(records, config)?;
-    let memory = Some(sizes.allocator());
-    let grid = Grid::new(records, config, &sizes, memory);
-    print_checked(memory, sink, &grid)
+    print_completed(sink, records, config, stored)
 }
 
 /// Prints records with the sizes that their cells need. A table with no row or no column prints
@@ -65,11 +141,5 @@ pub fn print_estimated<R: PeekableRecords, S: TextSink>(
         (S.sent sink.old) result (S.sent sink.new) }
     ensures only { IfErr result (λ e. (e ≡ Memory) ⊎ ((e ≡ Range) ⊎ (e ≡ Writer))) }
 {
-    if is_empty(records) {
-        return Ok(());
-    }
-    let mut sizes = CompleteDimension::new(alloc);
-    sizes.estimate(records, config)?;
-    let grid = Grid::new(records, config, &sizes, Some(alloc));
-    print_checked(Some(alloc), sink, &grid)
+    print_standing(sink, records, config, &CompleteDimension::new(alloc))
 }

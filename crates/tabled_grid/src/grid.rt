@@ -109,6 +109,7 @@ impl<'a, R: PeekableRecords, D: Dimension> Grid<'a, R, D> {
     }
 
     /// Returns the placement and offset of each cell of a row of one line, if they are cached.
+    #[inline(always)]
     pub fn placements(&self, row: usize) -> Option<&[CellPlacement]>
         ensures { IfSome result (λ placements. ArePlacements (style_at self.now.config row)
             (columns_of self.now) placements.now) }
