@@ -10,7 +10,6 @@ use Rattle.tabled_size.specs.Estimates.{column_width, estimated_widths, needed_w
 use Rattle.tabled_priority.specs.Permitted.{at, spare, spare_total, IsPermitted, IsTakenFrom}
 use Rattle.tabled_priority.specs.Laws.Sums.{sum-below, sum_below-plus, sum_below-same}
 use Rattle.tabled_priority.specs.Sums.{one_if, sum_below}
-use Rattle.tabled_size.specs.Totals.{filled_width}
 use Rattle.tabled_size.proofs.Greatest.{greatest_below, greatest_step}
 use Rattle.tabled_size.proofs.Passing.{width_at}
 use Rattle.tabled_size.proofs.Totalling.{widths_length}
@@ -44,14 +43,6 @@ abbrev pub frame_width : SpannedConfig → ℕ → ℕ
 frame_width config count =
     (config.margin.left.size + one_if (has_left config.borders))
     + ((count - 1) * one_if (has_inner config.borders) + (one_if (has_right config.borders) + config.margin.right.size))
-
--- where there is a width a column, the whole is their sum and the frame
-pub filled_width-frame : (config : SpannedConfig) (count : ℕ) (widths : List ℕ) → length widths ≡ count
-    → filled_width config count widths ≡ sum widths + frame_width config count
-unfolding filled_width
-filled_width-frame config count widths long =
-    let a : sum widths ≡ sum_below (at widths) count = sum-below widths ∙ ap (sum_below (at widths)) long in
-    omega arith
 
 greatest_below-le : (f g : ℕ → ℕ) (n : ℕ) → ((i : ℕ) → f i ≤ g i) → greatest_below f n ≤ greatest_below g n
 greatest_below-le f g zero h = omega arith

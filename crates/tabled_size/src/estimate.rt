@@ -1,8 +1,7 @@
 //! The widths and heights that the cells of a table need, and estimates for sizes that aren't
 //! stored.
 ghost use Rattle.std.specs.Prelude.{◌≡◌, ◌⊎◌, ◌<◌, ◌≤◌, ◌^◌, IfOk, IfErr, IfNone, IfSome};
-ghost use Rattle.std.specs.Prelude.{MatchOption};
-ghost use Rattle.std.specs.Prelude.{length, IsOk, IsTrue, OnErr, OnOk};
+ghost use Rattle.std.specs.Prelude.{MatchOption, length, IsOk, IsTrue, OnErr, OnOk};
 ghost use Rattle.tabled_base.specs.Cells.{IsInside, columns};
 ghost use Rattle.tabled_base.specs.declared.error.TableError.TheVariants.{Memory, Range};
 ghost use Rattle.tabled_config.specs.Settings.{style_at};

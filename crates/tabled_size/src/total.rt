@@ -11,14 +11,12 @@ ghost use Rattle.tabled_priority.specs.Sums.{one_if, sum_below};
 ghost use Rattle.tabled_size.specs.Effective.{effective};
 ghost use Rattle.tabled_size.specs.EffectiveTotals.{AnswersHeight, AnswersWidth};
 ghost use Rattle.tabled_size.specs.Estimates.{IsTooHigh, IsTooWide, column_width};
-ghost use Rattle.tabled_size.specs.Estimates.{estimated_heights};
-ghost use Rattle.tabled_size.specs.Estimates.{estimated_widths};
+ghost use Rattle.tabled_size.specs.Estimates.{estimated_heights, estimated_widths};
 ghost use Rattle.tabled_size.specs.Reached.{reached};
 ghost use Rattle.tabled_size.specs.Sheet.{is_empty, estimated};
 ghost use Rattle.tabled_size.specs.Stored.{heights_of, widths_of};
 ghost use Rattle.tabled_size.specs.Totals.{filled_height, filled_width, framed_height};
-ghost use Rattle.tabled_size.specs.Totals.{framed_width};
-ghost use Rattle.tabled_size.specs.Totals.{part_height, total_height, total_width};
+ghost use Rattle.tabled_size.specs.Totals.{framed_width, part_height, total_height, total_width};
 
 use crate::complete_dimension::CompleteDimension;
 use crate::dimension::Dimension;
