@@ -1,5 +1,4 @@
 use Rattle.std.proofs.Common.{◌≡◌, ◌⊎◌}
-use Rattle.tabled_base.specs.declared.error.TableError.{TableError}
 use Rattle.tabled_base.specs.declared.error.TableError.TheVariants.{Memory}
 use Rattle.tabled_size.specs.Effective.{effective}
 use Rattle.tabled_grid.specs.Printed.{IsRefused}
