@@ -63,11 +63,6 @@ handed_on Q P (Ok x) e i h = absurd i
 handed_on Q P (Err d) e i h = subst P (sym i) h
 
 -- what a check of stored sizes returns
-pub short_refused : {T : Type 0} (r : Result T TableError) (t : Sheet) (e : TableError) → IsErrAnd r (λ d. d ≡ e)
-    → (e ≡ ShortWidths) × (length t.widths < columns t.cells) → MatchResult r (λ _. IsSized t × Holds t) (IsRefused t)
-short_refused (Ok x) t e i h = absurd i
-short_refused (Err d) t e i h = subst (IsRefused t) (sym (i ∙ h.0)) h.1
-
 pub high_refused : {T : Type 0} (r : Result T TableError) (t : Sheet) (P Q : Type 0) → (P → IsSized t) → Holds t
     → (Q → (columns t.cells ≤ length t.widths) × (length t.heights < length t.cells)) → OnOk r P → IfErr r (λ d. (d ≡ ShortHeights) × Q)
     → MatchResult r (λ _. IsSized t × Holds t) (IsRefused t)

@@ -156,6 +156,9 @@ pub(crate) fn check_totals<R: PeekableRecords, D: Dimension>(
 /// Checks the widths or heights that are stored, before the others are estimated. Estimates are
 /// complete and hold all cells. `ShortWidths`, `ShortHeights`: the stored list is too short.
 /// `Narrow`: the first cell that doesn't fit a stored width.
+///
+/// Not inlined: the grid takes 8 KB of stack, which would be cleared for each table.
+#[inline(never)]
 pub(crate) fn check_stored<R: PeekableRecords>(
     records: &R,
     config: &SpannedConfig,
