@@ -1,9 +1,9 @@
 -- Cells that are changed one after another.
-use Rattle.std.proofs.Common.{◌≡◌, ℕ, ◌<◌, ◌==◌, Bool, true, false, ◌||◌, List, [], ◌∷◌, MatchBool, length, slice_index_or, refl, sym, ap, subst, ◌∙◌, ⊎_elim, ◌+◌, ◌≤◌, ◌&&◌, Option, Some, nat_lt, arith}
+use Rattle.std.proofs.Common.{◌≡◌, ℕ, ◌<◌, ◌==◌, Bool, true, false, ◌||◌, List, [], ◌∷◌, MatchBool, length, slice_index_or, refl, sym, ap, subst, ◌∙◌, ⊎_elim, ◌+◌, ◌≤◌, ◌&&◌, nat_lt, arith}
 use Rattle.std.proofs.lemmas.Bool.{MatchBool-at_true, MatchBool-at_false, and_parts, cases_Bool, eqb-true}
 use Rattle.tabled_set.specs.Common.{Cell, cell_at, columns, covers, IsInside}
-use Rattle.tabled_set.specs.CellChanges.{AreChanged, AreChangedBefore, NeedsMemoryIn, is_taken, line_of, place_of, precedes, WalkOrder}
-use Rattle.tabled_set.specs.CellChanges.{ByColumn, ByRow, CellFilter, is_within, lines_in, on_line, places_in}
+use Rattle.tabled_set.specs.CellChanges.{AreChanged, AreChangedBefore, line_of, place_of, precedes, WalkOrder}
+use Rattle.tabled_set.specs.CellChanges.{ByColumn, ByRow, is_within, lines_in, on_line, places_in}
 use Rattle.std.specs.declared.ops.Range.{Range as Band}
 
 pub match-true : {b : Bool} (P Q : Type 0) → b ≡ true → P → MatchBool b P Q
@@ -226,11 +226,3 @@ module _ (order : WalkOrder) (band : Band ℕ) {wants : ℕ → ℕ → List ℕ
             subst (λ l. IsEither (covers r c && precedes order l y r c) (covers r c && precedes order line 0 r c) (on_line order line band r c && precedes order l y r c)) (sym here)
             (lines-some order (covers r c) lines band line y r c (is r c i) from to));
       }
-
--- ---- texts that need memory
-
--- a text needs memory where it is changed for its content size, and not in its place
-pub needs-made : (cell_filter : CellFilter) (in_place : ℕ → List ℕ → Type 0) (o : Option ℕ) (content_size : ℕ) (text : List ℕ) → o ≡ Some content_size
-    → is_taken cell_filter content_size text ≡ true → (in_place content_size text → ⊥) → NeedsMemoryIn cell_filter in_place o text
-needs-made cell_filter in_place o content_size text e taken apart =
-    subst (λ (p : Option ℕ). NeedsMemoryIn cell_filter in_place p text) (sym e) (record { taken = taken; apart = apart })

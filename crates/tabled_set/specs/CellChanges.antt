@@ -19,14 +19,17 @@ wrapping words content_size before after = IsWrapped content_size words before a
 abbrev pub truncating : List ℕ → SuffixLimit → Bool → ℕ → List ℕ → List ℕ → Type 0
 truncating suffix limit multiline content_size before after = IsTruncated content_size suffix limit multiline before after
 
--- whether a text passes a filter for a content size
+-- whether a text passes a filter for a content size, by its columns and its lines
+abbrev pub takes_size : CellFilter → ℕ → ℕ → ℕ → Bool
+takes_size Every content_size columns lines = true
+takes_size Wider content_size columns lines = nat_lt content_size columns
+takes_size Narrower content_size columns lines = nat_lt columns content_size
+takes_size NotAsWide content_size columns lines = not (columns == content_size)
+takes_size Higher content_size columns lines = nat_lt content_size lines
+takes_size Lower content_size columns lines = nat_lt lines content_size
+
 abbrev pub is_taken : CellFilter → ℕ → List ℕ → Bool
-is_taken Every content_size text = true
-is_taken Wider content_size text = nat_lt content_size (text_columns text)
-is_taken Narrower content_size text = nat_lt (text_columns text) content_size
-is_taken NotAsWide content_size text = not (text_columns text == content_size)
-is_taken Higher content_size text = nat_lt content_size (length (lines_of text))
-is_taken Lower content_size text = nat_lt (length (lines_of text)) content_size
+is_taken cell_filter content_size text = takes_size cell_filter content_size (text_columns text) (length (lines_of text))
 
 -- a text that passes the filter changes, another doesn't
 abbrev pub if_taken : CellFilter → (ℕ → List ℕ → List ℕ → Type 0) → ℕ → List ℕ → List ℕ → Type 0

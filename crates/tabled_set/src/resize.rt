@@ -5,7 +5,7 @@ ghost use Rattle.std.specs.Prelude.{OnErr, OnOk, string_bytes};
 ghost use Rattle.std.specs.Str.{IsCharBoundary};
 ghost use Rattle.tabled_set.specs.Common.{Cell, cell_at, covers, IsInside, Memory};
 ghost use Rattle.tabled_base.specs.ShortOr.{FitsBehind};
-ghost use Rattle.tabled_set.specs.CellChanges.{is_taken, AreChanged, CellFilter, IsCutInPlace};
+ghost use Rattle.tabled_set.specs.CellChanges.{takes_size, AreChanged, CellFilter, IsCutInPlace};
 ghost use Rattle.tabled_set.specs.CellChanges.{leaves, needs, ChangesEntity, StopsEntity, if_taken};
 ghost use Rattle.tabled_set.specs.Truncated.{ended_text};
 
@@ -109,18 +109,17 @@ pub enum CellFilter {
 }
 
 impl CellFilter {
-    fn takes<R: PeekableRecords>(self, records: &R, at: Position, content_size: usize) -> bool
-        requires { IsInside (R.cells records.now) at.row at.column }
-        ensures { result
-            ≡ is_taken self content_size (cell_at (R.cells records.now) at.row at.column) }
+    #[inline(always)]
+    fn takes(self, columns: usize, lines: usize, content_size: usize) -> bool
+        ensures { result ≡ takes_size self content_size columns lines }
     {
         match self {
             CellFilter::Every => true,
-            CellFilter::Wider => content_size < records.get_width(at),
-            CellFilter::Narrower => records.get_width(at) < content_size,
-            CellFilter::NotAsWide => records.get_width(at) != content_size,
-            CellFilter::Higher => content_size < records.count_lines(at),
-            CellFilter::Lower => records.count_lines(at) < content_size,
+            CellFilter::Wider => content_size < columns,
+            CellFilter::Narrower => columns < content_size,
+            CellFilter::NotAsWide => columns != content_size,
+            CellFilter::Higher => content_size < lines,
+            CellFilter::Lower => lines < content_size,
         }
     }
 }
@@ -210,6 +209,7 @@ pub struct Change<'a, T, M> {
 
 impl<'a, T: TextTransform, M: ContentSizes> Change<'a, T, M> {
     /// Whether a cell doesn't change, or is cut in place.
+    #[inline(always)]
     pub(crate) fn is_cut_in_place<R: PeekableRecords>(&self, records: &R, at: Position) -> bool
         requires { IsInside (R.cells records.now) at.row at.column }
         ensures { let by = self.now in result ≡ true
@@ -217,16 +217,16 @@ impl<'a, T: TextTransform, M: ContentSizes> Change<'a, T, M> {
             (M.content_size_at by.content_sizes.now)
             at.row at.column (cell_at (R.cells records.now) at.row at.column) }
     {
-        match self.content_sizes.content_size(at) {
-            Some(content_size) if self.cell_filter.takes(records, at, content_size) => {
-                let text = records.get_text(at);
-                self.transform.beginning(text, content_size).is_some()
-            }
-            _ => true,
-        }
+        let Some(content_size) = self.content_sizes.content_size(at) else {
+            return true;
+        };
+        let (text, columns, lines) = records.get_measured(at);
+        !self.cell_filter.takes(columns, lines, content_size)
+            || self.transform.beginning(text, content_size).is_some()
     }
 
     /// Changes a cell if it has a content size and passes the filter.
+    #[inline(always)]
     pub(crate) fn change_cell<R: RecordsMut>(
         &self,
         records: &mut R,
@@ -247,19 +247,17 @@ impl<'a, T: TextTransform, M: ContentSizes> Change<'a, T, M> {
         let Some(content_size) = self.content_sizes.content_size(at) else {
             return Ok(());
         };
-        if !self.cell_filter.takes(records, at, content_size) {
-            return Ok(());
-        }
-        if self.transform.keeps(records.get_text(at), content_size) {
+        let (text, columns, lines) = records.get_measured(at);
+        let by = self.transform;
+        if !self.cell_filter.takes(columns, lines, content_size) || by.keeps(text, content_size) {
             return Ok(());
         }
         let _columns = records.count_columns();
-        let (by, alloc) = (self.transform, records.allocator());
-        if let Some(kept) = by.beginning(records.get_text(at), content_size) {
+        if let Some(kept) = by.beginning(text, content_size) {
             records.shorten(at, kept.bytes, kept.ending);
             return Ok(());
         }
-        let text = by.apply(alloc, records.get_text(at), content_size)?;
+        let text = by.apply(records.allocator(), text, content_size)?;
         records.set(at, text)
     }
 }

@@ -72,6 +72,7 @@ impl<'a> TextTransform for Truncating<'a> {
         }
     }
 
+    #[inline(always)]
     fn beginning(&self, text: &str, content_size: usize) -> Option<Beginning<'_>> {
         if self.multiline && count_lines(text) > 1 {
             return None;
@@ -117,6 +118,7 @@ fn columns_beside(suffix: &str, content_size: usize) -> Option<usize>
 }
 
 /// Returns the suffix to write for `content_size` columns, or `None` if it has to be allocated.
+#[inline(always)]
 fn borrowed_suffix(
     suffix: &str,
     limit: SuffixLimit,
