@@ -24,14 +24,3 @@ pub stops-filled : {T : Type 0} (F P : TableError → Type 0) (Q : Type 0) (r : 
     → IfErr r (λ e. F e × P e × Q)
 stops-filled F P Q (Ok x) h q = tt
 stops-filled F P Q (Err e) h q = (h.0, h.1, q)
-
--- all as it was
-pub stops-heightening : {T : Type 0} (F Q R K : Type 0) (r : Result T TableError) → OnErr r F → Q → R → OnErr r K → IfErr r (λ e. F × (Q × (R × K)))
-stops-heightening F Q R K (Ok x) f q w k = tt
-stops-heightening F Q R K (Err e) f q w k = (f, (q, (w, k)))
-
--- the sizes as they were
-pub stops-limiting : {T : Type 0} (F : Type 0) (P : TableError → Type 0) (Q K : Type 0) (r : Result T TableError) → OnErr r F → IfErr r P → Q → OnErr r K
-    → IfErr r (λ e. F × P e × (Q × K))
-stops-limiting F P Q K (Ok x) f p q k = tt
-stops-limiting F P Q K (Err e) f p q k = (f, p, (q, k))
