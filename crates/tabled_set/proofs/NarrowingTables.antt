@@ -1,5 +1,5 @@
 -- Tables that are narrowed.
-use Rattle.std.proofs.Common.{◌≡◌, ℕ, ◌-◌, ◌<◌, Bool, true, false, ◌&&◌, nat_lt, nat_le, MatchBool, List, length, take, Option, Some, None, if◌then◌else◌, refl, sym, ap, subst, ◌∙◌, ⊎_elim, arith, ◌⊎◌, inl, inr, Result, Ok, Err, IfErr, IsOk, IsTrue, ◌≤◌, ◌^◌, unwrap_or, cond}
+use Rattle.std.proofs.Common.{◌≡◌, ℕ, ◌-◌, ◌<◌, Bool, true, false, ◌&&◌, nat_lt, nat_le, MatchBool, List, length, take, Option, Some, None, if◌then◌else◌, refl, sym, ap, subst, ◌∙◌, ⊎_elim, arith, ◌⊎◌, inl, inr, Result, Ok, Err, IfErr, IsOk, IsTrue, ◌≤◌, ◌^◌, unwrap_or, cond, IfSome, is_some, ◌+◌}
 use Rattle.std.proofs.lemmas.Bool.{cases_Bool}
 use Rattle.std.proofs.lemmas.Bool.Decides.{nat_tests}
 use Rattle.std.proofs.lemmas.List.{get_or-take, length-take}
@@ -8,9 +8,12 @@ use Rattle.tabled_set.specs.Common.{estimated_heights, estimated_widths, filled_
 use Rattle.tabled_set.specs.Common.{IsTooWide, Memory, Range, TableError, total_width, widths_of}
 use Rattle.tabled_set.specs.CellChanges.{AreChanged, AreChangedBefore, NeedsMemory, NeedsMemoryIn, if_taken, in_room, WalkOrder, CellFilter}
 use Rattle.tabled_set.specs.CellChanges.{ByColumn}
-use Rattle.tabled_set.specs.Narrowed.{for_width, is_permitted, needs_for_width, for_content_size, needs_for_content_size, IsNarrowed}
+use Rattle.tabled_set.specs.Narrowed.{is_permitted, content_width, less_padding, permitted_width, for_content_size, needs_for_content_size, IsNarrowed}
 use Rattle.tabled_set.specs.Narrowed.{Narrows, NarrowingOutOfRange, StopsNarrowing, WiderOutOfRange, IsFound}
-use Rattle.tabled_set.specs.Minimums.{minimums, side_padding, emptied}
+use Rattle.tabled_set.specs.Minimums.{minimums, side_columns, side_padding, emptied}
+use Rattle.tabled_config.specs.Settings.{style_at}
+use Rattle.tabled_config.specs.declared.sides.Indent.{Indent}
+use Rattle.tabled_config.specs.declared.sides.Sides.{Sides}
 use Rattle.tabled_set.proofs.ChangingCells.{AreChanged-as, match-false, match-true}
 use Rattle.std.specs.Result.{IsErrAnd}
 use Rattle.std.proofs.Math.Seq.{take-length}
@@ -32,61 +35,57 @@ in_room-if : (change : ℕ → List ℕ → List ℕ → Type 0) (b : Bool) (con
 in_room-if change true content_size before after h = h
 in_room-if change false content_size before after h = h
 
--- cells that are changed for the content sizes of their columns are changed for the widths of these
-module _ (change : ℕ → List ℕ → List ℕ → Type 0) (config : SpannedConfig) (widths mins : List ℕ) where
-  abbrev content_sizes : ℕ → ℕ → List ℕ → List ℕ → Type 0
-  content_sizes row column = in_room change (if is_permitted widths mins column then Some (at widths column - side_padding config row column) else None)
-
-  pub widths-made : {chosen : ℕ → ℕ → Bool} {old new : List (List (List ℕ))} → AreChanged chosen content_sizes old new → AreChanged chosen (for_width change config widths mins) old new
-  widths-made {chosen} {old} {new} h =
-      AreChanged-as h
-      (λ r c inside taken made. in_room-if change (is_permitted widths mins c) (at widths c - side_padding config r c) (cell_at old r c) (cell_at new r c) made)
-
 -- a text that has a content size on a condition, and can't be changed for it without memory
 needs-if : (cell_filter : CellFilter) (in_place : ℕ → List ℕ → Type 0) (b : Bool) (content_size : ℕ) (text : List ℕ)
     → NeedsMemoryIn cell_filter in_place (if b then Some content_size else None) text → (b ≡ true) × NeedsMemory cell_filter in_place content_size text
 needs-if cell_filter in_place true content_size text h = (refl, h)
 needs-if cell_filter in_place false content_size text h = absurd h
 
--- so where the changes stopped
-module _ (cell_filter : CellFilter) (in_place : ℕ → List ℕ → Type 0) (makes : ℕ → List ℕ → List ℕ → Type 0) (config : SpannedConfig) (widths mins : List ℕ) where
-  abbrev room_of : ℕ → ℕ → Option ℕ
-  room_of row column = if is_permitted widths mins column then Some (at widths column - side_padding config row column) else None
+-- cells that are changed for these content sizes are changed for those of their columns
+module _ (t : Sheet) (widths : List ℕ) {sizes : ℕ → ℕ → Option ℕ} (sized : (row column : ℕ) → sizes row column ≡ content_width t widths row column) where
+  pub sized-made : (change : ℕ → List ℕ → List ℕ → Type 0) {chosen : ℕ → ℕ → Bool} {old new : List (List (List ℕ))} → AreChanged chosen (λ row column. in_room change (sizes row column)) old new → AreChanged chosen (for_content_size change t widths) old new
+  sized-made change {chosen} {old} {new} h =
+      AreChanged-as h
+      (λ r c inside taken made.
+      in_room-if change (is_permitted widths (minimums t.cells t.config) c) (at widths c - side_padding t.config r c) (cell_at old r c) (cell_at new r c)
+      (subst (λ (o : Option ℕ). in_room change o (cell_at old r c) (cell_at new r c)) (sized r c) made))
 
-  pub widths-before : {order : WalkOrder} {chosen : ℕ → ℕ → Bool} {old new : List (List (List ℕ))}
-      → AreChangedBefore order chosen (λ row column. NeedsMemoryIn cell_filter in_place (room_of row column)) (λ row column. in_room (if_taken cell_filter makes) (room_of row column)) old new
-      → AreChangedBefore order chosen (needs_for_width cell_filter in_place config widths mins) (for_width (if_taken cell_filter makes) config widths mins) old new
-  widths-before {order} {chosen} {old} {new} h = record {
+  -- so where the changes stopped
+  pub sized-before : (cell_filter : CellFilter) (in_place : ℕ → List ℕ → Type 0) (makes : ℕ → List ℕ → List ℕ → Type 0) {order : WalkOrder} {chosen : ℕ → ℕ → Bool} {old new : List (List (List ℕ))}
+      → AreChangedBefore order chosen (λ row column. NeedsMemoryIn cell_filter in_place (sizes row column)) (λ row column. in_room (if_taken cell_filter makes) (sizes row column)) old new
+      → AreChangedBefore order chosen (needs_for_content_size cell_filter in_place t widths) (for_content_size (if_taken cell_filter makes) t widths) old new
+  sized-before cell_filter in_place makes {order} {chosen} {old} {new} h = record {
     row = h.row;
     column = h.column;
     inside = h.inside;
     stopped = h.stopped;
     wanting =
-        needs-if cell_filter in_place (is_permitted widths mins h.column) (at widths h.column - side_padding config h.row h.column)
-        (cell_at old h.row h.column) h.wanting;
-    changed = widths-made (if_taken cell_filter makes) config widths mins h.changed;
+        needs-if cell_filter in_place (is_permitted widths (minimums t.cells t.config) h.column) (at widths h.column - side_padding t.config h.row h.column) (cell_at old h.row h.column)
+        (subst (λ (o : Option ℕ). NeedsMemoryIn cell_filter in_place o (cell_at old h.row h.column)) (sized h.row h.column) h.wanting);
+    changed = sized-made (if_taken cell_filter makes) h.changed;
   }
 
--- cells that are changed for their widths are changed for their content sizes
-pub content_sizes-made : (leaves : ℕ → List ℕ → List ℕ → Type 0) (t : Sheet) (widths mins : List ℕ) {chosen : ℕ → ℕ → Bool} {old new : List (List (List ℕ))} → mins ≡ take (length widths) (minimums t.cells t.config) → AreChanged chosen (for_width leaves t.config widths mins) old new → AreChanged chosen (for_content_size leaves t widths) old new
-content_sizes-made leaves t widths mins {chosen} {old} {new} fits h =
-    AreChanged-as h
-    (λ r c inside taken made.
-    subst (λ b. MatchBool b (leaves (at widths c - side_padding t.config r c) (cell_at old r c) (cell_at new r c)) (cell_at new r c ≡ cell_at old r c))
-    (sym (permitted-content_size t widths mins c fits)) made)
+-- a width less the shared padding, and then less that of a cell
+less-padded : (b : Bool) (width less own padding : ℕ) → less + own ≡ padding → less_padding (if b then Some (width - less) else None) own ≡ (if b then Some (width - padding) else None)
+less-padded true width less own padding e = let same : width - less - own ≡ width - padding = omega (arith, e) in ap Some same
+less-padded false width less own padding e = refl
 
-pub content_sizes-before : (cell_filter : CellFilter) (in_place : ℕ → List ℕ → Type 0) (makes : ℕ → List ℕ → List ℕ → Type 0) (t : Sheet) (widths mins : List ℕ) {order : WalkOrder} {chosen : ℕ → ℕ → Bool} {old new : List (List (List ℕ))}
-    → mins ≡ take (length widths) (minimums t.cells t.config)
-    → AreChangedBefore order chosen (needs_for_width cell_filter in_place t.config widths mins) (for_width (if_taken cell_filter makes) t.config widths mins) old new
-    → AreChangedBefore order chosen (needs_for_content_size cell_filter in_place t widths) (for_content_size (if_taken cell_filter makes) t widths) old new
-content_sizes-before cell_filter in_place makes t widths mins {order} {chosen} {old} {new} fits h = record {
-  row = h.row;
-  column = h.column;
-  inside = h.inside;
-  stopped = h.stopped;
-  wanting = (permitted-content_size t widths mins h.column fits ∙ h.wanting.0, h.wanting.1);
-  changed = content_sizes-made (if_taken cell_filter makes) t widths mins fits h.changed;
-}
+-- the content widths of cells, by a list for the columns
+pub content_widths-are : (t : Sheet) (widths mins : List ℕ) (content : ℕ → Option ℕ) (shared : Option (Sides Indent)) (is_shared : Bool) → is_shared ≡ is_some shared → mins ≡ take (length widths) (minimums t.cells t.config)
+    → ((column : ℕ) → content column ≡ permitted_width widths mins (side_columns shared) column)
+    → IfSome shared (λ padding. (row column : ℕ) → (style_at t.config row column).padding ≡ padding)
+    → (row column : ℕ) → less_padding (content column) (if is_shared then 0 else side_padding t.config row column) ≡ content_width t widths row column
+content_widths-are t widths mins content shared is_shared same fits listed everywhere row column =
+    let own = if is_some shared then 0 else side_padding t.config row column in
+    ap (λ b. less_padding (content column) (if b then 0 else side_padding t.config row column)) same
+    ∙ ap (λ o. less_padding o own) (listed column)
+    ∙ less-padded (is_permitted widths mins column) (at widths column) (side_columns shared) own (side_padding t.config row column) (all_padding shared everywhere)
+    ∙ ap (λ b. if b then Some (at widths column - side_padding t.config row column) else None) (sym (permitted-content_size t widths mins column fits))
+  where
+    all_padding : (o : Option (Sides Indent)) → IfSome o (λ padding. (row column : ℕ) → (style_at t.config row column).padding ≡ padding)
+        → side_columns o + (if is_some o then 0 else side_padding t.config row column) ≡ side_padding t.config row column
+    all_padding None h = omega arith
+    all_padding (Some padding) h = let same = ap (λ p. side_columns (Some p)) (h row column) in omega (arith, same)
 
 -- ---- tables
 
@@ -150,30 +149,29 @@ module _ {P : Type 0} (shrinks : Shrinks P) (priority : P) (n : ℕ) where
         match-false ((cells ≡ cells) × (mid ≡ old)) _ some
         (match-true ((cells ≡ cells) × IsFilledIn old cells config mid) (IsNarrowed shrinks priority change n (effective cells config old) cells mid) within (refl, filled))
 
-    found-old : (widths mins : List ℕ) → IsFound shrinks priority n (effective cells config mid) widths mins → IsFound shrinks priority n (effective cells config old) widths mins
-    found-old widths mins h = subst (λ t. IsFound shrinks priority n t widths mins) (effective-filled cells config old mid filled) h
+    found-old : (widths : List ℕ) → IsFound shrinks priority n (effective cells config mid) widths → IsFound shrinks priority n (effective cells config old) widths
+    found-old widths h = subst (λ t. IsFound shrinks priority n t widths) (effective-filled cells config old mid filled) h
 
-    pub narrows-some : (cells' : List (List (List ℕ))) (new : CompleteDimension) (widths mins : List ℕ) → IsFound shrinks priority n (effective cells config mid) widths mins → AreChanged (λ r c. true) (for_width change config widths mins) cells cells' → widths_of new ≡ Some widths → heights_of new ≡ None → Narrows shrinks priority change n cells config old cells' new
-    narrows-some cells' new widths mins found changed stored cleared =
+    pub narrows-some : (cells' : List (List (List ℕ))) (new : CompleteDimension) (widths : List ℕ) → IsFound shrinks priority n (effective cells config mid) widths → AreChanged (λ r c. true) (for_content_size change (effective cells config mid) widths) cells cells' → widths_of new ≡ Some widths → heights_of new ≡ None → Narrows shrinks priority change n cells config old cells' new
+    narrows-some cells' new widths found changed stored cleared =
         let t = effective cells config old in
-        let is = found-old widths mins found in
+        let is = found-old widths found in
         let above : nat_le (total_width t) n ≡ false = let lt : n < total_width t = is.wider in grind (arith, nat_tests) in
         match-false ((cells' ≡ cells) × (new ≡ old)) _ some
         (match-false ((cells' ≡ cells) × IsFilledIn old cells config new) (IsNarrowed shrinks priority change n t cells' new) above
-        (record { widths = widths; shrunk = is.shrunk; changed = content_sizes-made change t widths mins is.fits changed; stored = stored; cleared = cleared }))
+        (record { widths = widths; shrunk = is.shrunk; changed = changed; stored = stored; cleared = cleared }))
 
     -- a failure at a cell
-    pub stops-some : (cell_filter : CellFilter) (in_place : ℕ → List ℕ → Type 0) (cells' : List (List (List ℕ))) (error : TableError) (widths mins : List ℕ) → error ≡ Memory
-        → IsFound shrinks priority n (effective cells config mid) widths mins
-        → AreChangedBefore ByColumn (λ r c. true) (needs_for_width cell_filter in_place config widths mins) (for_width (if_taken cell_filter change) config widths mins) cells cells'
+    pub stops-some : (cell_filter : CellFilter) (in_place : ℕ → List ℕ → Type 0) (cells' : List (List (List ℕ))) (error : TableError) (widths : List ℕ) → error ≡ Memory
+        → IsFound shrinks priority n (effective cells config mid) widths
+        → AreChangedBefore ByColumn (λ r c. true) (needs_for_content_size cell_filter in_place (effective cells config mid) widths) (for_content_size (if_taken cell_filter change) (effective cells config mid) widths) cells cells'
         → StopsNarrowing shrinks priority cell_filter in_place change n error cells config old cells' mid
-    stops-some cell_filter in_place cells' error widths mins e found changed =
-        let t = effective cells config old in
-        let is = found-old widths mins found in
+    stops-some cell_filter in_place cells' error widths e found changed =
+        let is = found-old widths found in
         inr (record {
           wider = is.wider;
           filled = filled;
-          stopped = inr (e, record { wider = is.wider; widths = widths; shrunk = is.shrunk; changed = content_sizes-before cell_filter in_place change t widths mins is.fits changed });
+          stopped = inr (e, record { wider = is.wider; widths = widths; shrunk = is.shrunk; changed = changed });
         })
 
     -- one before a cell has changed

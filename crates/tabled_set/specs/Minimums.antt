@@ -1,7 +1,9 @@
 -- The minimum widths of columns, which they have with empty cells.
-use Rattle.std.specs.Prelude.{ℕ, ◌+◌, List, [], map}
+use Rattle.std.specs.Prelude.{ℕ, ◌+◌, List, [], map, Option, Some, None}
 use Rattle.tabled_set.specs.Common.{estimated_widths, SpannedConfig}
 use Rattle.tabled_config.specs.Settings.{style_at}
+use Rattle.tabled_config.specs.declared.sides.Indent.{Indent}
+use Rattle.tabled_config.specs.declared.sides.Sides.{Sides}
 
 -- the same cells without text
 abbrev pub emptied : List (List (List ℕ)) → List (List (List ℕ))
@@ -11,7 +13,11 @@ emptied cells = map (map (λ text. [])) cells
 abbrev pub minimums : List (List (List ℕ)) → SpannedConfig → List ℕ
 minimums cells config = estimated_widths (emptied cells) config
 
--- the left and right padding of a cell, in columns
+-- the left and right padding, in columns, or 0 if there is none
+abbrev pub side_columns : Option (Sides Indent) → ℕ
+side_columns None = 0
+side_columns (Some padding) = padding.left.size + padding.right.size
+
+-- that of a cell
 abbrev pub side_padding : SpannedConfig → ℕ → ℕ → ℕ
-side_padding config row column =
-    let padding = (style_at config row column).padding in padding.left.size + padding.right.size
+side_padding config row column = side_columns (Some (style_at config row column).padding)

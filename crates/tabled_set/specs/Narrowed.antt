@@ -1,5 +1,5 @@
 -- Tables whose columns shrink to a total, and whose cells are changed to fit.
-use Rattle.std.specs.Prelude.{◌≡◌, ◌⊎◌, ◌<◌, ◌≤◌, ◌^◌, ℕ, ◌-◌, true, false, nat_le, List, MatchBool, Some, None, length, take, Bool, ◌&&◌, nat_lt, []}
+use Rattle.std.specs.Prelude.{◌≡◌, ◌⊎◌, ◌<◌, ◌≤◌, ◌^◌, ℕ, ◌-◌, true, false, nat_le, List, MatchBool, Option, Some, None, if◌then◌else◌, length, take, Bool, ◌&&◌, nat_lt, []}
 use Rattle.tabled_set.specs.Common.{at, CompleteDimension, effective, HasNoEstimate, heights_of, is_empty, IsFilledIn, IsPermitted}
 use Rattle.tabled_set.specs.Common.{IsTooWide, Memory, Sheet, SpannedConfig, TableError, total_width, widths_of, estimated}
 use Rattle.tabled_set.specs.Common.{estimated_heights, total_height}
@@ -14,16 +14,18 @@ use Rattle.tabled_set.specs.TextLines.{limiting}
 abbrev pub is_permitted : List ℕ → List ℕ → ℕ → Bool
 is_permitted widths mins column = nat_lt column (length widths) && nat_le (at mins column) (at widths column)
 
--- a cell of such a column is changed for its content width, and another isn't
-abbrev pub for_width : (ℕ → List ℕ → List ℕ → Type 0) → SpannedConfig → List ℕ → List ℕ → ℕ → ℕ → List ℕ → List ℕ → Type 0
-for_width change config widths mins row column before after =
-    MatchBool (is_permitted widths mins column) (change (at widths column - side_padding config row column) before after) (after ≡ before)
+-- the width of such a column, less some columns
+abbrev pub permitted_width : List ℕ → List ℕ → ℕ → ℕ → Option ℕ
+permitted_width widths mins less column = if is_permitted widths mins column then Some (at widths column - less) else None
 
--- changing a cell of such a column needs an allocation
-abbrev pub needs_for_width : CellFilter → (ℕ → List ℕ → Type 0) → SpannedConfig → List ℕ → List ℕ → ℕ → ℕ → List ℕ → Type 0
-needs_for_width cell_filter in_place config widths mins row column text =
-    (is_permitted widths mins column ≡ true)
-    × NeedsMemory cell_filter in_place (at widths column - side_padding config row column) text
+-- a width less the padding of a cell
+abbrev pub less_padding : Option ℕ → ℕ → Option ℕ
+less_padding None padding = None
+less_padding (Some width) padding = Some (width - padding)
+
+-- the content width of a cell, if its column isn't below its minimum
+abbrev pub content_width : Sheet → List ℕ → ℕ → ℕ → Option ℕ
+content_width t widths row column = permitted_width widths (minimums t.cells t.config) (side_padding t.config row column) column
 
 -- the priority may shrink the widths of a table to these, by the excess of its total over n. There
 -- are as many, permitted by the columns' minimums
@@ -34,11 +36,14 @@ pub record IsShrunkTo {P : Type 0} (shrinks : Shrinks P) (priority : P) (n : ℕ
 
 -- a cell of a column that isn't below its minimum is changed for its content width, another isn't
 abbrev pub for_content_size : (ℕ → List ℕ → List ℕ → Type 0) → Sheet → List ℕ → ℕ → ℕ → List ℕ → List ℕ → Type 0
-for_content_size change t widths = for_width change t.config widths (minimums t.cells t.config)
+for_content_size change t widths row column before after =
+    MatchBool (is_permitted widths (minimums t.cells t.config) column) (change (at widths column - side_padding t.config row column) before after) (after ≡ before)
 
 -- changing such a cell needs an allocation
 abbrev pub needs_for_content_size : CellFilter → (ℕ → List ℕ → Type 0) → Sheet → List ℕ → ℕ → ℕ → List ℕ → Type 0
-needs_for_content_size cell_filter in_place t widths = needs_for_width cell_filter in_place t.config widths (minimums t.cells t.config)
+needs_for_content_size cell_filter in_place t widths row column text =
+    (is_permitted widths (minimums t.cells t.config) column ≡ true)
+    × NeedsMemory cell_filter in_place (at widths column - side_padding t.config row column) text
 
 -- a table wider than n is narrowed: its widths are shrunk and stored, its cells are changed for
 -- their content widths, and its heights are cleared
@@ -104,12 +109,10 @@ pub record IsShrunkBy {P : Type 0} (shrinks : Shrinks P) (priority : P) (old min
   pub shrunk : shrinks priority old mins by new last
   pub permitted : IsPermitted old mins new
 
--- the widths to which a table wider than n shrinks, and the minimums of as many columns
-pub record IsFound {P : Type 0} (shrinks : Shrinks P) (priority : P) (n : ℕ) (t : Sheet)
-    (widths mins : List ℕ) : Type 0 where
+-- the widths to which a table wider than n shrinks
+pub record IsFound {P : Type 0} (shrinks : Shrinks P) (priority : P) (n : ℕ) (t : Sheet) (widths : List ℕ) : Type 0 where
   pub wider : n < total_width t
   pub shrunk : IsShrunkTo shrinks priority n t widths
-  pub fits : mins ≡ take (length widths) (minimums t.cells t.config)
 
 -- ---- rows that shrink to a total
 

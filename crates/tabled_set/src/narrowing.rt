@@ -1,19 +1,22 @@
 //! Narrows a table to a total width, and changes its cells to fit.
-ghost use Rattle.std.specs.Prelude.{◌≡◌, ◌⊎◌, IfErr, IfOk, ◌<◌, ◌≤◌, MatchOption, OnErr, Some};
-ghost use Rattle.std.specs.Prelude.{false, is_some, true, None, if◌then◌else◌, ◌-◌, OnOk};
-ghost use Rattle.tabled_set.specs.Common.{at, effective, is_empty, IsRectangular, Memory, Range};
+ghost use Rattle.std.specs.Prelude.{◌≡◌, ◌⊎◌, ℕ, IfErr, IfOk, IfSome, ◌<◌, ◌≤◌, MatchOption, OnErr};
+ghost use Rattle.std.specs.Prelude.{Some, false, is_some, true, None, if◌then◌else◌, ◌-◌, OnOk};
+ghost use Rattle.std.specs.Prelude.{slice_index_or};
+ghost use Rattle.tabled_set.specs.Common.{effective, is_empty, IsRectangular, Memory, Range};
 ghost use Rattle.tabled_set.specs.Common.{total_width, widths_of};
 ghost use Rattle.tabled_set.specs.CellChanges.{if_taken};
-ghost use Rattle.tabled_set.specs.Narrowed.{is_permitted, WiderOutOfRange, Narrows};
-ghost use Rattle.tabled_set.specs.Narrowed.{NarrowingOutOfRange, StopsNarrowing, IsFound};
-ghost use Rattle.tabled_set.specs.Minimums.{emptied, side_padding};
+ghost use Rattle.tabled_set.specs.Narrowed.{less_padding, permitted_width, WiderOutOfRange};
+ghost use Rattle.tabled_set.specs.Narrowed.{NarrowingOutOfRange, Narrows, StopsNarrowing, IsFound};
+ghost use Rattle.tabled_set.specs.Narrowed.{content_width};
+ghost use Rattle.tabled_set.specs.Minimums.{emptied, side_columns, side_padding};
 
 use crate::measurement::{Measurement, Width};
 use crate::resize::{CellFilter, Change, ContentSizes, Resize, TextTransform};
 use crate::sizes::{shrunk, stored_columns};
 use crate::walk::{WalkOrder, change_cells};
+use std::alloc::{AllocError, Global};
 use tabled_base::{Entity, ExactRecords, PeekableRecords, Position, RecordsMut, TableError};
-use tabled_config::SpannedConfig;
+use tabled_config::{Indent, Sides, SpannedConfig};
 use tabled_size::{CompleteDimension, Estimate, Peaker, estimate_widths, is_empty};
 use tabled_text::{count_lines, text_width};
 
@@ -49,20 +52,25 @@ impl<'a, R: ExactRecords> PeekableRecords for EmptiedRecords<'a, R> {
     }
 }
 
-/// Returns the widths to which the columns of a table shrink, with their minimums, or `None` if the
-/// total is at most n.
-fn narrowed_widths<P: Peaker + Drop, R: ExactRecords>(
+/// Returns the widths to which the columns of a table shrink, with the content widths of its cells,
+/// or `None` if the total is at most n.
+fn narrowed_widths<'a, P: Peaker + Drop, R: ExactRecords>(
     priority: P,
     records: &R,
-    config: &SpannedConfig,
+    config: &'a SpannedConfig,
     sizes: &CompleteDimension,
     n: usize,
-) -> Result<Option<ColumnWidths>, TableError>
+) -> Result<Option<ColumnWidths<'a>>, TableError>
     requires filled { is_empty (R.cells records.now) ≡ false }
     requires stored { is_some (widths_of sizes.now) ≡ true }
     ensures ok { let t = effective (R.cells records.now) config.now sizes.now in
         IfOk result (λ answer. MatchOption answer (total_width t ≤ n)
-        (λ found. IsFound P.shrinks priority n t found.widths.items found.mins.items)) }
+        (λ found. IsFound P.shrinks priority n t found.widths.items)) }
+    ensures sized { let t = effective (R.cells records.now) config.now sizes.now in
+        IfOk result (λ answer. IfSome answer (λ found. (row column : ℕ)
+        → less_padding (slice_index_or found.content.items column None)
+        (if found.is_shared then 0 else side_padding found.config.now row column)
+        ≡ content_width t found.widths.items row column)) }
     ensures wider { OnErr result
         (n < total_width (effective (R.cells records.now) config.now sizes.now)) }
     ensures err { IfErr result (λ e. (e ≡ Memory)
@@ -76,39 +84,74 @@ fn narrowed_widths<P: Peaker + Drop, R: ExactRecords>(
     let mut mins = estimate_widths(alloc, &EmptiedRecords { records }, config)?;
     mins.truncate(widths.len());
     let widths = shrunk(alloc, priority, widths, &mins, total - n)?;
-    Ok(Some(ColumnWidths { widths, mins }))
+    let shared = config.shared_padding();
+    let content = content_widths(alloc, &widths, &mins, shared)?;
+    let is_shared = shared.is_some();
+    Ok(Some(ColumnWidths {
+        widths,
+        content,
+        config,
+        is_shared,
+    }))
 }
 
-/// The widths of a table's columns, from the left, and their minimums.
+/// Returns the columns that the padding at the sides leaves of a width, all if there is none.
+#[inline(always)]
+fn inner_width(width: usize, padding: Option<Sides<Indent>>) -> usize
+    ensures { result ≡ width - side_columns padding }
+{
+    let Some(padding) = padding else {
+        return width;
+    };
+    width
+        .saturating_sub(padding.left.size)
+        .saturating_sub(padding.right.size)
+}
+
+/// Returns the width of each column that isn't below its minimum, less the padding if all cells
+/// share it.
+fn content_widths(
+    alloc: Global,
+    widths: &[usize],
+    mins: &[usize],
+    shared: Option<Sides<Indent>>,
+) -> Result<Vec<Option<usize>>, AllocError>
+    ensures { IfOk result (λ list. (column : ℕ) → slice_index_or list.items column None
+        ≡ permitted_width widths.now mins.now (side_columns shared) column) }
+{
+    let mut list = Vec::with_capacity(alloc, widths.len())?;
+    'columns: for column in 0..widths.len() {
+        let inner = inner_width(widths[column], shared);
+        let is_permitted = mins.get(column).copied().unwrap_or(0) <= widths[column];
+        list.push(if is_permitted { Some(inner) } else { None })?;
+    }
+    Ok(list)
+}
+
+/// The widths of a table's columns, and the content width of each cell: its column's width less its
+/// own padding. Cells of a column below its minimum have none.
 #[derive(Drop)]
-struct ColumnWidths {
+struct ColumnWidths<'a> {
     widths: Vec<usize>,
-    mins: Vec<usize>,
-}
-
-/// The content width of each cell: its column's width less its own padding. Cells of a column below
-/// its minimum have none.
-#[derive(Drop)]
-struct ColumnContentWidths<'a> {
+    // The content width of each column, or its width if its cells have paddings of their own.
+    content: Vec<Option<usize>>,
     config: &'a SpannedConfig,
-    sizes: &'a ColumnWidths,
+    // Whether all cells have the same padding.
+    is_shared: bool,
 }
 
-impl<'a> ContentSizes for ColumnContentWidths<'a> {
+impl<'a> ContentSizes for ColumnWidths<'a> {
     ghost content_size_at = { λ s row column.
-        if is_permitted s.sizes.now.widths.items s.sizes.now.mins.items column
-        then Some (at s.sizes.now.widths.items column - side_padding s.config.now row column)
-        else None };
+        less_padding (slice_index_or s.content.items column None)
+        (if s.is_shared then 0 else side_padding s.config.now row column) };
 
+    #[inline(always)]
     fn content_size(&self, at: Position) -> Option<usize> {
-        let width = *self.sizes.widths.get(at.column)?;
-        let least = self.sizes.mins.get(at.column).copied().unwrap_or(0);
-        if width < least {
-            return None;
+        let width = self.content.get(at.column).copied().unwrap_or(None)?;
+        if self.is_shared {
+            return Some(width);
         }
-        let padding = self.config.get_padding(at);
-        let inner = width.saturating_sub(padding.left.size);
-        Some(inner.saturating_sub(padding.right.size))
+        Some(inner_width(width, Some(self.config.get_padding(at))))
     }
 }
 
@@ -152,10 +195,7 @@ pub(crate) fn narrow_table<
     let change = Change {
         transform: &option.transform,
         cell_filter,
-        content_sizes: &ColumnContentWidths {
-            config,
-            sizes: &found,
-        },
+        content_sizes: &found,
     };
     change_cells(&change, records, WalkOrder::ByColumn, Entity::Global)?;
     sizes.set_widths(found.widths);

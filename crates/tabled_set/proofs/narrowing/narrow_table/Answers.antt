@@ -1,10 +1,11 @@
-use Rattle.std.proofs.Common.{◌≡◌, ℕ, ◌≤◌, ◌<◌, ◌⊎◌, ◌∙◌, IfErr, MatchOption, None, Option, Some, false, inl, refl, rules, subst}
+use Rattle.std.proofs.Common.{◌≡◌, ℕ, ◌≤◌, ◌<◌, ◌⊎◌, ◌∙◌, IfErr, IfSome, MatchOption, None, Option, Some, false, if◌then◌else◌, inl, refl, rules, slice_index_or, subst}
 use Rattle.std.proofs.lemmas.Result.{err_from_is_err_and}
 use Rattle.tabled_set.specs.Common.{effective, is_empty, is_stored, Memory, Range, Sheet, total_width}
 use Rattle.tabled_set.specs.CellChanges.{if_taken}
-use Rattle.tabled_set.specs.Narrowed.{NarrowingOutOfRange, StopsNarrowing, IsFound}
+use Rattle.tabled_set.specs.Narrowed.{content_width, less_padding, NarrowingOutOfRange, StopsNarrowing, IsFound}
+use Rattle.tabled_set.specs.Minimums.{side_padding}
 use Rattle.tabled_set.specs.declared.narrowing.ColumnWidths.{ColumnWidths}
-use Rattle.tabled_set.proofs.NarrowingTables.{widths-before, widths-made}
+use Rattle.tabled_set.proofs.NarrowingTables.{sized-before, sized-made}
 use Rattle.tabled_set.proofs.NarrowingTables.{fails-lacking, if-err, narrows-none, narrows-some, passes-before, stops-some, stops-wider}
 use Rattle.tabled_set.proofs.Stopping.{stops-measuring}
 use Rattle.tabled_set.specs.Priorities.{Shrinks}
@@ -75,15 +76,23 @@ returns-in_default-clause-ok g c =
     narrows-none g.P.Peaker.shrinks by.priority n (if_taken c.args.cell_filter (g.T.TextTransform.makes by.transform)) cells config
     c.args.sizes.now c.estimate.new.self some c.in_ok-estimate.ensures.ok
     (subst (λ (k : ℕ). total_width t ≤ k) c.in_ok-n.ensures.ok
-    (subst (λ (o : Option ColumnWidths). MatchOption o (total_width t ≤ c.in_ok-n.n) (λ found. IsFound g.P.Peaker.shrinks by.priority c.in_ok-n.n t found.widths.items found.mins.items)) none c.in_ok-found.ensures.ok))
+    (subst (λ (o : Option ColumnWidths). MatchOption o (total_width t ≤ c.in_ok-n.n) (λ found. IsFound g.P.Peaker.shrinks by.priority c.in_ok-n.n t found.widths.items)) none c.in_ok-found.ensures.ok))
 
 -- the widths that are found, for the measured total
 found-widths : {P : Type 0} (shrinks : Shrinks P) (priority : P) (n k : ℕ) (t : Sheet) (o : Option ColumnWidths) (found : ColumnWidths)
-    → k ≡ n → o ≡ Some found → MatchOption o (total_width t ≤ k) (λ w. IsFound shrinks priority k t w.widths.items w.mins.items)
-    → IsFound shrinks priority n t found.widths.items found.mins.items
+    → k ≡ n → o ≡ Some found → MatchOption o (total_width t ≤ k) (λ w. IsFound shrinks priority k t w.widths.items)
+    → IsFound shrinks priority n t found.widths.items
 found-widths shrinks priority n k t o found e is h =
-    subst (λ (m : ℕ). IsFound shrinks priority m t found.widths.items found.mins.items) e
-    (subst (λ (p : Option ColumnWidths). MatchOption p (total_width t ≤ k) (λ w. IsFound shrinks priority k t w.widths.items w.mins.items)) is h)
+    subst (λ (m : ℕ). IsFound shrinks priority m t found.widths.items) e
+    (subst (λ (p : Option ColumnWidths). MatchOption p (total_width t ≤ k) (λ w. IsFound shrinks priority k t w.widths.items)) is h)
+
+-- and the content sizes of their cells
+abbrev AreSized : Sheet → ColumnWidths → Type 0
+AreSized t found = (row column : ℕ) → less_padding (slice_index_or found.content.items column None) (if found.is_shared then 0 else side_padding found.config.now row column)
+    ≡ content_width t found.widths.items row column
+
+found-sizes : (t : Sheet) (o : Option ColumnWidths) (found : ColumnWidths) → o ≡ Some found → IfSome o (AreSized t) → AreSized t found
+found-sizes t o found is h = subst (λ (p : Option ColumnWidths). IfSome p (AreSized t)) is h
 
 pub returns-in_err-change_cells-clause-err : goal.returns-in_err-change_cells-clause-err
 returns-in_err-change_cells-clause-err g c =
@@ -102,10 +111,10 @@ returns-in_err-change_cells-clause-err g c =
       some,
       stops-some g.P.Peaker.shrinks by.priority n makes cells config
           c.args.sizes.now c.estimate.new.self some c.in_ok-estimate.ensures.ok c.args.cell_filter in_place
-          after _ c.in-Some.found.widths.items c.in-Some.found.mins.items
+          after _ c.in-Some.found.widths.items
           c.in_err-change_cells.ensures.only
           (found-widths g.P.Peaker.shrinks by.priority n c.in_ok-n.n t _ c.in-Some.found c.in_ok-n.ensures.ok c.in-Some.is c.in_ok-found.ensures.ok)
-          (widths-before c.args.cell_filter in_place makes config c.in-Some.found.widths.items c.in-Some.found.mins.items c.in_err-change_cells.ensures.err),
+          (sized-before t c.in-Some.found.widths.items (found-sizes t _ c.in-Some.found c.in-Some.is c.in_ok-found.ensures.sized) c.args.cell_filter in_place makes c.in_err-change_cells.ensures.err),
     )
 
 pub returns-clause-ok : goal.returns-clause-ok
@@ -119,7 +128,8 @@ returns-clause-ok g c =
     narrows-some g.P.Peaker.shrinks by.priority n (if_taken c.args.cell_filter (g.T.TextTransform.makes by.transform)) cells config
     c.args.sizes.now c.estimate.new.self some c.in_ok-estimate.ensures.ok
     (g.R.ExactRecords.cells c.change_cells.new.records) c.clear_height.new.self
-    c.in-Some.found.widths.items c.in-Some.found.mins.items
+    c.in-Some.found.widths.items
     (found-widths g.P.Peaker.shrinks by.priority n c.in_ok-n.n t _ c.in-Some.found c.in_ok-n.ensures.ok c.in-Some.is c.in_ok-found.ensures.ok)
-    (widths-made (if_taken c.args.cell_filter (g.T.TextTransform.makes by.transform)) config c.in-Some.found.widths.items c.in-Some.found.mins.items c.in_ok-change_cells.ensures.ok)
+    (sized-made t c.in-Some.found.widths.items (found-sizes t _ c.in-Some.found c.in-Some.is c.in_ok-found.ensures.sized)
+    (if_taken c.args.cell_filter (g.T.TextTransform.makes by.transform)) c.in_ok-change_cells.ensures.ok)
     (c.clear_height.ensures.widths ∙ c.set_widths.ensures.widths) c.clear_height.ensures.heights
