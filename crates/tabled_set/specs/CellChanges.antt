@@ -1,5 +1,5 @@
 -- Tables of which some cells change and the others don't.
-use Rattle.std.specs.Prelude.{◌≡◌, ◌⊎◌, ℕ, Bool, true, not, ◌&&◌, ◌||◌, ◌==◌, nat_lt, List, [], MatchBool, Option, Some, None, length, slice_index_or, IfSome, nat_le}
+use Rattle.std.specs.Prelude.{◌≡◌, ◌⊎◌, ℕ, Bool, true, not, ◌&&◌, ◌||◌, ◌==◌, nat_lt, List, [], MatchBool, Option, Some, None, length, slice_index_or, nat_le}
 use Rattle.tabled_set.specs.Common.{cell_at, covers, Entity, IsInside, lines_of, Memory, Range, TableError, text_columns, columns}
 use Rattle.tabled_text.specs.Wrapping.{IsWrapped}
 use Rattle.tabled_set.specs.Truncated.{IsTruncated, SuffixLimit}
@@ -138,11 +138,6 @@ leaves cell_filter change content_sizes row column before after = in_room (if_ta
 abbrev pub needs : CellFilter → (ℕ → List ℕ → Type 0) → (ℕ → ℕ → Option ℕ) → ℕ → ℕ → List ℕ → Type 0
 needs cell_filter in_place content_sizes row column text = NeedsMemoryIn cell_filter in_place (content_sizes row column) text
 
--- a walk cuts a text in place, if it changes it
-abbrev pub IsCutInPlace : CellFilter → (ℕ → List ℕ → Type 0) → (ℕ → ℕ → Option ℕ) → ℕ → ℕ → List ℕ → Type 0
-IsCutInPlace cell_filter shortens content_sizes row column text = IfSome (content_sizes row column) (λ content_size. is_taken cell_filter content_size text ≡ true → shortens content_size text)
-
--- a walk cuts all chosen cells in place, if it changes them
-abbrev pub AreCutInPlace : (ℕ → ℕ → Bool) → CellFilter → (ℕ → List ℕ → Type 0) → (ℕ → ℕ → Option ℕ) → List (List (List ℕ)) → Type 0
-AreCutInPlace chosen cell_filter shortens content_sizes cells =
-    (row column : ℕ) → IsInside cells row column → chosen row column ≡ true → IsCutInPlace cell_filter shortens content_sizes row column (cell_at cells row column)
+-- a walk over the chosen cells allocates for none of them
+abbrev pub NeedNoMemory : (ℕ → ℕ → Bool) → (ℕ → ℕ → List ℕ → Type 0) → List (List (List ℕ)) → Type 0
+NeedNoMemory chosen needs cells = (row column : ℕ) → IsInside cells row column → chosen row column ≡ true → needs row column (cell_at cells row column) → ⊥

@@ -5,7 +5,7 @@ ghost use Rattle.std.specs.Prelude.{OnErr, OnOk, string_bytes};
 ghost use Rattle.std.specs.Str.{IsCharBoundary};
 ghost use Rattle.tabled_set.specs.Common.{Cell, cell_at, covers, IsInside, Memory};
 ghost use Rattle.tabled_base.specs.ShortOr.{FitsBehind};
-ghost use Rattle.tabled_set.specs.CellChanges.{takes_size, AreChanged, CellFilter, IsCutInPlace};
+ghost use Rattle.tabled_set.specs.CellChanges.{takes_size, AreChanged, CellFilter};
 ghost use Rattle.tabled_set.specs.CellChanges.{leaves, needs, ChangesEntity, StopsEntity, if_taken};
 ghost use Rattle.tabled_set.specs.Truncated.{ended_text};
 
@@ -213,9 +213,9 @@ impl<'a, T: TextTransform, M: ContentSizes> Change<'a, T, M> {
     pub(crate) fn is_cut_in_place<R: PeekableRecords>(&self, records: &R, at: Position) -> bool
         requires { IsInside (R.cells records.now) at.row at.column }
         ensures { let by = self.now in result ≡ true
-            → IsCutInPlace by.cell_filter (T.shortens by.transform.now)
-            (M.content_size_at by.content_sizes.now)
-            at.row at.column (cell_at (R.cells records.now) at.row at.column) }
+            → needs by.cell_filter (T.shortens by.transform.now)
+            (M.content_size_at by.content_sizes.now) at.row at.column
+            (cell_at (R.cells records.now) at.row at.column) → ⊥ }
     {
         let Some(content_size) = self.content_sizes.content_size(at) else {
             return true;

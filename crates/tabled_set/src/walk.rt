@@ -1,9 +1,10 @@
 //! Changes the cells of an entity, one after another.
-ghost use Rattle.std.specs.Prelude.{◌≡◌, ◌≤◌, ◌<◌, ◌==◌, ◌&&◌, ℕ, IfErr, OnErr, OnOk, length, true};
+ghost use Rattle.std.specs.Prelude.{◌≡◌, ◌≤◌, ◌<◌, ◌==◌, ◌&&◌, ◌⊎◌, ℕ, IfErr, OnErr, OnOk, length};
+ghost use Rattle.std.specs.Prelude.{true};
 ghost use Rattle.tabled_set.specs.Common.{columns, covers, IsInside, Memory};
 ghost use Rattle.tabled_set.specs.CellChanges.{line_of, place_of, AreChanged, AreChangedBefore};
 ghost use Rattle.tabled_set.specs.CellChanges.{ByRow};
-ghost use Rattle.tabled_set.specs.CellChanges.{AreCutInPlace, is_within, leaves, lines_in, needs};
+ghost use Rattle.tabled_set.specs.CellChanges.{is_within, leaves, lines_in, NeedNoMemory, needs};
 ghost use Rattle.tabled_set.specs.CellChanges.{on_line, places_in};
 
 use crate::resize::{Change, ContentSizes, TextTransform};
@@ -40,20 +41,6 @@ fn one_of(place: usize, count: usize) -> Range<usize>
     place..place.saturating_add(1).min(count)
 }
 
-fn bands_of(entity: Entity, rows: usize, columns: usize) -> (Range<usize>, Range<usize>)
-    ensures cells { (r c : ℕ) → r < rows → c < columns
-        → covers entity r c ≡ (is_within result.0 r && is_within result.1 c) }
-    ensures rows { result.0.end ≤ rows }
-    ensures columns { result.1.end ≤ columns }
-{
-    match entity {
-        Entity::Global => (0..rows, 0..columns),
-        Entity::Row(row) => (one_of(row, rows), 0..columns),
-        Entity::Column(column) => (0..rows, one_of(column, columns)),
-        Entity::Cell(row, column) => (one_of(row, rows), one_of(column, columns)),
-    }
-}
-
 /// Returns the lines of an entity's cells and their places in each.
 fn lines_of_entity<R: ExactRecords>(
     entity: Entity,
@@ -66,7 +53,13 @@ fn lines_of_entity<R: ExactRecords>(
     ensures lines { result.0.end ≤ lines_in order (R.cells records.now) }
     ensures places { result.1.end ≤ places_in order (R.cells records.now) }
 {
-    let (rows, columns) = bands_of(entity, records.count_rows(), records.count_columns());
+    let (rows, columns) = (records.count_rows(), records.count_columns());
+    let (rows, columns) = match entity {
+        Entity::Global => (0..rows, 0..columns),
+        Entity::Row(row) => (one_of(row, rows), 0..columns),
+        Entity::Column(column) => (0..rows, one_of(column, columns)),
+        Entity::Cell(row, column) => (one_of(row, rows), one_of(column, columns)),
+    };
     match order {
         WalkOrder::ByRow => (rows, columns),
         WalkOrder::ByColumn => (columns, rows),
@@ -99,29 +92,6 @@ fn change_line<T: TextTransform, M: ContentSizes, R: RecordsMut>(
     Ok(())
 }
 
-fn walk_cells<T: TextTransform, M: ContentSizes, R: RecordsMut>(
-    by: &Change<'_, T, M>,
-    records: &mut R,
-    order: WalkOrder,
-    entity: Entity,
-) -> Result<(), TableError>
-    ensures ok { let it = by.now in OnOk result (AreChanged (covers entity)
-        (leaves it.cell_filter (T.makes it.transform.now) (M.content_size_at it.content_sizes.now))
-        (R.cells records.old) (R.cells records.new)) }
-    ensures err { let it = by.now in OnErr result (AreChangedBefore order (covers entity)
-        (needs it.cell_filter (T.shortens it.transform.now)
-        (M.content_size_at it.content_sizes.now))
-        (leaves it.cell_filter (T.makes it.transform.now) (M.content_size_at it.content_sizes.now))
-        (R.cells records.old) (R.cells records.new)) }
-    ensures only { IfErr result (λ e. e ≡ Memory) }
-{
-    let (lines, places) = lines_of_entity(entity, order, records);
-    'lines: for line in lines.start..lines.end {
-        change_line(by, records, order, line, &places)?;
-    }
-    Ok(())
-}
-
 fn are_cut_in_place_in<T: TextTransform, M: ContentSizes, R: RecordsMut>(
     by: &Change<'_, T, M>,
     records: &R,
@@ -130,9 +100,9 @@ fn are_cut_in_place_in<T: TextTransform, M: ContentSizes, R: RecordsMut>(
 ) -> bool
     requires row_in { row < length (R.cells records.now) }
     requires columns_in { band.now.end ≤ columns (R.cells records.now) }
-    ensures { let it = by.now in result ≡ true → AreCutInPlace (on_line ByRow row band.now)
-        it.cell_filter (T.shortens it.transform.now)
-        (M.content_size_at it.content_sizes.now) (R.cells records.now) }
+    ensures { let it = by.now in result ≡ true → NeedNoMemory (on_line ByRow row band.now)
+        (needs it.cell_filter (T.shortens it.transform.now)
+        (M.content_size_at it.content_sizes.now)) (R.cells records.now) }
 {
     'columns: for column in band.start..band.end {
         if !by.is_cut_in_place(records, Position { row, column }) {
@@ -142,30 +112,33 @@ fn are_cut_in_place_in<T: TextTransform, M: ContentSizes, R: RecordsMut>(
     true
 }
 
-/// Whether each cell of an entity doesn't change or is cut in place, so that nothing is allocated.
-fn are_cut_in_place<T: TextTransform, M: ContentSizes, R: RecordsMut>(
+/// Returns the order in which the cells of an entity are changed: in memory order if each of them
+/// doesn't change or is cut in place, so that nothing is allocated and the order can't be seen.
+fn order_for<T: TextTransform, M: ContentSizes, R: RecordsMut>(
     by: &Change<'_, T, M>,
     records: &R,
+    order: WalkOrder,
     entity: Entity,
-) -> bool
-    ensures { let it = by.now in result ≡ true → AreCutInPlace (covers entity)
-        it.cell_filter (T.shortens it.transform.now)
-        (M.content_size_at it.content_sizes.now) (R.cells records.now) }
+) -> WalkOrder
+    ensures { let it = by.now in (result ≡ order) ⊎ NeedNoMemory (covers entity)
+        (needs it.cell_filter (T.shortens it.transform.now)
+        (M.content_size_at it.content_sizes.now)) (R.cells records.now) }
 {
-    let (rows, columns) = bands_of(entity, records.count_rows(), records.count_columns());
+    if let WalkOrder::ByRow = order {
+        return order;
+    }
+    let (rows, columns) = lines_of_entity(entity, WalkOrder::ByRow, records);
     'rows: for row in rows.start..rows.end {
         if !are_cut_in_place_in(by, records, row, &columns) {
-            return false;
+            return order;
         }
     }
-    true
+    WalkOrder::ByRow
 }
 
 /// Changes the entity's cells that have a content size and pass the filter, in the given order. No
 /// other cell changes. Fails only with `Memory`, at one of these cells that can't be cut in place.
 /// That cell and those after it are unchanged.
-///
-/// If all can be cut in place, this never fails. They are then changed row by row, in memory order.
 pub fn change_cells<T: TextTransform, M: ContentSizes, R: RecordsMut>(
     by: &Change<'_, T, M>,
     records: &mut R,
@@ -182,10 +155,10 @@ pub fn change_cells<T: TextTransform, M: ContentSizes, R: RecordsMut>(
         (R.cells records.old) (R.cells records.new)) }
     ensures only { IfErr result (λ e. e ≡ Memory) }
 {
-    match order {
-        WalkOrder::ByColumn if are_cut_in_place(by, records, entity) => {
-            walk_cells(by, records, WalkOrder::ByRow, entity)
-        }
-        _ => walk_cells(by, records, order, entity),
+    let walked = order_for(by, records, order, entity);
+    let (lines, places) = lines_of_entity(entity, walked, records);
+    'lines: for line in lines.start..lines.end {
+        change_line(by, records, walked, line, &places)?;
     }
+    Ok(())
 }

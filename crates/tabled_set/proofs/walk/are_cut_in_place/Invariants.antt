@@ -1,9 +1,0 @@
-use Rattle.std.proofs.Common.{◌&&◌}
-use Rattle.tabled_set.specs.Common.{covers}
-use Rattle.tabled_set.specs.CellChanges.{precedes, ByRow, AreCutInPlace}
-use Rattle.tabled_set.proofs.walk.are_cut_in_place.Given as goal
-
-abbrev pub invariant-rows : goal.invariant-rows
-invariant-rows g l =
-    AreCutInPlace (λ r c. covers l.fn.entity r c && precedes ByRow l.row 0 r c) l.by.cell_filter
-    (g.T.TextTransform.shortens l.by.transform.now) (g.M.ContentSizes.content_size_at l.by.content_sizes.now) (g.R.ExactRecords.cells l.records)
