@@ -10,8 +10,9 @@ use Rattle.tabled_set.specs.CellChanges.{AreChanged, AreChangedBefore, NeedsMemo
 use Rattle.tabled_set.specs.CellChanges.{ByColumn}
 use Rattle.tabled_set.specs.Narrowed.{is_permitted, content_width, less_padding, permitted_width, for_content_size, needs_for_content_size, IsNarrowed}
 use Rattle.tabled_set.specs.Narrowed.{Narrows, NarrowingOutOfRange, StopsNarrowing, WiderOutOfRange, IsFound}
-use Rattle.tabled_set.specs.Minimums.{minimums, side_columns, side_padding, emptied}
+use Rattle.tabled_set.specs.Minimums.{minimums, own_padding, side_columns, side_padding, emptied}
 use Rattle.tabled_config.specs.Settings.{style_at}
+use Rattle.tabled_entity.specs.Changes.{shared}
 use Rattle.tabled_config.specs.declared.sides.Indent.{Indent}
 use Rattle.tabled_config.specs.declared.sides.Sides.{Sides}
 use Rattle.tabled_set.proofs.ChangingCells.{AreChanged-as, match-false, match-true}
@@ -71,15 +72,15 @@ less-padded true width less own padding e = let same : width - less - own ≡ wi
 less-padded false width less own padding e = refl
 
 -- the content widths of cells, by a list for the columns
-pub content_widths-are : (t : Sheet) (widths mins : List ℕ) (content : ℕ → Option ℕ) (shared : Option (Sides Indent)) (is_shared : Bool) → is_shared ≡ is_some shared → mins ≡ take (length widths) (minimums t.cells t.config)
-    → ((column : ℕ) → content column ≡ permitted_width widths mins (side_columns shared) column)
-    → IfSome shared (λ padding. (row column : ℕ) → (style_at t.config row column).padding ≡ padding)
-    → (row column : ℕ) → less_padding (content column) (if is_shared then 0 else side_padding t.config row column) ≡ content_width t widths row column
-content_widths-are t widths mins content shared is_shared same fits listed everywhere row column =
-    let own = if is_some shared then 0 else side_padding t.config row column in
-    ap (λ b. less_padding (content column) (if b then 0 else side_padding t.config row column)) same
+pub content_widths-are : (t : Sheet) (widths mins : List ℕ) (content : ℕ → Option ℕ) (common : Option (Sides Indent)) → common ≡ shared t.config.padding → mins ≡ take (length widths) (minimums t.cells t.config)
+    → ((column : ℕ) → content column ≡ permitted_width widths mins (side_columns common) column)
+    → IfSome common (λ padding. (row column : ℕ) → (style_at t.config row column).padding ≡ padding)
+    → (row column : ℕ) → less_padding (content column) (own_padding t.config row column) ≡ content_width t widths row column
+content_widths-are t widths mins content common same fits listed everywhere row column =
+    let own = if is_some common then 0 else side_padding t.config row column in
+    ap (λ o. less_padding (content column) (if is_some o then 0 else side_padding t.config row column)) (sym same)
     ∙ ap (λ o. less_padding o own) (listed column)
-    ∙ less-padded (is_permitted widths mins column) (at widths column) (side_columns shared) own (side_padding t.config row column) (all_padding shared everywhere)
+    ∙ less-padded (is_permitted widths mins column) (at widths column) (side_columns common) own (side_padding t.config row column) (all_padding common everywhere)
     ∙ ap (λ b. if b then Some (at widths column - side_padding t.config row column) else None) (sym (permitted-content_size t widths mins column fits))
   where
     all_padding : (o : Option (Sides Indent)) → IfSome o (λ padding. (row column : ℕ) → (style_at t.config row column).padding ≡ padding)

@@ -1,7 +1,8 @@
 -- The minimum widths of columns, which they have with empty cells.
-use Rattle.std.specs.Prelude.{ℕ, ◌+◌, List, [], map, Option, Some, None}
+use Rattle.std.specs.Prelude.{ℕ, ◌+◌, List, [], map, Option, Some, None, is_some, if◌then◌else◌}
 use Rattle.tabled_set.specs.Common.{estimated_widths, SpannedConfig}
 use Rattle.tabled_config.specs.Settings.{style_at}
+use Rattle.tabled_entity.specs.Changes.{shared}
 use Rattle.tabled_config.specs.declared.sides.Indent.{Indent}
 use Rattle.tabled_config.specs.declared.sides.Sides.{Sides}
 
@@ -21,3 +22,7 @@ side_columns (Some padding) = padding.left.size + padding.right.size
 -- that of a cell
 abbrev pub side_padding : SpannedConfig → ℕ → ℕ → ℕ
 side_padding config row column = side_columns (Some (style_at config row column).padding)
+
+-- that of a cell, or 0 if all cells have the same
+abbrev pub own_padding : SpannedConfig → ℕ → ℕ → ℕ
+own_padding config row column = if is_some (shared config.padding) then 0 else side_padding config row column

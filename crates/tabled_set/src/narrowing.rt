@@ -1,6 +1,6 @@
 //! Narrows a table to a total width, and changes its cells to fit.
 ghost use Rattle.std.specs.Prelude.{◌≡◌, ◌⊎◌, ℕ, IfErr, IfOk, IfSome, ◌<◌, ◌≤◌, MatchOption, OnErr};
-ghost use Rattle.std.specs.Prelude.{Some, false, is_some, true, None, if◌then◌else◌, ◌-◌, OnOk};
+ghost use Rattle.std.specs.Prelude.{Some, false, is_some, true, None, ◌-◌, OnOk};
 ghost use Rattle.std.specs.Prelude.{slice_index_or};
 ghost use Rattle.tabled_set.specs.Common.{effective, is_empty, IsRectangular, Memory, Range};
 ghost use Rattle.tabled_set.specs.Common.{total_width, widths_of};
@@ -8,7 +8,7 @@ ghost use Rattle.tabled_set.specs.CellChanges.{if_taken};
 ghost use Rattle.tabled_set.specs.Narrowed.{less_padding, permitted_width, WiderOutOfRange};
 ghost use Rattle.tabled_set.specs.Narrowed.{NarrowingOutOfRange, Narrows, StopsNarrowing, IsFound};
 ghost use Rattle.tabled_set.specs.Narrowed.{content_width};
-ghost use Rattle.tabled_set.specs.Minimums.{emptied, side_columns, side_padding};
+ghost use Rattle.tabled_set.specs.Minimums.{emptied, own_padding, side_columns};
 
 use crate::measurement::{Measurement, Width};
 use crate::resize::{CellFilter, Change, ContentSizes, Resize, TextTransform};
@@ -69,7 +69,7 @@ fn narrowed_widths<'a, P: Peaker + Drop, R: ExactRecords>(
     ensures sized { let t = effective (R.cells records.now) config.now sizes.now in
         IfOk result (λ answer. IfSome answer (λ found. (row column : ℕ)
         → less_padding (slice_index_or found.content.items column None)
-        (if found.is_shared then 0 else side_padding found.config.now row column)
+        (own_padding found.config.now row column)
         ≡ content_width t found.widths.items row column)) }
     ensures wider { OnErr result
         (n < total_width (effective (R.cells records.now) config.now sizes.now)) }
@@ -84,14 +84,11 @@ fn narrowed_widths<'a, P: Peaker + Drop, R: ExactRecords>(
     let mut mins = estimate_widths(alloc, &EmptiedRecords { records }, config)?;
     mins.truncate(widths.len());
     let widths = shrunk(alloc, priority, widths, &mins, total - n)?;
-    let shared = config.shared_padding();
-    let content = content_widths(alloc, &widths, &mins, shared)?;
-    let is_shared = shared.is_some();
+    let content = content_widths(alloc, &widths, &mins, config.shared_padding())?;
     Ok(Some(ColumnWidths {
         widths,
         content,
         config,
-        is_shared,
     }))
 }
 
@@ -136,22 +133,23 @@ struct ColumnWidths<'a> {
     // The content width of each column, or its width if its cells have paddings of their own.
     content: Vec<Option<usize>>,
     config: &'a SpannedConfig,
-    // Whether all cells have the same padding.
-    is_shared: bool,
 }
 
 impl<'a> ContentSizes for ColumnWidths<'a> {
     ghost content_size_at = { λ s row column.
         less_padding (slice_index_or s.content.items column None)
-        (if s.is_shared then 0 else side_padding s.config.now row column) };
+        (own_padding s.config.now row column) };
 
     #[inline(always)]
     fn content_size(&self, at: Position) -> Option<usize> {
         let width = self.content.get(at.column).copied().unwrap_or(None)?;
-        if self.is_shared {
-            return Some(width);
-        }
-        Some(inner_width(width, Some(self.config.get_padding(at))))
+        let is_shared = self.config.shared_padding().is_some();
+        let own = if is_shared {
+            None
+        } else {
+            Some(self.config.get_padding(at))
+        };
+        Some(inner_width(width, own))
     }
 }
 

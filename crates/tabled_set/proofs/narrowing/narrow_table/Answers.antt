@@ -1,9 +1,9 @@
-use Rattle.std.proofs.Common.{◌≡◌, ℕ, ◌≤◌, ◌<◌, ◌⊎◌, ◌∙◌, IfErr, IfSome, MatchOption, None, Option, Some, false, if◌then◌else◌, inl, refl, rules, slice_index_or, subst}
+use Rattle.std.proofs.Common.{◌≡◌, ℕ, ◌≤◌, ◌<◌, ◌⊎◌, ◌∙◌, IfErr, IfSome, MatchOption, None, Option, Some, false, inl, refl, rules, slice_index_or, subst}
 use Rattle.std.proofs.lemmas.Result.{err_from_is_err_and}
 use Rattle.tabled_set.specs.Common.{effective, is_empty, is_stored, Memory, Range, Sheet, total_width}
 use Rattle.tabled_set.specs.CellChanges.{if_taken}
 use Rattle.tabled_set.specs.Narrowed.{content_width, less_padding, NarrowingOutOfRange, StopsNarrowing, IsFound}
-use Rattle.tabled_set.specs.Minimums.{side_padding}
+use Rattle.tabled_set.specs.Minimums.{own_padding}
 use Rattle.tabled_set.specs.declared.narrowing.ColumnWidths.{ColumnWidths}
 use Rattle.tabled_set.proofs.NarrowingTables.{sized-before, sized-made}
 use Rattle.tabled_set.proofs.NarrowingTables.{fails-lacking, if-err, narrows-none, narrows-some, passes-before, stops-some, stops-wider}
@@ -88,7 +88,7 @@ found-widths shrinks priority n k t o found e is h =
 
 -- and the content sizes of their cells
 abbrev AreSized : Sheet → ColumnWidths → Type 0
-AreSized t found = (row column : ℕ) → less_padding (slice_index_or found.content.items column None) (if found.is_shared then 0 else side_padding found.config.now row column)
+AreSized t found = (row column : ℕ) → less_padding (slice_index_or found.content.items column None) (own_padding found.config.now row column)
     ≡ content_width t found.widths.items row column
 
 found-sizes : (t : Sheet) (o : Option ColumnWidths) (found : ColumnWidths) → o ≡ Some found → IfSome o (AreSized t) → AreSized t found

@@ -18,8 +18,7 @@ returns-clause-sized g c =
     let old = c.in_ok-widths.widths.now in
     let widths = c.in_ok-widths-2.widths.items in
     let mins = c.deref-3.result.now in
-    let shared = c.shared_padding-shared.result in
-    content_widths-are t widths mins (λ column. slice_index_or c.in_ok-content.content.items column None) shared c.is_some-is_shared.result c.is_some-is_shared.ensures
+    content_widths-are t widths mins (λ column. slice_index_or c.in_ok-content.content.items column None) c.shared_padding.result c.shared_padding.ensures.value
     (c.deref-3.ensures.value ∙ c.truncate.ensures.items ∙ ap (take (length old)) c.in_ok-mins.ensures.ok ∙ ap (λ k. take k (minimums t.cells t.config)) (sym c.in_ok-widths-2.ensures.long))
-    (λ column. c.in_ok-content.ensures column ∙ ap (λ w. permitted_width w mins (side_columns shared) column) c.deref-2.ensures.value)
-    c.shared_padding-shared.ensures.everywhere
+    (λ column. c.in_ok-content.ensures column ∙ ap (λ w. permitted_width w mins (side_columns c.shared_padding.result) column) c.deref-2.ensures.value)
+    c.shared_padding.ensures.everywhere
