@@ -12,7 +12,7 @@ ghost use Rattle.tabled_set.specs.Truncated.{ended_text};
 use crate::measurement::Measurement;
 use crate::walk::{WalkOrder, change_cells};
 use std::alloc::Global;
-use tabled_base::{CellOption, Entity, PeekableRecords, Position, RecordsMut, TableError};
+use tabled_base::{CellOption, Entity, Position, RecordsMut, TableError};
 use tabled_config::ColoredConfig;
 use tabled_size::{Peaker, PriorityNone};
 
@@ -109,8 +109,9 @@ pub enum CellFilter {
 }
 
 impl CellFilter {
+    /// Whether a text of these measures passes the filter.
     #[inline(always)]
-    fn takes(self, columns: usize, lines: usize, content_size: usize) -> bool
+    pub(crate) fn takes(self, columns: usize, lines: usize, content_size: usize) -> bool
         ensures { result ≡ takes_size self content_size columns lines }
     {
         match self {
@@ -208,23 +209,6 @@ pub struct Change<'a, T, M> {
 }
 
 impl<'a, T: TextTransform, M: ContentSizes> Change<'a, T, M> {
-    /// Whether a cell doesn't change, or is cut in place.
-    #[inline(always)]
-    pub(crate) fn is_cut_in_place<R: PeekableRecords>(&self, records: &R, at: Position) -> bool
-        requires { IsInside (R.cells records.now) at.row at.column }
-        ensures { let by = self.now in result ≡ true
-            → needs by.cell_filter (T.shortens by.transform.now)
-            (M.content_size_at by.content_sizes.now) at.row at.column
-            (cell_at (R.cells records.now) at.row at.column) → ⊥ }
-    {
-        let Some(content_size) = self.content_sizes.content_size(at) else {
-            return true;
-        };
-        let (text, columns, lines) = records.get_measured(at);
-        !self.cell_filter.takes(columns, lines, content_size)
-            || self.transform.beginning(text, content_size).is_some()
-    }
-
     /// Changes a cell if it has a content size and passes the filter.
     #[inline(always)]
     pub(crate) fn change_cell<R: RecordsMut>(

@@ -105,7 +105,13 @@ fn are_cut_in_place_in<T: TextTransform, M: ContentSizes, R: RecordsMut>(
         (M.content_size_at it.content_sizes.now)) (R.cells records.now) }
 {
     'columns: for column in band.start..band.end {
-        if !by.is_cut_in_place(records, Position { row, column }) {
+        let at = Position { row, column };
+        let Some(content_size) = by.content_sizes.content_size(at) else {
+            continue;
+        };
+        let (text, columns, lines) = records.get_measured(at);
+        let is_taken = by.cell_filter.takes(columns, lines, content_size);
+        if is_taken && by.transform.beginning(text, content_size).is_none() {
             return false;
         }
     }
