@@ -1,5 +1,5 @@
 -- A narrowed table has its total and holds its cells.
-use Rattle.std.proofs.Common.{◌≡◌, ℕ, ◌+◌, ◌-◌, ◌<◌, ◌≤◌, ◌==◌, ◌||◌, Bool, true, false, cond, List, [], length, sum, max, take, nat_le, nat_lt, None, sym, ap, ◌∙◌, subst, arith, le_of_eq, ⊎_elim}
+use Rattle.std.proofs.Common.{◌≡◌, ℕ, ◌+◌, ◌-◌, ◌<◌, ◌≤◌, ◌==◌, ◌||◌, Bool, true, false, cond, List, [], length, sum, max, take, nat_le, nat_lt, None, Some, if◌then◌else◌, sym, ap, ◌∙◌, subst, arith, le_of_eq, ⊎_elim}
 use Rattle.std.specs.Prelude.{MatchBool}
 use Rattle.std.specs.List.{slice_index_or, All}
 use Rattle.std.proofs.Math.Seq.{take-length}
@@ -14,7 +14,7 @@ use Rattle.tabled_priority.specs.Least.{HasLeastGreatest}
 use Rattle.tabled_priority.proofs.Optimal.{HasLeastGreatest-from_level, IsLevel-from_max}
 use Rattle.tabled_size.proofs.ShrunkTotals.{above_minimum, frame_width, narrowed_total}
 use Rattle.tabled_size.proofs.Totalling.{heights_length, widths_length}
-use Rattle.tabled_set.specs.CellChanges.{AreChanged}
+use Rattle.tabled_set.specs.CellChanges.{AreChanged, in_room}
 use Rattle.tabled_set.proofs.ChangingCells.{columns-changed}
 use Rattle.tabled_set.proofs.Totals.{full_total}
 use Rattle.tabled_set.specs.Minimums.{emptied, minimums, side_padding}
@@ -109,7 +109,7 @@ module _ {P : Type 0} (shrinks : Shrinks P) (s : P) (change : ℕ → List ℕ �
       let after = cell_at new row column in
       let inside : nat_lt column (length h.widths) ≡ true = lt-ltb column (length h.widths) (omega (arith, width_each)) in
       let above : nat_le (at (minimums cells config) column) (at h.widths column) ≡ true = le-leb (at (minimums cells config) column) (at h.widths column) (kept column) in
-      MatchBool-at_true (change (at h.widths column - side_padding config row column) before after) (after ≡ before)
+      subst (λ b. in_room change (if b then Some (at h.widths column - side_padding config row column) else None) before after)
       (and_from (nat_lt column (length h.widths)) (nat_le (at (minimums cells config) column) (at h.widths column)) inside above)
       (h.changed.cells row column (record { row_in = r; column_in = c }))
 

@@ -31,25 +31,11 @@ permitted-content_size t widths mins column e = ⊎_elim
     (λ l. rw l refl)
     (cases_Bool (nat_lt column (length widths)))
 
--- where there is a content size on a condition
-in_room-if : (change : ℕ → List ℕ → List ℕ → Type 0) (b : Bool) (content_size : ℕ) (before after : List ℕ) → in_room change (if b then Some content_size else None) before after → MatchBool b (change content_size before after) (after ≡ before)
-in_room-if change true content_size before after h = h
-in_room-if change false content_size before after h = h
-
--- a text that has a content size on a condition, and can't be changed for it without memory
-needs-if : (cell_filter : CellFilter) (in_place : ℕ → List ℕ → Type 0) (b : Bool) (content_size : ℕ) (text : List ℕ)
-    → NeedsMemoryIn cell_filter in_place (if b then Some content_size else None) text → (b ≡ true) × NeedsMemory cell_filter in_place content_size text
-needs-if cell_filter in_place true content_size text h = (refl, h)
-needs-if cell_filter in_place false content_size text h = absurd h
-
 -- cells that are changed for these content sizes are changed for those of their columns
 module _ (t : Sheet) (widths : List ℕ) {sizes : ℕ → ℕ → Option ℕ} (sized : (row column : ℕ) → sizes row column ≡ content_width t widths row column) where
   pub sized-made : (change : ℕ → List ℕ → List ℕ → Type 0) {chosen : ℕ → ℕ → Bool} {old new : List (List (List ℕ))} → AreChanged chosen (λ row column. in_room change (sizes row column)) old new → AreChanged chosen (for_content_size change t widths) old new
   sized-made change {chosen} {old} {new} h =
-      AreChanged-as h
-      (λ r c inside taken made.
-      in_room-if change (is_permitted widths (minimums t.cells t.config) c) (at widths c - side_padding t.config r c) (cell_at old r c) (cell_at new r c)
-      (subst (λ (o : Option ℕ). in_room change o (cell_at old r c) (cell_at new r c)) (sized r c) made))
+      AreChanged-as h (λ r c inside taken made. subst (λ (o : Option ℕ). in_room change o (cell_at old r c) (cell_at new r c)) (sized r c) made)
 
   -- so where the changes stopped
   pub sized-before : (cell_filter : CellFilter) (in_place : ℕ → List ℕ → Type 0) (makes : ℕ → List ℕ → List ℕ → Type 0) {order : WalkOrder} {chosen : ℕ → ℕ → Bool} {old new : List (List (List ℕ))}
@@ -60,9 +46,7 @@ module _ (t : Sheet) (widths : List ℕ) {sizes : ℕ → ℕ → Option ℕ} (s
     column = h.column;
     inside = h.inside;
     stopped = h.stopped;
-    wanting =
-        needs-if cell_filter in_place (is_permitted widths (minimums t.cells t.config) h.column) (at widths h.column - side_padding t.config h.row h.column) (cell_at old h.row h.column)
-        (subst (λ (o : Option ℕ). NeedsMemoryIn cell_filter in_place o (cell_at old h.row h.column)) (sized h.row h.column) h.wanting);
+    wanting = subst (λ (o : Option ℕ). NeedsMemoryIn cell_filter in_place o (cell_at old h.row h.column)) (sized h.row h.column) h.wanting;
     changed = sized-made (if_taken cell_filter makes) h.changed;
   }
 

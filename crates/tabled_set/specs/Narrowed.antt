@@ -3,7 +3,7 @@ use Rattle.std.specs.Prelude.{◌≡◌, ◌⊎◌, ◌<◌, ◌≤◌, ◌^◌,
 use Rattle.tabled_set.specs.Common.{at, CompleteDimension, effective, HasNoEstimate, heights_of, is_empty, IsFilledIn, IsPermitted}
 use Rattle.tabled_set.specs.Common.{IsTooWide, Memory, Sheet, SpannedConfig, TableError, total_width, widths_of, estimated}
 use Rattle.tabled_set.specs.Common.{estimated_heights, total_height}
-use Rattle.tabled_set.specs.CellChanges.{AreChanged, AreChangedBefore, if_taken, NeedsMemory, ByColumn, CellFilter, never_in_place, ByRow}
+use Rattle.tabled_set.specs.CellChanges.{AreChanged, AreChangedBefore, if_taken, in_room, NeedsMemory, NeedsMemoryIn, ByColumn, CellFilter, never_in_place, ByRow}
 use Rattle.tabled_set.specs.CellChanges.{Higher}
 use Rattle.tabled_set.specs.Increased.{StopsFilling}
 use Rattle.tabled_set.specs.Minimums.{emptied, minimums, side_padding}
@@ -36,14 +36,11 @@ pub record IsShrunkTo {P : Type 0} (shrinks : Shrinks P) (priority : P) (n : ℕ
 
 -- a cell of a column that isn't below its minimum is changed for its content width, another isn't
 abbrev pub for_content_size : (ℕ → List ℕ → List ℕ → Type 0) → Sheet → List ℕ → ℕ → ℕ → List ℕ → List ℕ → Type 0
-for_content_size change t widths row column before after =
-    MatchBool (is_permitted widths (minimums t.cells t.config) column) (change (at widths column - side_padding t.config row column) before after) (after ≡ before)
+for_content_size change t widths row column before after = in_room change (content_width t widths row column) before after
 
 -- changing such a cell needs an allocation
 abbrev pub needs_for_content_size : CellFilter → (ℕ → List ℕ → Type 0) → Sheet → List ℕ → ℕ → ℕ → List ℕ → Type 0
-needs_for_content_size cell_filter in_place t widths row column text =
-    (is_permitted widths (minimums t.cells t.config) column ≡ true)
-    × NeedsMemory cell_filter in_place (at widths column - side_padding t.config row column) text
+needs_for_content_size cell_filter in_place t widths row column text = NeedsMemoryIn cell_filter in_place (content_width t widths row column) text
 
 -- a table wider than n is narrowed: its widths are shrunk and stored, its cells are changed for
 -- their content widths, and its heights are cleared
