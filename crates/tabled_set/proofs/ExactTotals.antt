@@ -3,7 +3,7 @@ use Rattle.std.proofs.Common.{◌≡◌, ℕ, ◌+◌, ◌-◌, ◌<◌, ◌≤�
 use Rattle.std.specs.Prelude.{MatchBool}
 use Rattle.std.specs.List.{slice_index_or, All}
 use Rattle.std.proofs.Math.Seq.{take-length}
-use Rattle.std.proofs.lemmas.Bool.{MatchBool-at_true, MatchBool-at_false, and_from, cases_Bool, le-leb, lt-leb, lt-ltb}
+use Rattle.std.proofs.lemmas.Bool.{MatchBool-at_false, and_from, cases_Bool, le-leb, lt-leb, lt-ltb}
 use Rattle.std.proofs.lemmas.List.{get_or_default}
 use Rattle.std.specs.Str.{IsUtf8}
 use Rattle.tabled_set.specs.Common.{AreAdditive, AreTexts, at, cell_at, columns, CompleteDimension, effective, effective_sizes, estimated}

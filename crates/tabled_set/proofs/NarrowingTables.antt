@@ -1,12 +1,12 @@
 -- Tables that are narrowed.
-use Rattle.std.proofs.Common.{◌≡◌, ℕ, ◌-◌, ◌<◌, Bool, true, false, ◌&&◌, nat_lt, nat_le, MatchBool, List, length, take, Option, Some, None, if◌then◌else◌, refl, sym, ap, subst, ◌∙◌, ⊎_elim, arith, ◌⊎◌, inl, inr, Result, Ok, Err, IfErr, IsOk, IsTrue, ◌≤◌, ◌^◌, unwrap_or, cond, IfSome, is_some, ◌+◌}
+use Rattle.std.proofs.Common.{◌≡◌, ℕ, ◌-◌, ◌<◌, Bool, true, false, ◌&&◌, nat_lt, nat_le, List, length, take, Option, Some, None, if◌then◌else◌, refl, sym, ap, subst, ◌∙◌, ⊎_elim, arith, ◌⊎◌, inl, inr, Result, Ok, Err, IfErr, IsOk, IsTrue, ◌≤◌, ◌^◌, unwrap_or, cond, IfSome, is_some, ◌+◌}
 use Rattle.std.proofs.lemmas.Bool.{cases_Bool}
 use Rattle.std.proofs.lemmas.Bool.Decides.{nat_tests}
 use Rattle.std.proofs.lemmas.List.{get_or-take, length-take}
 use Rattle.tabled_set.specs.Common.{at, cell_at, Sheet, SpannedConfig, columns, CompleteDimension, effective, effective_sizes}
 use Rattle.tabled_set.specs.Common.{estimated_heights, estimated_widths, filled_width, FitsMinimums, heights_of, is_empty, IsFilledIn}
 use Rattle.tabled_set.specs.Common.{IsTooWide, Memory, Range, TableError, total_width, widths_of}
-use Rattle.tabled_set.specs.CellChanges.{AreChanged, AreChangedBefore, NeedsMemory, NeedsMemoryIn, if_taken, in_room, WalkOrder, CellFilter}
+use Rattle.tabled_set.specs.CellChanges.{AreChanged, AreChangedBefore, NeedsMemoryIn, if_taken, in_room, WalkOrder, CellFilter}
 use Rattle.tabled_set.specs.CellChanges.{ByColumn}
 use Rattle.tabled_set.specs.Narrowed.{is_permitted, content_width, less_padding, permitted_width, for_content_size, needs_for_content_size, IsNarrowed}
 use Rattle.tabled_set.specs.Narrowed.{Narrows, NarrowingOutOfRange, StopsNarrowing, WiderOutOfRange, IsFound}

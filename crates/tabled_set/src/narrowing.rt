@@ -1,7 +1,6 @@
 //! Narrows a table to a total width, and changes its cells to fit.
 ghost use Rattle.std.specs.Prelude.{◌≡◌, ◌⊎◌, ℕ, IfErr, IfOk, IfSome, ◌<◌, ◌≤◌, MatchOption, OnErr};
-ghost use Rattle.std.specs.Prelude.{Some, false, is_some, true, None, ◌-◌, OnOk};
-ghost use Rattle.std.specs.Prelude.{slice_index_or};
+ghost use Rattle.std.specs.Prelude.{Some, false, is_some, true, None, ◌-◌, OnOk, slice_index_or};
 ghost use Rattle.tabled_set.specs.Common.{effective, is_empty, IsRectangular, Memory, Range};
 ghost use Rattle.tabled_set.specs.Common.{total_width, widths_of};
 ghost use Rattle.tabled_set.specs.CellChanges.{if_taken};
@@ -100,9 +99,8 @@ fn inner_width(width: usize, padding: Option<Sides<Indent>>) -> usize
     let Some(padding) = padding else {
         return width;
     };
-    width
-        .saturating_sub(padding.left.size)
-        .saturating_sub(padding.right.size)
+    let inner = width.saturating_sub(padding.left.size);
+    inner.saturating_sub(padding.right.size)
 }
 
 /// Returns the width of each column that isn't below its minimum, less the padding if all cells
@@ -143,13 +141,10 @@ impl<'a> ContentSizes for ColumnWidths<'a> {
     #[inline(always)]
     fn content_size(&self, at: Position) -> Option<usize> {
         let width = self.content.get(at.column).copied().unwrap_or(None)?;
-        let is_shared = self.config.shared_padding().is_some();
-        let own = if is_shared {
-            None
-        } else {
-            Some(self.config.get_padding(at))
-        };
-        Some(inner_width(width, own))
+        if self.config.shared_padding().is_some() {
+            return Some(width);
+        }
+        Some(inner_width(width, Some(self.config.get_padding(at))))
     }
 }
 

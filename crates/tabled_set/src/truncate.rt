@@ -2,8 +2,7 @@
 //! text.
 ghost use Rattle.std.specs.Cow.{cow_str_bytes, IsOwnedStr};
 ghost use Rattle.std.specs.Prelude.{◌≡◌, ◌-◌, [], IfErr, IfNone, IfOk, IfSome, None, OnErr, OnOk};
-ghost use Rattle.std.specs.Prelude.{Some, false, if◌then◌else◌};
-ghost use Rattle.std.specs.Prelude.{nat_lt, string_bytes};
+ghost use Rattle.std.specs.Prelude.{Some, false, if◌then◌else◌, nat_lt, string_bytes};
 ghost use Rattle.tabled_set.specs.Common.{effective, is_empty, IsCut, Memory, NeedsFill};
 ghost use Rattle.tabled_set.specs.CellChanges.{truncating, if_wider, Wider};
 ghost use Rattle.tabled_set.specs.Narrowed.{Narrows, NarrowingOutOfRange, StopsNarrowing};

@@ -3,9 +3,8 @@ ghost use Rattle.std.specs.Prelude.{◌≡◌, ◌≤◌, ◌<◌, ◌==◌, ◌
 ghost use Rattle.std.specs.Prelude.{true};
 ghost use Rattle.tabled_set.specs.Common.{columns, covers, IsInside, Memory};
 ghost use Rattle.tabled_set.specs.CellChanges.{line_of, place_of, AreChanged, AreChangedBefore};
-ghost use Rattle.tabled_set.specs.CellChanges.{ByRow};
-ghost use Rattle.tabled_set.specs.CellChanges.{is_within, leaves, lines_in, NeedNoMemory, needs};
-ghost use Rattle.tabled_set.specs.CellChanges.{on_line, places_in};
+ghost use Rattle.tabled_set.specs.CellChanges.{ByRow, is_within, leaves, lines_in, NeedNoMemory};
+ghost use Rattle.tabled_set.specs.CellChanges.{needs, on_line, places_in};
 
 use crate::resize::{Change, ContentSizes, TextTransform};
 use std::ops::Range;
