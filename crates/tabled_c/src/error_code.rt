@@ -1,4 +1,4 @@
-//! Error codes.
+//! The negative results of the exported functions.
 ghost use Rattle.std.specs.Prelude.{◌≡◌};
 ghost use Rattle.tabled_c.specs.Answers.{code_of};
 
@@ -6,13 +6,13 @@ ghost use Rattle.tabled_c.specs.Answers.{code_of};
 pub(crate) enum ErrorCode {
     /// An allocation failed.
     Memory,
-    /// A total is greater than `usize::MAX`, or the columns of a text than `isize::MAX`.
+    /// A total exceeds `usize::MAX`, or the width of a text exceeds `isize::MAX`.
     Range,
     /// The text is not UTF-8.
     NoText,
     /// No style has the name.
     NoStyle,
-    /// No plan has the numbers.
+    /// No plan has these numbers.
     NoPlan,
 }
 

@@ -62,7 +62,7 @@ pub extern "C" fn fanlightnard_print(
     }
 }
 
-/// Returns the columns of a text, those of its widest line, or an error code below 0.
+/// Returns the width of a text in columns, or an error code below 0. The widest line counts.
 #[unsafe(no_mangle)]
 pub extern "C" fn fanlightnard_measure(text: &[u8]) -> isize
     ensures { IsMeasured text.now result }
@@ -77,8 +77,8 @@ pub extern "C" fn fanlightnard_measure(text: &[u8]) -> isize
     columns as isize
 }
 
-/// Cuts a text to `columns`, into `room`. Returns the number of bytes needed, or an error code
-/// below 0. If `room` is too small, nothing is written.
+/// Cuts a text to `columns` and writes it to `room`. Returns the number of bytes needed, or an
+/// error code below 0. If `room` is too small, nothing is written.
 #[unsafe(no_mangle)]
 pub extern "C" fn fanlightnard_cut(
     alloc: Global,
@@ -98,8 +98,10 @@ pub extern "C" fn fanlightnard_cut(
     }
 }
 
-/// Wraps a text to `columns`, into `room`; with `words` between words where possible. Returns the
-/// number of bytes needed, or an error code below 0. If `room` is too small, nothing is written.
+/// Wraps a text to `columns` and writes it to `room`. Returns the number of bytes needed, or an
+/// error code below 0. If `room` is too small, nothing is written.
+///
+/// - `words`: wrap between words where possible.
 #[unsafe(no_mangle)]
 pub extern "C" fn fanlightnard_wrap(
     alloc: Global,
