@@ -1,5 +1,5 @@
-//! Draws readings as a dashboard of a given width, once all of them are read: a headline above panels side by side, and in each panel
-//! its readings one below the other.
+//! Prints readings as a dashboard of a given width: a headline, and below it panels side by side.
+//! Each panel lists its readings from top to bottom.
 #![tactic(auto)]
 
 use anyhow::{Context, Result, bail, ensure};
@@ -28,13 +28,13 @@ fn width_of(rt: &HostRuntime) -> Result<usize> {
         .context(format_args!("{word} is no number of columns"))
 }
 
-/// The headline, which is the first line, above the panels.
+/// Returns the table: the first line as a headline, and the panels below it.
 fn table_of(alloc: Global, text: &str, width: usize) -> Result<PoolTable> {
     let panels = panels_of(alloc, text)?;
     let Some(share) = width.saturating_sub(1).checked_div(panels.len()) else {
         bail!("there is no reading");
     };
-    // Each panel has a line on its left, and padding.
+    // Each panel has a border on its left, and a column of padding on both sides.
     let room = share.saturating_sub(3);
     ensure!(room > 0, "{width} columns are too few for the panels");
     let headline = text.lines().next().unwrap_or("");
@@ -44,7 +44,7 @@ fn table_of(alloc: Global, text: &str, width: usize) -> Result<PoolTable> {
     Ok(PoolTable::from_value(TableValue::Column(parts)))
 }
 
-/// The readings of each panel, from the lines behind the first.
+/// Returns the readings of each panel, from all lines after the first.
 fn panels_of(alloc: Global, text: &str) -> Result<IndexMap<&str, Vec<String>>> {
     let mut panels = IndexMap::new(alloc);
     for (number, line) in (1..=u64::MAX).zip(text.lines()).skip(1) {
@@ -57,7 +57,7 @@ fn panels_of(alloc: Global, text: &str) -> Result<IndexMap<&str, Vec<String>>> {
     Ok(panels)
 }
 
-/// The panels side by side, each with room for so many columns.
+/// Returns the panels side by side, each with a content width of `room`.
 fn row_of(
     alloc: Global,
     panels: IndexMap<&str, Vec<String>>,
@@ -70,7 +70,7 @@ fn row_of(
     Ok(TableValue::Row(beside))
 }
 
-/// A name above readings, each wrapped to so many columns.
+/// Returns a name above its readings, all wrapped to `room` columns.
 fn panel_of(
     alloc: Global,
     name: &str,
@@ -85,7 +85,7 @@ fn panel_of(
     Ok(TableValue::Column(parts))
 }
 
-/// A text in just so many columns, so that the table is as wide as is asked for.
+/// Cuts or pads a text to exactly `room` columns, so that the table gets its full width.
 fn filled(alloc: Global, text: &str, room: usize) -> Result<TableValue, TableError> {
     let mut line = cut_str(alloc, text, room)?.into_owned(alloc)?;
     for _column in text_width(&line)..room {

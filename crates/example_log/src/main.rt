@@ -1,4 +1,5 @@
-//! Prints a log as a table of 64 columns, once all of it is read: what the other columns leave is the message's, wrapped at words.
+//! Prints a log as a table that is 64 columns wide. The message gets what the other columns leave,
+//! and is wrapped between words.
 #![tactic(auto)]
 
 use anyhow::{Context, Result, bail, ensure};
@@ -9,10 +10,10 @@ use tabled::settings::peaker::Priority;
 use tabled::settings::{Style, Width};
 use tabled::{Table, TableError};
 
-/// The columns of the table.
+/// The total width of the table.
 const WIDTH: usize = 64;
 
-/// Those beside a text.
+/// The left and right padding of a cell together.
 const PADDING: usize = 2;
 
 fn main(rt: HostRuntime) -> Result<()> {
@@ -29,7 +30,7 @@ fn main(rt: HostRuntime) -> Result<()> {
     Ok(())
 }
 
-/// The lines of a log below the names of the columns.
+/// Returns a header, and a row for each line of the log.
 fn rows_of(alloc: Global, text: &str) -> Result<Builder> {
     let mut builder = Builder::new(alloc);
     builder.add_record(["Time", "Level", "Source", "Message"])?;
@@ -42,7 +43,7 @@ fn rows_of(alloc: Global, text: &str) -> Result<Builder> {
     Ok(builder)
 }
 
-/// The time, the level, the source and the message of a line.
+/// Splits a line into its time, level, source and message.
 fn parts_of(line: &str) -> Option<(&str, &str, &str, &str)> {
     let (time, rest) = line.split_once(' ')?;
     let (level, rest) = rest.split_once(' ')?;
@@ -50,7 +51,7 @@ fn parts_of(line: &str) -> Option<(&str, &str, &str, &str)> {
     Some((time, level, source, message))
 }
 
-/// The last column is the first to give columns, and gets all that are missing.
+/// Fits a table to `WIDTH`. The last column shrinks first, and gets all columns that are missing.
 fn fitted(mut table: Table) -> Result<Table, TableError> {
     let narrow = Width::wrap(WIDTH).keep_words(true);
     let widen = Width::increase(WIDTH);
