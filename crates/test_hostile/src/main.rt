@@ -1,6 +1,5 @@
-//! Tables under hostile use. Without words it reads lines that say what becomes of tables that are set by numbers of any size, and tells of
-//! those that don't hold; has each printer stop wherever its writer does; and makes each call once for which a growth may be refused.
-//! With the word `names` it lists these calls, and with a kind and a number it makes one of them and says what became of it.
+//! Tests tables with huge numbers, with writers that stop early, and with failing allocations.
+//! Without arguments it runs all tests; `names` lists the calls, and a kind and a number run one.
 #![tactic(auto)]
 
 use anyhow::{Result, bail};
@@ -10,7 +9,7 @@ use tabled::TableError;
 use test_hostile_uses::{names, stopped_printers, stopped_runs, told, tried, tried_all};
 use test_refused_uses::Found;
 
-// Tells of the lines that don't hold, and of how many do.
+// Prints each input line that fails, and how many pass and fail.
 fn tell_lines(rt: &impl Print, alloc: Global, input: &str) -> Result<()> {
     let mut held: usize = 0;
     let mut failed: usize = 0;
@@ -30,7 +29,7 @@ fn tell_lines(rt: &impl Print, alloc: Global, input: &str) -> Result<()> {
     Ok(())
 }
 
-// Says what became of one call.
+// Prints the outcome of one call. `elsewhere`: an allocation failed in its setup or its check.
 fn tell_call(rt: &impl Print, alloc: Global, kind: &str, number: &str) -> Result<()> {
     let number = number.parse().unwrap_or(usize::MAX);
     match tried(alloc, kind, number) {

@@ -1,5 +1,5 @@
-//! Options of tables and of cells, each by itself. A refused one leaves the cells before the refused one changed and the others
-//! not, the configuration as it was, and no size stored.
+//! Options of tables and cells, run one at a time. If one fails at a cell, only the cells before it
+//! are changed, the configuration is unchanged, and no size is stored.
 
 use std::alloc::Global;
 use tabled::grid::config::Position;
@@ -8,14 +8,14 @@ use tabled::{Table, TableError};
 use test_case_judge::{Fault, set};
 use test_refused_uses::{Found, refused_if, sized_table_of_pairs, whole_if};
 
-/// An option in words, and the cells that it makes of the pairs, between strokes.
+/// A command, and the cells of the pairs after it, separated by slashes.
 pub type Change = (&'static str, &'static str);
 
 const PAIRED: &str = "a/bb/ccc/";
 
 const WRAPPED: &str = "a/b\nb/c\nc\nc/";
 
-/// The options that go column by column.
+/// Options that change cells column by column.
 pub const BY_COLUMNS: &[Change] = &[
     ("wrap table 9", WRAPPED),
     ("wrap table 9 keep_words", WRAPPED),
@@ -32,7 +32,7 @@ pub const BY_COLUMNS: &[Change] = &[
     ("truncate table 9 priority=left suffix=.. limit=#", "/bb//"),
 ];
 
-/// The other ones, which go row by row.
+/// Options that change cells row by row.
 pub const BY_ROWS: &[Change] = &[
     ("increase table 20", PAIRED),
     ("heighten table 9", PAIRED),
@@ -58,7 +58,7 @@ pub const BY_ROWS: &[Change] = &[
     ("style psql", PAIRED),
 ];
 
-// The place that comes at a step of a walk over two rows and two columns.
+// The position of the nth cell of two rows and two columns, column by column or row by row.
 fn place_at(step: usize, by_columns: bool) -> Position {
     let (first, second) = (step / 2, step % 2);
     if by_columns {
@@ -76,7 +76,7 @@ fn has_text(records: &VecRecords<Text<String>>, place: Position, cells: &str) ->
     cells.split('/').nth(row * 2 + column) == Some(records.get_text(place))
 }
 
-// Whether so many first cells are changed, and the others aren't.
+// Whether the first `count` cells are changed, and the others are not.
 fn are_changed(
     records: &VecRecords<Text<String>>,
     changed: &str,
@@ -102,7 +102,7 @@ fn some_are_changed(records: &VecRecords<Text<String>>, changed: &str, by_column
     false
 }
 
-// A table of cells as they stand in another one.
+// Returns a new table with the same cells, at most two rows and two columns.
 fn fresh(alloc: Global, records: &VecRecords<Text<String>>) -> Result<Table, TableError> {
     let mut rows = Vec::new(alloc);
     for row in 0..records.count_rows().min(2) {
@@ -124,7 +124,7 @@ fn text_at(records: &VecRecords<Text<String>>, row: usize, column: usize) -> &st
     }
 }
 
-// Whether a table is left as a refused option has to leave it: it prints as a new one of its cells as they stand.
+// Whether a failed option left what it must: a table that prints like a new one with its cells.
 fn is_left(
     alloc: Global,
     table: &Table,
@@ -142,7 +142,7 @@ fn is_left(
     )
 }
 
-/// What became of an option of a table whose sizes are stored.
+/// Applies an option to a table with stored sizes, and returns the outcome.
 pub fn changed(alloc: Global, change: Change, by_columns: bool) -> Result<Found, TableError> {
     let (command, cells) = change;
     let mut table = sized_table_of_pairs(alloc)?;

@@ -1,6 +1,5 @@
-//! What hostile runs do with tables: they are set, in the words of cases, by numbers of any size
-//! and by options of which a growth may be refused, and printed to writers that stop anywhere. The
-//! calls below it, which are made in code, are tried by their names beside these options.
+//! Tests of tables with huge numbers, with writers that stop early, and with failing allocations.
+//! Options are written as commands, as in `test_cases`; other calls come from `test_refused_uses`.
 #![tactic(auto)]
 
 mod changes;

@@ -1,26 +1,26 @@
-//! A writer that takes few bytes.
+//! A writer that takes a limited number of bytes.
 
 use std::alloc::Global;
 use std::io;
 use std::io::Write;
 
-/// What a writer does once it has no room.
+/// What the writer returns once it is full.
 #[derive(Clone, Copy, Debug)]
 pub enum End {
-    /// It takes no bytes.
+    /// `Ok(0)`.
     TakesNone,
-    /// It fails.
+    /// An error.
     Fails,
-    /// It says that it was interrupted.
+    /// An `Interrupted` error.
     IsInterrupted,
 }
 
-/// Takes so many bytes a call, and so many in all. It counts the calls that find no room.
+/// Takes at most `step` bytes per call and `room` bytes in all, and counts the calls after that.
 #[derive(Drop)]
 pub struct Meagre {
-    /// What it took.
+    /// The bytes taken.
     pub taken: Vec<u8>,
-    /// How many calls found no room.
+    /// The number of calls after it was full.
     pub refused: usize,
     step: usize,
     room: usize,
@@ -28,7 +28,6 @@ pub struct Meagre {
 }
 
 impl Meagre {
-    /// One with so many bytes a call, and so many in all.
     pub fn new(alloc: Global, step: usize, room: usize, end: End) -> Meagre {
         Meagre {
             taken: Vec::new(alloc),

@@ -1,4 +1,4 @@
-//! Tables that are set by numbers of any size, and printed to a writer with room for 1,000 bytes.
+//! Tables with numbers of any size, printed to a writer that takes 1,000 bytes.
 
 use crate::meagre::{End, Meagre};
 use crate::sides::{new_config, set_sides};
@@ -10,7 +10,7 @@ use tabled::{IoSink, Table, TableError, TextSink};
 use test_case_judge::{Fault, Words, set};
 use test_refused_uses::{PAIRS, table_of_pairs};
 
-// Sets a table, up to a command that is refused.
+// Applies commands, up to the first that fails.
 fn set_each(alloc: Global, table: &mut Table, commands: &str) -> Result<(), Fault> {
     for command in commands.split("; ") {
         set(alloc, table, command)?;
@@ -18,7 +18,7 @@ fn set_each(alloc: Global, table: &mut Table, commands: &str) -> Result<(), Faul
     Ok(())
 }
 
-// The answer of a call in words: its number or its refusal.
+// Formats a result: its number, or its error.
 fn shown(alloc: Global, answer: Result<usize, TableError>) -> Result<String, Fault> {
     match answer {
         Ok(number) => Ok(format!(in alloc; "{number}")?),
@@ -26,7 +26,7 @@ fn shown(alloc: Global, answer: Result<usize, TableError>) -> Result<String, Fau
     }
 }
 
-// What a print answers to a writer with little room, and how many bytes are out.
+// Formats the result of a print, and the number of bytes written.
 fn shown_print(
     alloc: Global,
     answer: Result<(), TableError>,
@@ -43,7 +43,7 @@ fn narrow_room(alloc: Global) -> Meagre {
     Meagre::new(alloc, usize::MAX, 1000, End::TakesNone)
 }
 
-// The total width, the total height, and what is printed.
+// Formats the total width, the total height, and the result of a print.
 fn measured(alloc: Global, table: &Table) -> Result<String, Fault> {
     let width = shown(alloc, table.total_width())?;
     let height = shown(alloc, table.total_height())?;
@@ -53,7 +53,7 @@ fn measured(alloc: Global, table: &Table) -> Result<String, Fault> {
     Ok(format!(in alloc; "{width} {height} {printed}")?)
 }
 
-// Sets a table by the commands of cases, and says whether one is refused.
+// Applies commands. Returns `set`, or the error of the command that failed.
 fn said(alloc: Global, table: &mut Table, commands: &str) -> Result<String, Fault> {
     match set_each(alloc, table, commands) {
         Ok(()) => Ok(String::from_str(alloc, "set")?),
@@ -62,7 +62,7 @@ fn said(alloc: Global, table: &mut Table, commands: &str) -> Result<String, Faul
     }
 }
 
-// A table of the pairs that is set by commands, measured and printed.
+// Applies commands to a table of the pairs, then measures and prints it.
 fn try_table(alloc: Global, commands: &str) -> Result<String, Fault> {
     let mut table = table_of_pairs(alloc)?;
     let said = said(alloc, &mut table, commands)?;
@@ -70,7 +70,7 @@ fn try_table(alloc: Global, commands: &str) -> Result<String, Fault> {
     Ok(format!(in alloc; "{said} {measured}")?)
 }
 
-// The same, printed with a width of its own.
+// The same, printed to a given width.
 fn try_look(alloc: Global, commands: &str, width: &str) -> Result<String, Fault> {
     let mut table = table_of_pairs(alloc)?;
     let said = said(alloc, &mut table, commands)?;
@@ -81,7 +81,7 @@ fn try_look(alloc: Global, commands: &str, width: &str) -> Result<String, Fault>
     Ok(format!(in alloc; "{said} {printed}")?)
 }
 
-// A table of the pairs with room for so many rows.
+// Makes a table of the pairs with a given capacity in rows.
 fn try_capacity(alloc: Global, rows: &str) -> Result<String, Fault> {
     let rows = Words::new(rows).number()?;
     match Table::with_capacity(alloc, [("a", "bb"), ("ccc", "")], rows) {
@@ -105,7 +105,7 @@ fn set_stream(table: &mut Stream, command: &str) -> Result<(), Fault> {
     Ok(())
 }
 
-// A stream of the pairs: behind what is set around its cells its own numbers.
+// Prints an `IterTable` of the pairs with a configuration and the table's own commands.
 fn try_stream(alloc: Global, config: CompactConfig, commands: &str) -> Result<String, Fault> {
     let mut table = IterTable::new(PAIRS);
     table.with(config)?;
@@ -117,7 +117,7 @@ fn try_stream(alloc: Global, config: CompactConfig, commands: &str) -> Result<St
     shown_print(alloc, answer, &writer)
 }
 
-// A compact table of the pairs, of so many columns, each as wide as is said, with so many rows of those behind some.
+// Prints a `CompactTable` of the pairs. The numbers: columns, width of each, rows to skip, rows.
 fn try_compact(alloc: Global, config: CompactConfig, numbers: &str) -> Result<String, Fault> {
     let mut words = Words::new(numbers);
     let (columns, width) = (words.number()?, words.number()?);
@@ -133,7 +133,7 @@ fn try_compact(alloc: Global, config: CompactConfig, numbers: &str) -> Result<St
     shown_print(alloc, answer, &writer)
 }
 
-// Boxes of the pairs.
+// Prints a `PoolTable` of the pairs.
 fn try_boxes(alloc: Global, config: CompactConfig) -> Result<String, Fault> {
     let mut table = PoolTable::new(alloc, PAIRS)?;
     table.with(CompactMultilineConfig::from_compact(config))?;
@@ -142,7 +142,7 @@ fn try_boxes(alloc: Global, config: CompactConfig) -> Result<String, Fault> {
     shown_print(alloc, answer, &writer)
 }
 
-// Records of the pairs, truncated to some columns.
+// Truncates an `ExtendedTable` of the pairs to a width, and prints it.
 fn try_records(alloc: Global, numbers: &str) -> Result<String, Fault> {
     let mut table = ExtendedTable::from_rows(alloc, PAIRS)?;
     let mut words = Words::new(numbers);
@@ -153,7 +153,7 @@ fn try_records(alloc: Global, numbers: &str) -> Result<String, Fault> {
     Ok(format!(in alloc; "{done} {printed}")?)
 }
 
-// The first three batches.
+// Lists where the first three batches of a `LayoutIterator` begin.
 fn try_batches(alloc: Global, numbers: &str) -> Result<String, Fault> {
     let mut words = Words::new(numbers);
     let (from, to) = (words.number()?, words.number()?);
@@ -164,7 +164,7 @@ fn try_batches(alloc: Global, numbers: &str) -> Result<String, Fault> {
     Ok(said)
 }
 
-// Settings that stand around cells, one after another.
+// Builds a configuration from commands for margin, padding and borders.
 fn config_of(settings: &str) -> Result<CompactConfig, Fault> {
     let mut config = new_config();
     for setting in settings.split("; ").filter(|setting| !setting.is_empty()) {
@@ -175,7 +175,7 @@ fn config_of(settings: &str) -> Result<CompactConfig, Fault> {
     Ok(config)
 }
 
-// What becomes of the pairs in a table of some kind.
+// Runs one line, and returns the outcome in the format of the line's last part.
 fn tried(alloc: Global, kind: &str, settings: &str, numbers: &str) -> Result<String, Fault> {
     match kind {
         "table" => try_table(alloc, numbers),
@@ -190,8 +190,8 @@ fn tried(alloc: Global, kind: &str, settings: &str, numbers: &str) -> Result<Str
     }
 }
 
-/// What is told of a line that doesn't hold; nothing where it holds. It has the kind of a table, settings, numbers, and what is
-/// wanted, between bars.
+/// Checks a line `kind | settings | numbers | expected`. Returns an empty string if it passes, and
+/// otherwise the line with the actual outcome.
 pub fn told(alloc: Global, line: &str) -> Result<String, Fault> {
     let mut parts = line.split(" | ");
     let kind = parts.next().unwrap_or("");

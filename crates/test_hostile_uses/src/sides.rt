@@ -1,10 +1,10 @@
-//! What is set by numbers around the cells of any table.
+//! Commands for margin, padding and borders.
 
 use tabled::grid::config::{CompactConfig, Indent, Sides};
 use tabled::settings::Style;
 use test_case_judge::{Fault, Words};
 
-/// The settings of a new table: ascii borders, and one column of padding on the left and right.
+/// The configuration of a new table: ASCII borders, one column of padding on the left and right.
 pub fn new_config() -> CompactConfig {
     let (one, none) = (Indent::spaced(1), Indent::zero());
     CompactConfig::new()
@@ -12,7 +12,7 @@ pub fn new_config() -> CompactConfig {
         .set_padding(Sides::new(one, one, none, none))
 }
 
-// Spaces at the left, the right, the top and the bottom.
+// Parses spaces on the left, right, top and bottom.
 fn sides(words: &mut Words<'_>) -> Result<Sides<Indent>, Fault> {
     let (left, right) = (words.number()?, words.number()?);
     let (top, bottom) = (words.number()?, words.number()?);
@@ -24,7 +24,7 @@ fn sides(words: &mut Words<'_>) -> Result<Sides<Indent>, Fault> {
     ))
 }
 
-/// The settings with a margin, a padding, or no borders.
+/// Sets the margin, the padding, or empty borders.
 pub fn set_sides(
     config: CompactConfig,
     kind: &str,

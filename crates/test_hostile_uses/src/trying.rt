@@ -1,4 +1,4 @@
-//! Options and calls by their names, each of which is made once.
+//! Options and calls, listed and run by kind and number.
 
 use crate::changes::{BY_COLUMNS, BY_ROWS, Change, changed};
 use std::alloc::{AllocError, Global};
@@ -17,8 +17,8 @@ fn change_at(
     }
 }
 
-/// What became of an option or a call that is named by its kind and its number: an option that goes by columns or by rows, or one of
-/// the calls that are made in code. `None` where there is none.
+/// Runs one option or call and returns the outcome, or `None` if there is none. The kinds `columns`
+/// and `rows` are options; all others are calls of `test_refused_uses`.
 pub fn tried(alloc: Global, kind: &str, number: usize) -> Result<Option<Found>, TableError> {
     match kind {
         "columns" => change_at(alloc, BY_COLUMNS, number, true),
@@ -27,7 +27,7 @@ pub fn tried(alloc: Global, kind: &str, number: usize) -> Result<Option<Found>, 
     }
 }
 
-// A line for each option of a kind: its number and its words.
+// Writes a line for each option: kind, number and command.
 fn list_changes(report: &mut String, kind: &str, changes: &[Change]) -> Result<(), AllocError> {
     for (number, &(command, _)) in changes.iter().enumerate() {
         write!(report, "{kind} {number} {command}\n")?;
@@ -35,7 +35,7 @@ fn list_changes(report: &mut String, kind: &str, changes: &[Change]) -> Result<(
     Ok(())
 }
 
-/// A line for each option and each call: its kind, its number and its name.
+/// Lists all options and calls, one per line: kind, number and name.
 pub fn names(alloc: Global) -> Result<String, AllocError> {
     let mut report = String::new(alloc);
     list_changes(&mut report, "columns", BY_COLUMNS)?;
@@ -44,7 +44,7 @@ pub fn names(alloc: Global) -> Result<String, AllocError> {
     Ok(report)
 }
 
-// How many of a kind did what they are for.
+// Counts the calls of a kind that succeed. No kind has more than 100.
 fn count_whole(alloc: Global, kind: &str) -> Result<usize, TableError> {
     let mut count: usize = 0;
     for number in 0..100 {
@@ -55,7 +55,7 @@ fn count_whole(alloc: Global, kind: &str) -> Result<usize, TableError> {
     Ok(count)
 }
 
-/// A line for each kind of options and calls: how many did what they are for.
+/// Runs all options and calls. Returns a line for each kind: how many succeeded.
 pub fn tried_all(alloc: Global) -> Result<String, TableError> {
     let mut report = String::new(alloc);
     for kind in [

@@ -1,4 +1,4 @@
-//! Writers that stop after any number of bytes.
+//! Printers and the program, with writers that stop after any number of bytes.
 
 use crate::meagre::{End, Meagre};
 use std::alloc::{AllocError, Global};
@@ -7,7 +7,8 @@ use test_refused_uses::{PRINTERS, Printer, picture, put};
 
 const ENDS: [End; 3] = [End::TakesNone, End::Fails, End::IsInterrupted];
 
-// Whether a writer with so much room got just the first bytes of a text, and was asked no more once it had refused.
+// Whether a writer that takes `room` bytes got exactly the first ones of a text, and no further
+// call after its first failure.
 fn has_beginning(writer: &Meagre, text: &str, room: usize) -> bool {
     let taken = writer.taken.as_slice();
     if room < text.len() {
@@ -17,7 +18,7 @@ fn has_beginning(writer: &Meagre, text: &str, room: usize) -> bool {
     }
 }
 
-// Whether a printer stops where its writer does, and says so.
+// Whether a printer stops at the writer's first failure, and returns `Writer`.
 fn stops(alloc: Global, printer: Printer, step: usize, room: usize, end: End) -> bool {
     let text = picture(printer);
     let mut writer = Meagre::new(alloc, step, room, end);
@@ -32,7 +33,7 @@ fn stops(alloc: Global, printer: Printer, step: usize, room: usize, end: End) ->
     (answer, failures) == wanted && has_beginning(&writer, text, room)
 }
 
-// Whether a printer stops so after any number of bytes, one by one and as many as there are.
+// Tries each length and each failure, with writes of one byte and of any length.
 fn stops_anywhere(alloc: Global, printer: Printer) -> bool {
     for room in 0..picture(printer).len().saturating_add(1) {
         for end in ENDS {
@@ -46,7 +47,7 @@ fn stops_anywhere(alloc: Global, printer: Printer) -> bool {
     true
 }
 
-/// A line for each printer: whether it stops wherever its writer does.
+/// A line for each printer: whether it stops at every failure of its writer.
 pub fn stopped_printers(alloc: Global) -> Result<String, AllocError> {
     let mut report = String::new(alloc);
     for &printer in PRINTERS {
@@ -59,7 +60,7 @@ pub fn stopped_printers(alloc: Global) -> Result<String, AllocError> {
     Ok(report)
 }
 
-// The words of a command line.
+// Splits a command line into arguments.
 fn words_of(alloc: Global, line: &str) -> Result<Vec<String>, AllocError> {
     let mut words = Vec::new(alloc);
     for word in line.split(' ').filter(|word| !word.is_empty()) {
@@ -68,7 +69,7 @@ fn words_of(alloc: Global, line: &str) -> Result<Vec<String>, AllocError> {
     Ok(words)
 }
 
-// Whether the program stops where its writer does.
+// Whether the program stops at the writer's first failure, and reports it.
 fn run_stops(alloc: Global, words: &[String], text: &str, room: usize, end: End) -> bool {
     let mut out = Meagre::new(alloc, 3, room, end);
     let mut err = Vec::new(alloc);
@@ -87,7 +88,7 @@ fn run_stops(alloc: Global, words: &[String], text: &str, room: usize, end: End)
     (status, err.as_slice()) == wanted && has_beginning(&out, text, room)
 }
 
-// Whether the program stops so after any number of bytes.
+// Tries each length and each failure.
 fn run_stops_anywhere(alloc: Global, line: &str, printer: Printer) -> Result<bool, AllocError> {
     let words = words_of(alloc, line)?;
     let mut text = String::from_str(alloc, picture(printer))?;
@@ -109,7 +110,7 @@ const LINES: [(&str, Printer); 4] = [
     ("--cut 9 --priority right", Printer::Shortened),
 ];
 
-/// A line for each plan: whether the program stops wherever its writer does.
+/// A line for each plan: whether the program stops at every failure of its writer.
 pub fn stopped_runs(alloc: Global) -> Result<String, AllocError> {
     let mut report = String::new(alloc);
     for (line, printer) in LINES {

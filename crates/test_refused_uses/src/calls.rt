@@ -1,4 +1,4 @@
-//! Calls that make rows and tables, copy and measure them.
+//! Calls that make, copy and measure rows and tables.
 
 use crate::found::{Found, refused_if, whole_if};
 use crate::printers::{PAIRS, PICTURE, table_of_pairs};
@@ -10,7 +10,7 @@ use tabled::grid::records::JoinedRecords;
 use tabled::tables::{ExtendedTable, PoolTable};
 use tabled::{Table, TableError};
 
-/// The calls, by their names.
+/// The names of the calls.
 pub const CALLS: &[&str] = &[
     "push_record",
     "push_record longer",
@@ -31,7 +31,7 @@ pub const CALLS: &[&str] = &[
     "boxes clone",
 ];
 
-// What a call answers that has no state: the text that it made, or a refusal.
+// The outcome of a call without state: it must return the wanted text, or fail with `Memory`.
 fn made(answer: Result<String, TableError>, wanted: &str) -> Found {
     match answer {
         Ok(text) => whole_if(text.as_str() == wanted),
@@ -43,7 +43,7 @@ fn printed(table: Result<Table, TableError>) -> Result<String, TableError> {
     table?.to_string()
 }
 
-// What became of a record that was pushed below a and bb, by the picture of what it left.
+// The outcome of pushing a record below `a` and `bb`. `picture` shows the records after the call.
 fn pushed(answer: Result<(), TableError>, picture: &str, wanted: &str) -> Found {
     match answer {
         Ok(()) => whole_if(picture == wanted),
@@ -51,7 +51,7 @@ fn pushed(answer: Result<(), TableError>, picture: &str, wanted: &str) -> Found 
     }
 }
 
-// A builder is as it was where a record was refused.
+// A failed push must leave the builder unchanged.
 fn push(alloc: Global, record: &[&'static str], wanted: &str) -> Result<Found, TableError> {
     let mut builder = Builder::new(alloc);
     builder.push_record(["a", "bb"])?;
@@ -66,7 +66,7 @@ fn joined_picture(alloc: Global, records: &JoinedRecords) -> Result<String, Tabl
     Ok(picture)
 }
 
-// Joined records are as they were where a record was refused.
+// A failed push must leave the records unchanged.
 fn push_joined(alloc: Global) -> Result<Found, TableError> {
     let mut records = JoinedRecords::new(alloc);
     records.push_record(["a", "bb"])?;
@@ -123,7 +123,7 @@ fn table_made(alloc: Global, name: &str) -> Found {
     }
 }
 
-// The new table's total, or the refusal of it; the table is left as it was.
+// Measuring must leave the table unchanged, and store no sizes.
 fn measured(alloc: Global, name: &str) -> Result<Found, TableError> {
     let table = table_of_pairs(alloc)?;
     let (answer, wanted) = match name {
@@ -161,12 +161,12 @@ const FIRST_CUT: &str = "-[ RECORD 0 ]----\na  | ccccc..\nbb | dddddddddddd";
 
 const BOTH_CUT: &str = "-[ RECORD 0 ]-\na  | ccccc..\nbb | ddddd..";
 
-// Whether a text is the wide record with none of its values cut, the first one, or both.
+// Whether no value of the wide record is truncated, only the first, or both.
 fn is_left(text: &str) -> bool {
     text == UNCUT || text == FIRST_CUT || text == BOTH_CUT
 }
 
-// A refused truncation leaves the texts before the refused one changed, and the others as they were.
+// If truncating fails at a value, only the values before it may be truncated.
 fn truncated(alloc: Global) -> Result<Found, TableError> {
     let mut table = ExtendedTable::from_rows(alloc, WIDE)?;
     let answer = table.truncate(14, "..");
@@ -208,7 +208,7 @@ fn drawn_copy(alloc: Global) -> Result<Found, TableError> {
     Ok(made(drawn(table.clone()), BOXES))
 }
 
-/// What became of a call.
+/// Runs a call by name, and returns its outcome.
 pub fn called(alloc: Global, name: &str) -> Result<Found, TableError> {
     match name {
         "push_record" => push(alloc, &["ccc"], PICTURE),

@@ -1,4 +1,4 @@
-//! Calls that set and print tables of each kind, beyond those that are made elsewhere. Each is made once and answers.
+//! More calls that set and print tables of each kind.
 
 use crate::found::{Found, whole_if};
 use crate::printers::{PAIRS, PICTURE, sized_table_of_pairs, table_of_pairs};
@@ -15,7 +15,7 @@ use tabled::settings::{Margin, Padding, Style, TableOption, Width};
 use tabled::tables::{CompactTable, IterTable, PoolTable, TableValue};
 use tabled::{IoSink, Plan, Table, TableError, TextSink, render_styled};
 
-/// The calls, by what they are about.
+/// The names of the calls.
 pub const DRAWINGS: &[&str] = &[
     "grids",
     "compact grids",
@@ -38,7 +38,7 @@ const MARKED: &str = "\
 |-----|----|
 | ccc |    |";
 
-// A compact configuration keeps no line by its index.
+// A compact configuration has no lines by index, so the line below the header is missing.
 const BARRED: &str = "\
 | a   | bb |
 | ccc |    |";
@@ -52,7 +52,7 @@ const HALF_WRAPPED: &str = "\
 | c |    |
 +---+----+";
 
-// Records under settings with sizes that are stored.
+// Prints a grid with stored sizes.
 fn put_grid<S: TextSink>(alloc: Global, sink: &mut S) -> Result<(), TableError> {
     let table = sized_table_of_pairs(alloc)?;
     let config = table.get_config().as_ref();
@@ -67,7 +67,7 @@ fn grids(alloc: Global) -> Result<Found, TableError> {
     Ok(whole_if(text.as_str() == PICTURE && bytes.as_slice() == PICTURE.as_bytes()))
 }
 
-// Rows under a compact configuration, without a table.
+// Prints rows with a compact configuration, without a table.
 fn compact_grids(alloc: Global) -> Result<Found, TableError> {
     let mut text = String::new(alloc);
     let sizes = ConstDimension::new(ConstSize::List([3, 2]), ConstSize::Value::<0>(1));
@@ -79,7 +79,7 @@ fn compact_grids(alloc: Global) -> Result<Found, TableError> {
     Ok(whole_if(text.as_str() == BARE))
 }
 
-// A text through each kind of sink.
+// Writes to each kind of sink.
 fn sunk(alloc: Global) -> Result<Found, TableError> {
     let mut text = String::new(alloc);
     text.write_text("a")?;
@@ -94,7 +94,7 @@ fn sunk(alloc: Global) -> Result<Found, TableError> {
     ))
 }
 
-// Whether a configuration leaves nothing of a style.
+// Whether a configuration replaces everything that a style set.
 fn prints_bare<O>(table: &mut Table, config: O) -> Result<bool, TableError>
 where
     O: TableOption<VecRecords<Text<String>>, ColoredConfig, CompleteDimension> + Drop,
@@ -113,13 +113,12 @@ fn are_replaced(alloc: Global, table: &mut Table) -> Result<bool, TableError> {
     Ok(lent && colored && compact && spanned)
 }
 
-// Configurations that replace that of a table.
 fn replaced(alloc: Global) -> Result<Found, TableError> {
     let mut table = table_of_pairs(alloc)?;
     Ok(whole_if(are_replaced(alloc, &mut table)?))
 }
 
-// Options of some cells, given and lent.
+// Options for some cells, by value and by reference.
 fn modify(table: &mut Table) -> Result<(), TableError> {
     table.modify(Rows::last(), Width::wrap(1))?;
     table.apply_to(Segment::new(1.., ..), &Width::truncate(1).multiline(true))?;
@@ -141,12 +140,11 @@ fn streams(alloc: Global) -> Result<Found, TableError> {
     Ok(whole_if(table.to_string(alloc)?.as_str() == BARRED))
 }
 
-// Whether a buffer that a text doesn't fill has taken exactly the text.
+// Whether exactly the text was written to the buffer.
 fn holds_only(buffer: &io::Cursor<[u8; 128]>, text: &str) -> bool {
     buffer.position() == text.len() as u64 && buffer.get_ref().starts_with(text.as_bytes())
 }
 
-// A stream to a writer.
 fn stream_to_writer(alloc: Global) -> Result<Found, TableError> {
     let mut buffer = io::Cursor::new([0u8; 128]);
     IterTable::new(PAIRS).build(alloc, &mut buffer)?;
@@ -162,7 +160,6 @@ fn compact_table(alloc: Global) -> Result<Found, TableError> {
     Ok(whole_if(text.as_str() == BARRED))
 }
 
-// A compact table to a writer.
 fn compact_to_writer() -> Result<Found, TableError> {
     let mut buffer = io::Cursor::new([0u8; 128]);
     CompactTable::new(PAIRS)
@@ -173,7 +170,7 @@ fn compact_to_writer() -> Result<Found, TableError> {
     Ok(whole_if(holds_only(&buffer, BARE)))
 }
 
-// Settings of each kind for boxes.
+// Applies each kind of option to boxes.
 fn set_boxes(table: &mut PoolTable) -> Result<(), TableError> {
     table.with(CompactMultilineConfig::new())?;
     let last = PoolTableDimension::new(DimensionPriority::Last, DimensionPriority::Last);
@@ -182,7 +179,7 @@ fn set_boxes(table: &mut PoolTable) -> Result<(), TableError> {
     table.apply(Margin::new(1, 0, 0, 0))
 }
 
-// Boxes under these settings, which are copied.
+// Prints a copy, which must have all settings.
 fn boxed(alloc: Global) -> Result<Found, TableError> {
     let mut table = PoolTable::new(alloc, PAIRS)?;
     set_boxes(&mut table)?;
@@ -190,7 +187,7 @@ fn boxed(alloc: Global) -> Result<Found, TableError> {
     Ok(whole_if(text.as_str() == " | a | bb |\n | ccc |  |"))
 }
 
-// A text in a row in a column, which is copied.
+// Prints a copy of a cell in a row in a column.
 fn nested(alloc: Global) -> Result<Found, TableError> {
     let cell = TableValue::Cell(String::from_str(alloc, "a")?);
     let row = TableValue::Row(Vec::from_array(alloc, [cell])?);
@@ -199,7 +196,6 @@ fn nested(alloc: Global) -> Result<Found, TableError> {
     Ok(whole_if(text.as_str() == "+---+\n| a |\n+---+"))
 }
 
-// A text by a plan in a style.
 fn styled(alloc: Global) -> Result<Found, TableError> {
     let mut text = String::new(alloc);
     render_styled(
@@ -212,7 +208,7 @@ fn styled(alloc: Global) -> Result<Found, TableError> {
     Ok(whole_if(text.as_str() == MARKED))
 }
 
-/// What became of calls that draw one of the kinds.
+/// Runs a call by name, and returns its outcome.
 pub fn drawn(alloc: Global, name: &str) -> Result<Found, TableError> {
     match name {
         "grids" => grids(alloc),

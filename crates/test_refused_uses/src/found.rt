@@ -1,17 +1,17 @@
-//! What became of a call of which a growth may have been refused.
+//! The outcome of a call in which an allocation may fail.
 
-/// What became of a call.
+/// The outcome of a call.
 #[derive(Clone, Copy, Debug, PartialEq, Eq)]
 pub enum Found {
-    /// It did what it is for.
+    /// It succeeded with the right result.
     Whole,
-    /// It answered that there was no memory, and left what it has to.
+    /// It failed with `Memory`, and left the right state.
     Refused,
-    /// It did something else, in these words.
+    /// It did something else; the string says what.
     Wrong(&'static str),
 }
 
-/// What became of a call that was to answer something.
+/// The outcome of a call that succeeded. `is_right`: its result is the wanted one.
 pub fn whole_if(is_right: bool) -> Found {
     if is_right {
         Found::Whole
@@ -20,7 +20,7 @@ pub fn whole_if(is_right: bool) -> Found {
     }
 }
 
-/// What became of a call that was refused.
+/// The outcome of a call that failed. `is_right`: its error and what it left are the wanted ones.
 pub fn refused_if(is_right: bool) -> Found {
     if is_right {
         Found::Refused

@@ -1,6 +1,5 @@
-//! Calls that are made where a growth may be refused: each is made once, in code, and what became
-//! of it is told. The printers of one small table stand here too, with their pictures: prints to
-//! writers that stop anywhere use them as well.
+//! Calls to run while allocations fail; each returns its outcome. The printers of one small table
+//! and their expected output are here, too, because the tests with failing writers share them.
 #![tactic(auto)]
 
 mod calls;

@@ -1,4 +1,4 @@
-//! Calls on what tables are made of: texts, rows, parts, values, settings and sizes. Each is made once and answers.
+//! Calls on the parts of tables: texts, rows, selections, values, settings and sizes.
 
 use crate::found::{Found, whole_if};
 use crate::printers::{PAIRS, PICTURE, table_of_pairs};
@@ -22,7 +22,7 @@ use tabled::settings::width::{Truncate, Wrap};
 use tabled::settings::{Height, Width};
 use tabled::{Table, TableError, Tabled};
 
-/// The calls, by what they are about.
+/// The names of the calls.
 pub const MATERIALS: &[&str] = &[
     "texts",
     "rows",
@@ -39,7 +39,7 @@ pub const MATERIALS: &[&str] = &[
     "heights",
 ];
 
-// Texts that are cut, split and wrapped.
+// Cuts, splits and wraps texts.
 fn narrowed(alloc: Global) -> Result<Found, TableError> {
     let cut = cut_str(alloc, "😳😳😳😳😳", 3)?;
     let (front, rest) = split_str(alloc, "123\n456789", 4)?;
@@ -50,7 +50,7 @@ fn narrowed(alloc: Global) -> Result<Found, TableError> {
     Ok(whole_if(is_right && options_narrow(alloc)?))
 }
 
-// Whether options narrow texts as they have to.
+// Whether `Wrap` and `Truncate` return the right texts.
 fn options_narrow(alloc: Global) -> Result<bool, TableError> {
     let wrapped = Wrap::wrap(alloc, "111 234 1", 4, true)?;
     let cut = Truncate::truncate(alloc, "123\n45", 3)?;
@@ -74,7 +74,7 @@ fn is_copied(alloc: Global, records: &mut VecRecords<Text<String>>) -> Result<bo
     Ok(copy == *records && copy == Builder::from_iter(alloc, PAIRS)?.build())
 }
 
-// Rows that are added, set and copied.
+// Adds, sets and copies rows.
 fn added(alloc: Global) -> Result<Found, TableError> {
     let mut records = built(alloc)?;
     let is_same = is_copied(alloc, &mut records)?;
@@ -99,13 +99,13 @@ fn rows_of_texts(alloc: Global) -> Result<Vec<Vec<Text<String>>>, TableError> {
     Ok(rows)
 }
 
-// Rows that are given at once, as measured texts.
+// Makes a table from rows of measured texts.
 fn given(alloc: Global) -> Result<Found, TableError> {
     let picture = Table::from(Builder::from_vec(rows_of_texts(alloc)?)?).to_string()?;
     Ok(whole_if(picture.as_str() == PICTURE))
 }
 
-// Rows of which the first is read ahead.
+// Reads the first row ahead.
 fn buffered(alloc: Global) -> Result<Found, TableError> {
     let rows = BufRecords::new(alloc, rows_of_texts(alloc)?, 1)?;
     let ahead = rows.as_slice().len();
@@ -113,7 +113,7 @@ fn buffered(alloc: Global) -> Result<Found, TableError> {
     Ok(whole_if(ahead == 1 && picture.as_str() == PICTURE))
 }
 
-// Whether parts of the pairs name that.
+// Whether a selection returns exactly the wanted entity of the pairs.
 fn names<T: Object<VecRecords<Text<String>>> + Drop>(
     alloc: Global,
     part: T,
@@ -124,7 +124,7 @@ fn names<T: Object<VecRecords<Text<String>>> + Drop>(
     Ok(cells.as_slice() == [wanted].as_slice())
 }
 
-// Parts that are chosen.
+// Selects cells in each way.
 fn chosen(alloc: Global) -> Result<Found, TableError> {
     whole_if_all(&[
         names(alloc, Rows::last(), Entity::Row(1)),
@@ -136,7 +136,7 @@ fn chosen(alloc: Global) -> Result<Found, TableError> {
     ])
 }
 
-// Whether a value puts that text into the first cell of a row.
+// Whether the first cell of a value has the wanted text.
 fn puts<T: Tabled>(alloc: Global, value: &T, wanted: &str) -> Result<bool, TableError> {
     let mut row = Vec::new(alloc);
     value.push_cells(&mut row)?;
@@ -153,7 +153,7 @@ fn begin_with(texts: &[CowStr<'_>], wanted: &str) -> bool {
     }
 }
 
-// Whether a value has a field of that name and text.
+// Whether the first field of a value has the wanted name and text.
 fn tells<T: Tabled>(
     alloc: Global,
     value: &T,
@@ -165,7 +165,7 @@ fn tells<T: Tabled>(
     Ok(is_named && is_told && puts(alloc, value, wanted)?)
 }
 
-// What became of calls that each were to answer yes, up to one that is refused.
+// The outcome of calls that must all return true, or the first error.
 fn whole_if_all(answers: &[Result<bool, TableError>]) -> Result<Found, TableError> {
     for answer in answers {
         if !(*answer)? {
@@ -175,7 +175,7 @@ fn whole_if_all(answers: &[Result<bool, TableError>]) -> Result<Found, TableErro
     Ok(whole_if(true))
 }
 
-// Texts, characters and truth values.
+// Strings, characters and booleans.
 fn single(alloc: Global) -> Result<Found, TableError> {
     let owned = String::from_str(alloc, "b")?;
     whole_if_all(&[
@@ -203,7 +203,7 @@ fn integers(alloc: Global) -> Result<Found, TableError> {
     ])
 }
 
-// Values that hold others.
+// References, boxes, options, arrays and tuples.
 fn held(alloc: Global) -> Result<Found, TableError> {
     let boxed = Box::new(alloc, 'b')?;
     whole_if_all(&[
@@ -237,7 +237,7 @@ fn set_styles(config: &mut SpannedConfig) -> Result<(), TableError> {
     config.insert_horizontal_line(1, DASHES)
 }
 
-// Settings that are made and copied.
+// Makes and copies settings.
 fn configured(alloc: Global) -> Result<Found, TableError> {
     let mut config = SpannedConfig::new(alloc);
     set_styles(&mut config)?;
@@ -255,7 +255,7 @@ fn estimate(alloc: Global, table: &Table) -> Result<CompleteDimension, TableErro
     Ok(sizes)
 }
 
-// The same, by settings with colours.
+// The same with a `ColoredConfig`.
 fn estimate_colored(alloc: Global, table: &Table) -> Result<CompleteDimension, TableError> {
     let mut sizes = CompleteDimension::new(alloc);
     sizes.estimate(table.get_records(), table.get_config())?;
@@ -269,13 +269,13 @@ fn are_estimated(alloc: Global, table: &Table) -> Result<bool, TableError> {
     Ok(copy == colored && copy.get_widths() == Some(&[5, 4]) && copy.get_heights() == Some(&[1, 1]))
 }
 
-// Sizes that are estimated, stored and copied.
+// Estimates and copies sizes.
 fn estimated(alloc: Global) -> Result<Found, TableError> {
     let table = table_of_pairs(alloc)?;
     Ok(whole_if(are_estimated(alloc, &table)?))
 }
 
-// Sizes of a list, which is copied alone and with them.
+// Copies a list of widths, and then the dimension that contains it.
 fn listed(alloc: Global) -> Result<StaticDimension, TableError> {
     let list = DimensionValue::List(Vec::from_slice(alloc, &[7, 8])?);
     let sizes = StaticDimension::new(list.clone()?, DimensionValue::Exact(3));
@@ -296,7 +296,7 @@ fn is_fixed(table: &Table) -> Result<bool, TableError> {
     Ok(fixed.has_width(0) && fixed.get_width(0) == 5)
 }
 
-// Sizes that are given, which estimating leaves as they are.
+// Estimating must leave given sizes unchanged.
 fn sized(alloc: Global) -> Result<Found, TableError> {
     let table = table_of_pairs(alloc)?;
     let is_listed = is_listed(alloc, &table)?;
@@ -313,7 +313,7 @@ fn measured_across(table: &Table) -> Result<[usize; 4], TableError> {
     ])
 }
 
-// What a table measures across, and a list of widths.
+// Measures widths, and sets a list of widths.
 fn across(alloc: Global) -> Result<Found, TableError> {
     let mut table = table_of_pairs(alloc)?;
     let measures = measured_across(&table)?;
@@ -332,7 +332,7 @@ fn measured_down(table: &Table) -> Result<[usize; 4], TableError> {
     ])
 }
 
-// What it measures down, and a list of heights.
+// Measures heights, and sets a list of heights.
 fn down(alloc: Global) -> Result<Found, TableError> {
     let mut table = table_of_pairs(alloc)?;
     let measures = measured_down(&table)?;
@@ -341,7 +341,7 @@ fn down(alloc: Global) -> Result<Found, TableError> {
     Ok(whole_if(is_high && measures == [9, 1, 1, 2]))
 }
 
-/// What became of calls on one of the materials.
+/// Runs a call by name, and returns its outcome.
 pub fn handled(alloc: Global, name: &str) -> Result<Found, TableError> {
     match name {
         "texts" => narrowed(alloc),

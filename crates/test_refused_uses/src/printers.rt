@@ -1,4 +1,4 @@
-//! Printers, and their pictures of the cells a and bb, and below them ccc and an empty one.
+//! Printers of four cells, and their expected output.
 
 use std::alloc::Global;
 use tabled::grid::config::AlignmentHorizontal;
@@ -6,39 +6,39 @@ use tabled::grid::dimension::ConstSize;
 use tabled::tables::{CompactTable, ExtendedTable, IterTable, PoolTable};
 use tabled::{Order, Plan, Table, TableError, TextSink, render};
 
-/// The cells.
+/// The cells `a` and `bb`, and below them `ccc` and an empty one.
 pub const PAIRS: [[&str; 2]; 2] = [["a", "bb"], ["ccc", ""]];
 
 const INPUT: &str = "a\tbb\nccc\n";
 
-/// How the cells are printed.
+/// A way to print the cells.
 #[derive(Clone, Copy, Debug)]
 pub enum Printer {
-    /// By a new table.
+    /// A `Table`.
     Table,
-    /// By a new table with a width of its own.
+    /// A `Table` with a given width, alignment and fill.
     Look,
-    /// By a stream of which all rows are read ahead.
+    /// An `IterTable` that reads all rows ahead.
     Stream,
-    /// By a stream of which one row is read ahead.
+    /// An `IterTable` that reads one row ahead.
     Rows,
-    /// By a compact table.
+    /// A `CompactTable`.
     Compact,
-    /// As boxes.
+    /// A `PoolTable`.
     Boxes,
-    /// As records.
+    /// An `ExtendedTable`.
     Records,
-    /// From a text, by the plan of the new table.
+    /// A rendered text with `Plan::Buffered`.
     Buffered,
-    /// By that of a stream.
+    /// A rendered text with `Plan::Streamed`.
     Streamed,
-    /// Wrapped to nine columns.
+    /// A rendered text wrapped to nine columns.
     Wrapped,
-    /// Cut to nine columns.
+    /// A rendered text truncated to nine columns.
     Shortened,
 }
 
-/// All of them.
+/// All printers.
 pub const PRINTERS: &[Printer] = &[
     Printer::Table,
     Printer::Look,
@@ -53,7 +53,7 @@ pub const PRINTERS: &[Printer] = &[
     Printer::Shortened,
 ];
 
-/// The new table.
+/// The expected output of a `Table`.
 pub const PICTURE: &str = "\
 +-----+----+
 | a   | bb |
@@ -108,7 +108,7 @@ const SHORTENED: &str = "\
 | cc |  |
 +----+--+";
 
-/// What is to be printed.
+/// Returns the expected output.
 pub fn picture(printer: Printer) -> &'static str {
     match printer {
         Printer::Table | Printer::Stream | Printer::Buffered | Printer::Streamed => PICTURE,
@@ -122,12 +122,12 @@ pub fn picture(printer: Printer) -> &'static str {
     }
 }
 
-/// The table of the cells.
+/// Returns a table of the cells.
 pub fn table_of_pairs(alloc: Global) -> Result<Table, TableError> {
     Table::from_iter(alloc, PAIRS)
 }
 
-// Stores the sizes that the cells take.
+// Stores the sizes that would be estimated.
 fn store_sizes(alloc: Global, table: &mut Table) -> Result<(), TableError> {
     let (widths, heights) = (vec![in alloc; 5, 4]?, vec![in alloc; 1, 1]?);
     table.get_dimension_mut().set_widths(widths);
@@ -135,7 +135,7 @@ fn store_sizes(alloc: Global, table: &mut Table) -> Result<(), TableError> {
     Ok(())
 }
 
-/// The table of the cells, with sizes stored.
+/// Returns a table of the cells with stored sizes.
 pub fn sized_table_of_pairs(alloc: Global) -> Result<Table, TableError> {
     let mut table = table_of_pairs(alloc)?;
     store_sizes(alloc, &mut table)?;

@@ -1,4 +1,4 @@
-//! Printers into a text that grows, and into a room of fixed size, which wants no memory.
+//! Prints into a string that grows, and into a fixed buffer that needs no allocation.
 
 use crate::found::{Found, refused_if, whole_if};
 use crate::printers::{Printer, picture, put};
@@ -6,7 +6,7 @@ use std::alloc::Global;
 use std::io;
 use tabled::{IoSink, TableError};
 
-// What became of a print, by what is out.
+// The outcome of a print. A failed one must have written a beginning of the expected output.
 fn judge(answer: Result<(), TableError>, bytes: &[u8], wanted: &str) -> Found {
     match answer {
         Ok(()) => whole_if(bytes == wanted.as_bytes()),
@@ -16,14 +16,14 @@ fn judge(answer: Result<(), TableError>, bytes: &[u8], wanted: &str) -> Found {
     }
 }
 
-/// What became of a print into a text.
+/// Prints into a string, and returns the outcome.
 pub fn printed(alloc: Global, printer: Printer) -> Found {
     let mut text = String::new(alloc);
     let answer = put(alloc, printer, &mut text);
     judge(answer, text.as_bytes(), picture(printer))
 }
 
-/// What became of a print into a room of 128 bytes.
+/// Prints into a buffer of 128 bytes, and returns the outcome.
 pub fn held(alloc: Global, printer: Printer) -> Found {
     let mut room = io::Cursor::new([0u8; 128]);
     let answer = put(alloc, printer, &mut IoSink::new(&mut room));

@@ -1,4 +1,5 @@
-//! Calls that take no memory: they succeed while every growth is refused.
+//! Calls that allocate nothing, and so succeed while every allocation fails. Only their setup
+//! allocates.
 
 use crate::found::{Found, whole_if};
 use crate::printers::{PAIRS, PICTURE, sized_table_of_pairs};
@@ -10,10 +11,10 @@ use tabled::grid::util::string::{count_lines, cut_str, is_fullest, is_plain, tex
 use tabled::settings::width::Truncate;
 use tabled::{IoSink, Table, TableError};
 
-/// The calls, by what they are about.
+/// The names of the calls.
 pub const SPARING: &[&str] = &["builders", "stored sizes", "texts"];
 
-// Builders, tables and records that become one another.
+// Converts between builders, tables and records.
 fn turned(alloc: Global) -> Result<Found, TableError> {
     let mut builder = Builder::new(alloc);
     builder.push_record(PAIRS[0])?.push_record(PAIRS[1])?;
@@ -22,7 +23,7 @@ fn turned(alloc: Global) -> Result<Found, TableError> {
     Ok(whole_if(counts == (2, 2)))
 }
 
-// A table with stored sizes, printed into a room.
+// Measures a table with stored sizes, and prints it into a buffer.
 fn stored(alloc: Global) -> Result<Found, TableError> {
     let table = sized_table_of_pairs(alloc)?;
     let totals = (table.total_width(), table.total_height());
@@ -32,14 +33,14 @@ fn stored(alloc: Global) -> Result<Found, TableError> {
     Ok(whole_if(totals == (Ok(12), Ok(5)) && answer == Ok(()) && is_whole))
 }
 
-// Whether texts are cut as they have to be, where no character is filled in.
+// Whether texts are cut right. No fill character is needed, so the results are borrowed.
 fn is_cut(alloc: Global) -> Result<bool, TableError> {
     let cut = cut_str(alloc, "123\n45", 3)?;
     let truncated = Truncate::truncate(alloc, "123\n456789", 4)?;
     Ok(cut.as_str() == "123" && truncated.as_str() == "123\n4567")
 }
 
-// Texts that are cut, measured and tested.
+// Cuts, measures and tests texts.
 fn cut(alloc: Global) -> Found {
     let measures = (text_width("ab\nc"), count_lines("ab\nc"));
     let is_tested = is_plain("ab") && is_fullest("111 234 1", "111 \n234 \n1", 4, true);
@@ -49,7 +50,7 @@ fn cut(alloc: Global) -> Found {
     }
 }
 
-/// What became of calls that take no memory.
+/// Runs a call by name, and returns its outcome.
 pub fn spared(alloc: Global, name: &str) -> Result<Found, TableError> {
     match name {
         "builders" => turned(alloc),

@@ -1,4 +1,4 @@
-//! Calls by their names, each of which is made once.
+//! Calls, listed and run by kind and number.
 
 use crate::calls::{CALLS, called};
 use crate::drawings::{DRAWINGS, drawn};
@@ -46,9 +46,8 @@ fn spared_at(alloc: Global, number: usize) -> Result<Option<Found>, TableError> 
     }
 }
 
-/// What became of a call that is named by its kind and its number: a call that makes or measures something, calls on what tables are
-/// made of or that set and print them, a print into a text or into a room, or calls that take no memory. `None` where there is no such
-/// call.
+/// Runs one call and returns its outcome, or `None` if there is no such call. The kinds `text` and
+/// `room` print into a string and into a fixed buffer.
 pub fn tried(alloc: Global, kind: &str, number: usize) -> Result<Option<Found>, TableError> {
     match kind {
         "call" => call_at(alloc, number),
@@ -61,7 +60,7 @@ pub fn tried(alloc: Global, kind: &str, number: usize) -> Result<Option<Found>, 
     }
 }
 
-// A line for each call of a kind: its number and its name.
+// Writes a line for each call of a kind: kind, number and name.
 fn list_calls(report: &mut String, kind: &str, names: &[&'static str]) -> Result<(), AllocError> {
     for (number, name) in names.iter().enumerate() {
         write!(report, "{kind} {number} {name}\n")?;
@@ -69,7 +68,7 @@ fn list_calls(report: &mut String, kind: &str, names: &[&'static str]) -> Result
     Ok(())
 }
 
-// Two lines for each printer, into a text and into a room.
+// Writes two lines for each printer, one for a string and one for a fixed buffer.
 fn list_printers(report: &mut String) -> Result<(), AllocError> {
     for (number, printer) in PRINTERS.iter().enumerate() {
         write!(
@@ -80,7 +79,7 @@ fn list_printers(report: &mut String) -> Result<(), AllocError> {
     Ok(())
 }
 
-/// A line for each call: its kind, its number and its name.
+/// Lists all calls, one per line: kind, number and name.
 pub fn names(alloc: Global) -> Result<String, AllocError> {
     let mut report = String::new(alloc);
     list_calls(&mut report, "call", CALLS)?;

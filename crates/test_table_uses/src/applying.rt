@@ -1,4 +1,4 @@
-//! A refused option of a table, and what stays stored.
+//! A table option that fails, and the sizes that stay stored.
 ghost use Rattle.std.specs.Prelude.{None, ⊤};
 
 use crate::sheet::{Sheet, table_of};
@@ -9,16 +9,16 @@ use tabled_base::{
 use tabled_config::{ColoredConfig, Style};
 use tabled_table::Table;
 
-/// Whether widths are stored, and whether heights are.
+/// Whether widths are stored, and whether heights are stored.
 pub type Stored = (bool, bool);
 
-/// Which sizes of a table are stored.
+/// Returns which sizes of a table are stored.
 pub fn stored(table: &Table) -> Stored {
     let sizes = table.get_dimension();
     (sizes.get_widths().is_some(), sizes.get_heights().is_some())
 }
 
-// Sets modern borders, empties the second cell, and answers that there was no memory. It hints nothing.
+// Sets modern borders, empties the second cell of the first row, then fails. It gives no hint.
 #[derive(Drop)]
 struct Broken;
 
@@ -50,8 +50,7 @@ impl<D> TableOption<VecRecords<Text<String>>, ColoredConfig, D> for Broken {
     }
 }
 
-/// What an option answers that sets modern borders, empties the second cell of the first row and is refused then, and
-/// what is stored after it.
+/// Applies `Broken`. Returns its result, and which sizes are stored after it.
 pub fn broken_off(
     alloc: Global,
     sheet: &Sheet,
@@ -61,7 +60,7 @@ pub fn broken_off(
     Ok((answer, stored(&table)))
 }
 
-/// What is printed after that option.
+/// Prints a table after `Broken`.
 pub fn picture_of_broken(alloc: Global, sheet: &Sheet) -> Result<String, TableError> {
     let mut table = table_of(alloc, sheet)?;
     let _answer = table.apply(Broken);

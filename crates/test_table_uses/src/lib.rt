@@ -1,6 +1,5 @@
-//! What the tests of whole tables do with them: tables are made, set, sized to a total, and printed.
-//! Each function answers plain values, as texts and numbers, so that the tests above name no table:
-//! a crate of tests sees all of a type, and this one its face.
+//! Makes, changes and prints the tables of `test_tables`. Functions return no tables: a test crate
+//! sees the full definition of each type that it names, and this one only the interface.
 #![tactic(auto)]
 
 mod applying;

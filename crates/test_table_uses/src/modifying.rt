@@ -1,4 +1,4 @@
-//! Options of some cells of a table.
+//! Options for some cells of a table.
 ghost use Rattle.std.specs.Prelude.{◌≡◌, ◌⊎◌, IfErr, ⊤};
 ghost use Rattle.tabled_base.specs.declared.error.TableError.TheVariants.{Memory, Range};
 
@@ -12,8 +12,8 @@ use tabled_base::{
 use tabled_config::{AlignmentHorizontal, ColoredConfig};
 use tabled_table::Table;
 
-// Aligns texts at the right. A single cell gets the text on its left before its own, and a dot behind
-// it; one that holds an exclamation mark is refused with `Range`.
+// Aligns cells to the right. A single cell also gets the text of its left neighbour as a prefix and
+// a dot as a suffix, or fails with `Range` if it is `!`.
 #[derive(Drop)]
 struct Joins;
 
@@ -43,7 +43,7 @@ impl CellOption<VecRecords<Text<String>>, ColoredConfig> for Joins {
     }
 }
 
-// Joins a cell to the one on its left.
+// Adds the prefix and the suffix to a cell.
 fn join(records: &mut VecRecords<Text<String>>, row: usize, column: usize) -> Result<(), TableError>
     ensures only { IfErr result (λ e. (e ≡ Memory) ⊎ (e ≡ Range)) }
 {
@@ -63,9 +63,8 @@ fn join(records: &mut VecRecords<Text<String>>, row: usize, column: usize) -> Re
     records.set(at, text)
 }
 
-/// What a modification of each cell answers, which aligns texts at the right, joins each to the one on its left with a
-/// dot behind it, and is refused with `Range` at an exclamation mark; what is stored after it, and whether the text of
-/// the first cell stands at the right then.
+/// Applies `Joins` to each cell. Returns its result, which sizes are stored after it, and whether
+/// the first cell is aligned to the right.
 pub fn joined(
     alloc: Global,
     sheet: &Sheet,
@@ -75,14 +74,14 @@ pub fn joined(
     Ok((answer, stored(&table), is_at_the_right(&table)))
 }
 
-/// What is printed after it.
+/// Prints a table after `Joins`.
 pub fn joined_picture(alloc: Global, sheet: &Sheet) -> Result<String, TableError> {
     let mut table = table_of(alloc, sheet)?;
     let _answer = table.apply_to(Segment::new(.., ..), &Joins);
     table.to_string()
 }
 
-// Whether the text of the first cell stands at the right.
+// Whether the first cell is aligned to the right.
 fn is_at_the_right(table: &Table) -> bool {
     let config = table.get_config().as_ref();
     config.get_alignment_horizontal(Position::new(0, 0)) == AlignmentHorizontal::Right

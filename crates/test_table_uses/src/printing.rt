@@ -1,12 +1,11 @@
-//! Tables that are printed with a width and an alignment of their own, and formatted.
+//! Tables printed to a given width and alignment, and formatted tables.
 
 use crate::sheet::{Sheet, table_of};
 use std::alloc::Global;
 use tabled_base::TableError;
 use tabled_config::AlignmentHorizontal;
 
-/// How a table is printed: as wide as is asked for, with an alignment of its texts, and what fills the columns that it
-/// lacks.
+/// The arguments of `print_with`: a total width, an alignment, and what fills missing columns.
 #[derive(Clone, Copy)]
 pub struct Look {
     pub width: Option<usize>,
@@ -14,7 +13,7 @@ pub struct Look {
     pub fill: char,
 }
 
-/// What a table answers where it is printed so, and what went out.
+/// Returns the result of `print_with`, and what was written.
 pub fn put_with(
     alloc: Global,
     sheet: &Sheet,
@@ -26,7 +25,7 @@ pub fn put_with(
     Ok((answer, text))
 }
 
-/// What a text becomes behind which a table is formatted, and whether that succeeds.
+/// Formats a table. Returns whether that succeeds, and what was written.
 pub fn formatted(alloc: Global, sheet: &Sheet) -> Result<(bool, String), TableError> {
     let table = table_of(alloc, sheet)?;
     let mut text = String::new(alloc);

@@ -1,4 +1,4 @@
-//! Tables as data, and how they are made of it.
+//! Test tables as data.
 
 use std::alloc::Global;
 use tabled_base::{Builder, TableError};
@@ -6,13 +6,13 @@ use tabled_config::{Indent, Sides, SpannedConfig};
 use tabled_size::CompleteDimension;
 use tabled_table::Table;
 
-/// Rows of texts.
+/// Rows of strings.
 pub type Rows = &'static [&'static [&'static str]];
 
-/// Sizes to be stored, where there are some.
+/// Sizes to store, if any.
 pub type Sizes = Option<&'static [usize]>;
 
-/// A new table of rows, with columns of a margin on the left, and stored sizes.
+/// Rows, a left margin in columns, and stored sizes.
 #[derive(Clone, Copy)]
 pub struct Sheet {
     pub rows: Rows,
@@ -21,7 +21,7 @@ pub struct Sheet {
     pub heights: Sizes,
 }
 
-/// The cells a and bb, and below them ccc and an empty one.
+/// The cells `a` and `bb`, and below them `ccc` and an empty one.
 pub const PAIRS: Sheet = Sheet {
     rows: &[&["a", "bb"], &["ccc", ""]],
     margin: 0,
@@ -67,7 +67,7 @@ fn built(alloc: Global, rows: Rows) -> Result<Builder, TableError> {
     Ok(builder)
 }
 
-/// The table of a sheet.
+/// Returns the table of a sheet.
 pub fn table_of(alloc: Global, sheet: &Sheet) -> Result<Table, TableError> {
     let mut table = Table::from(built(alloc, sheet.rows)?);
     prepare(alloc, &mut table, sheet)?;

@@ -1,4 +1,4 @@
-//! Tables whose total a caller knows from the contract of `with` alone.
+//! Tables whose total width or height follows from the contract of `with` alone.
 ghost use Rattle.std.specs.Prelude.{◌≡◌, ◌<◌, OnOk, false, length, max, true};
 ghost use Rattle.tabled_set.specs.BestNarrowing.{HasLeastWidth, IsBestWrapped};
 ghost use Rattle.tabled_set.specs.ExactTotal.{empty_width};
@@ -16,7 +16,7 @@ use tabled_set::{Height, Width};
 use tabled_size::Priority;
 use tabled_table::Table;
 
-// Wraps by the greatest widths.
+// Wraps the widest columns first.
 fn wrap_level(table: &mut Table, n: usize) -> Result<(), TableError>
     ensures total { OnOk result (IsWiderThan n (sheet table.old) → AreTexts (cells_of table.old)
         → total_width (sheet table.new) ≡ max n (empty_width (sheet table.old))) }
@@ -29,7 +29,7 @@ fn wrap_level(table: &mut Table, n: usize) -> Result<(), TableError>
     Ok(())
 }
 
-// Limits a table, one row after the other.
+// Limits the height, row after row.
 fn limit(table: &mut Table, n: usize) -> Result<(), TableError>
     ensures { OnOk result (is_empty (cells_of table.old) ≡ false
         → n < total_height (estimated (cells_of table.old) table.old.config.config)
@@ -40,14 +40,14 @@ fn limit(table: &mut Table, n: usize) -> Result<(), TableError>
     Ok(())
 }
 
-/// The columns of the pairs once wrapped to so many.
+/// Returns the total width of the pairs wrapped to `n` columns.
 pub fn wrapped(alloc: Global, n: usize) -> Result<usize, TableError> {
     let mut table = table_of(alloc, &PAIRS)?;
     wrap_level(&mut table, n)?;
     table.total_width()
 }
 
-/// The lines of the pairs once limited to so many.
+/// Returns the total height of the pairs limited to `n` lines.
 pub fn limited(alloc: Global, n: usize) -> Result<usize, TableError> {
     let mut table = table_of(alloc, &PAIRS)?;
     limit(&mut table, n)?;

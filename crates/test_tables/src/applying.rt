@@ -1,4 +1,4 @@
-//! A refused option of a table, and what stays stored.
+//! A table option that fails, and what it leaves.
 
 use crate::made::CELLS;
 use crate::showing::{assert_text, picture};

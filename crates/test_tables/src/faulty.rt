@@ -5,7 +5,7 @@ use std::io::{Read, Write};
 use std::test::Fail;
 use tabled::run;
 
-// Gives its bytes one a read, and then fails.
+// Returns `left` bytes, one per read, then fails.
 #[derive(Drop)]
 struct Broken {
     left: usize,
@@ -41,7 +41,7 @@ fn every_read_error_is_a_failed_reading(rt: HostRuntime) -> Result<(), Fail> {
     Ok(())
 }
 
-// Fails at each write, or at its flush alone.
+// Fails at each write, or only at the flush.
 #[derive(Drop)]
 struct Faulty {
     fails_write: bool,

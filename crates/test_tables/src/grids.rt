@@ -1,4 +1,4 @@
-//! Grids with given sizes and with estimated ones, and refusals before the first byte.
+//! Grids with stored and with estimated sizes, and errors before the first byte.
 
 use crate::showing::assert_text;
 use std::alloc::Global;
@@ -8,7 +8,7 @@ use test_table_uses::{PAIRS, Sheet, Sizes, answered, drawn, printed};
 
 const NARROW: TableError = TableError::Narrow { row: 0, column: 0 };
 
-// Widths and heights, and why the pairs in an endless margin are refused.
+// Widths and heights, and the error of the pairs with a margin of `usize::MAX`.
 const REFUSED: [(Sizes, Sizes, TableError); 4] = [
     (Some(&[5]), Some(&[1]), TableError::ShortWidths),
     (Some(&[2, 2]), Some(&[1]), TableError::ShortHeights),
@@ -40,7 +40,7 @@ fn an_empty_grid_is_never_refused(rt: HostRuntime) {
     assert_eq!(rt; answered(rt.alloc(), &EMPTY), (Ok(()), 0));
 }
 
-// More cells of several lines than have a cursor in no memory.
+// More columns than `MANY_CURSORS`, so that the cursors don't fit on the stack.
 const COLUMNS: usize = 1_030;
 
 const CROWD: Sheet = Sheet {
@@ -54,7 +54,7 @@ const SIZED_CROWD: Sheet = Sheet {
     ..CROWD
 };
 
-// The lines of the crowded row, each by its pieces.
+// The lines of the crowded row: a piece for each cell, and an end.
 const PIECES: [(&str, &str); 5] = [
     ("+----", "+\n"),
     ("| a  ", "|\n"),
@@ -63,7 +63,7 @@ const PIECES: [(&str, &str); 5] = [
     ("+----", "+"),
 ];
 
-// A line of so many pieces and an end.
+// Appends a line of `COLUMNS` pieces and an end.
 fn push_line(text: &mut String, piece: &str, end: &str) -> Result<(), TableError> {
     for _column in 0..COLUMNS {
         text.push_str(piece)?;

@@ -1,6 +1,5 @@
-//! Tests of whole tables that aren't seen beside their pictures in `test_cases`: what tables count,
-//! grids of many columns, tables that are printed with a width of their own, options of a caller's
-//! own, and the program. Nothing stands here outside of tests.
+//! Tests of whole tables that `test_cases` doesn't cover: counts, grids of many columns, printing
+//! to a given width, custom options, and the program.
 #![tactic(auto)]
 
 #[cfg(test)]

@@ -1,8 +1,8 @@
-//! The sheets that several tests share.
+//! Sheets that several tests share.
 
 use test_table_uses::{PAIRS, Sheet};
 
-/// Four cells, with sizes stored that are greater than the estimated ones.
+/// Four cells, with stored sizes greater than the estimated ones.
 pub const CELLS: Sheet = Sheet {
     rows: &[&["a", "bb"], &["ccc", "d"]],
     widths: Some(&[9, 9]),

@@ -1,4 +1,4 @@
-//! Tables that become builders again, tables of nothing, and what tables count.
+//! Conversions between tables and builders, empty tables, and counts.
 
 use crate::showing::{assert_text, picture};
 use std::test::Fail;

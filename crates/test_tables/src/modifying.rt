@@ -1,4 +1,4 @@
-//! Options of some cells of a table.
+//! Options for some cells of a table.
 
 use crate::made::CELLS;
 use crate::showing::{assert_text, picture};

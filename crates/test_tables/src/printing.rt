@@ -1,11 +1,11 @@
-//! Tables that are printed with a width and an alignment of their own, and formatted.
+//! Tables printed to a given width and alignment, and formatted tables.
 
 use std::test::Fail;
 use tabled_base::TableError;
 use tabled_config::AlignmentHorizontal::{self, Center, Right};
 use test_table_uses::{Look, PAIRS, Sheet, formatted, put_with};
 
-// A width to print with, an alignment, and a fill.
+// A total width, an alignment, and a fill character.
 type Asked = (Option<usize>, Option<AlignmentHorizontal>, char);
 
 fn look((width, align, fill): Asked) -> Look {
@@ -26,7 +26,7 @@ const CENTERED: &str = "\
 **| ccc |    |**
 **+-----+----+**";
 
-// One column is missing, of which the smaller half is none.
+// One column is missing: half of it, rounded down, is 0 on the left.
 const NEARLY_CENTERED: &str = "\
 +-----+----+*
 |  a  | bb |*
@@ -34,7 +34,7 @@ const NEARLY_CENTERED: &str = "\
 | ccc |    |*
 +-----+----+*";
 
-// Missing columns are on the left where nothing else is said.
+// Without an alignment, missing columns are added on the left.
 const AT_THE_LEFT: &str = "\
 ..+-----+----+
 ..| a   | bb |

@@ -1,4 +1,4 @@
-//! Runs of the program whose input is read and whose output is taken.
+//! Runs of the program with given arguments and input.
 
 use crate::showing::{assert_picture, picture};
 use std::alloc::Global;
@@ -9,7 +9,7 @@ use tabled::run;
 const USAGE: &str =
     "usage: tabprint [--wrap N | --cut N] [--priority none|min|max|left|right] [--words] [--stream]\n";
 
-// The words of a command line, one space between two; no word is none that is empty.
+// Splits a command line at each space. Two spaces in a row make an empty argument.
 fn words_of(alloc: Global, line: &str) -> Result<Vec<String>, Fail> {
     let mut words = Vec::new(alloc);
     for word in line.split(' ') {
@@ -18,7 +18,7 @@ fn words_of(alloc: Global, line: &str) -> Result<Vec<String>, Fail> {
     Ok(words)
 }
 
-// Runs the program, and answers its status beside what it wrote.
+// Runs the program, and returns its status, output and error output.
 fn ran(alloc: Global, words: &[String], input: &[u8]) -> (u8, Vec<u8>, Vec<u8>) {
     let mut rest = input;
     let mut out = Vec::new(alloc);
@@ -87,7 +87,7 @@ const RUNS: [(&str, &str); 7] = [
     ("a\tbb\nccc\t\n", PAIRS),
 ];
 
-// Stops a test where a run prints something else, or says a word.
+// Fails unless a run succeeds with the wanted output and no error output.
 fn assert_run(
     rt: &impl Abort,
     alloc: Global,
@@ -168,7 +168,8 @@ fn words_make_plans(rt: HostRuntime) -> Result<(), Fail> {
     Ok(())
 }
 
-// Arguments, and the first line of a table whose columns take 6, 7 and 6 columns, 23 in all with its lines, and 10 where its cells are empty.
+// Arguments, and the first line of a table whose columns are 6, 7 and 6 wide. The total width is
+// 23, and 10 with empty cells.
 const FIRST_LINES: &str = picture! {
     "--wrap 15 --priority left|+--+---+------+"
     "--wrap 15 --priority max|+----+----+---+"
@@ -199,7 +200,7 @@ const FIRST_LINES: &str = picture! {
 
 const GREETINGS: &str = "&str\t&str\ti32\n1\tHello\t100\n2\tWorld\t1000\n";
 
-// Stops a test where a run's first line is another one.
+// Fails unless a run succeeds with the wanted first line.
 fn assert_top(rt: &impl Abort, alloc: Global, line: &str, wanted: &str) -> Result<(), Fail> {
     let words = words_of(alloc, line)?;
     let (status, out, _err) = ran(alloc, words.as_slice(), GREETINGS.as_bytes());
@@ -218,7 +219,7 @@ fn words_in_any_order_make_their_plan(rt: HostRuntime) -> Result<(), Fail> {
     Ok(())
 }
 
-// Words that are unknown, have no value, or one that is no number and no order.
+// Arguments that are unknown, lack a value, or have an invalid one.
 const UNKNOWN_WORDS: &str = picture! {
     ""
     "9"
@@ -259,7 +260,7 @@ const UNKNOWN_WORDS: &str = picture! {
     "--priority --cut 9"
 };
 
-// Settings that stand twice.
+// Options given twice.
 const REPEATED_WORDS: &str = picture! {
     "--wrap 9 --wrap 9"
     "--wrap 9 --wrap 8"
@@ -273,7 +274,7 @@ const REPEATED_WORDS: &str = picture! {
     "--stream --stream"
 };
 
-// Settings that do not go together.
+// Options that exclude each other, or lack the one they need.
 const UNFIT_WORDS: &str = picture! {
     "--wrap 9 --cut 9"
     "--cut 9 --wrap 9"
@@ -293,7 +294,7 @@ const UNFIT_WORDS: &str = picture! {
     "--wrap 9 --words --stream"
 };
 
-// Whether the words of a line end the run with its usage alone. The input, which is no text, isn't read.
+// Fails unless a run prints only the usage. The input isn't UTF-8, so reading it would fail, too.
 fn assert_usage(rt: &impl Abort, alloc: Global, line: &str) -> Result<(), Fail> {
     let words = words_of(alloc, line)?;
     let (status, out, err) = ran(alloc, words.as_slice(), b"\xFF");

@@ -1,18 +1,18 @@
-//! Pictures line by line, and how they are compared.
+//! Expected output written line by line, and its comparison.
 
 use std::fmt;
 use std::process::Abort;
 use std::test::Fail;
 use tabled_base::TableError;
 
-/// The text of a picture that is written a line a source line.
+/// Joins lines with line feeds, so that each line of output has a line of source.
 macro_rules! picture {
     ($first:literal $($line:literal)*) => { concat!($first $(, "\n", $line)*) };
 }
 
 pub(crate) use picture;
 
-// A text whose lines are shown between bars, so that spaces at their ends are seen.
+// Shows each line between bars, so that trailing spaces are visible.
 struct Barred<'a>(&'a str);
 
 impl fmt::Display for Barred<'_> {
@@ -24,7 +24,7 @@ impl fmt::Display for Barred<'_> {
     }
 }
 
-/// Stops a test where a picture isn't the wanted one, and shows both.
+/// Fails unless the output is the wanted one, and shows both.
 pub(crate) fn assert_picture(rt: &impl Abort, drawn: &str, wanted: &str) {
     assert!(rt;
         drawn == wanted,
@@ -34,7 +34,7 @@ pub(crate) fn assert_picture(rt: &impl Abort, drawn: &str, wanted: &str) {
     );
 }
 
-/// The same of a picture that may be refused, which ends the test.
+/// The same for a print that may fail, which fails the test.
 pub(crate) fn assert_text(
     rt: &impl Abort,
     drawn: Result<String, TableError>,

@@ -1,4 +1,4 @@
-//! Tables of which a caller tells the total.
+//! Tables wrapped or limited to a total.
 
 use std::test::Fail;
 use test_table_uses::{limited, wrapped};
