@@ -15,7 +15,7 @@ use std::alloc::Global;
 use tabled_base::{Entity, RecordsMut, TableError, TableOption};
 use tabled_config::ColoredConfig;
 use tabled_size::{CompleteDimension, Peaker, PriorityNone};
-use tabled_text::{fits_printable, wrap_text};
+use tabled_text::{fits_bytes, wrap_text};
 
 /// Wraps cells that are wider than the measured width into more lines. As a table option it narrows
 /// a table to a total of that width, and wraps its cells to fit. A new one breaks words.
@@ -46,7 +46,7 @@ impl TextTransform for Wrapping {
     }
 
     fn keeps(&self, text: &str, content_size: usize) -> bool {
-        content_size > 0 && fits_printable(text, content_size)
+        content_size > 0 && fits_bytes(text, content_size)
     }
 
     fn beginning(&self, _: &str, _: usize) -> Option<Beginning<'_>> {

@@ -20,6 +20,7 @@ struct Parts<'a> {
 }
 
 /// Cuts a text to n columns. `missing` is the number of columns that a dropped character leaves.
+#[inline(never)]
 fn part_by_chars(text: &str, n: usize) -> Parts<'_>
     ensures parted { IsParted n (chars text.now) (chars result.front.now) result.missing
         (chars result.after.now) }
@@ -60,6 +61,7 @@ fn part_by_chars(text: &str, n: usize) -> Parts<'_>
 
 /// Cuts a text to n columns. A text of at most n bytes isn't cut, and if the first n bytes are
 /// printable ASCII, they are the cut text.
+#[inline(always)]
 fn part(text: &str, n: usize) -> Parts<'_>
     ensures parted { IsParted n (chars text.now) (chars result.front.now) result.missing
         (chars result.after.now) }
@@ -118,6 +120,7 @@ pub fn cut_str(alloc: Global, text: &str, n: usize) -> Result<CowStr<'_, Global>
 
 /// Returns the length in bytes of what `cut_str` returns, or `None` if `cut_str` fills columns with
 /// U+FFFD.
+#[inline]
 pub fn cut_length(text: &str, n: usize) -> Option<usize>
     ensures cut { IfSome result (λ length. IsCut n text.now (take length text.now)) }
     ensures boundary { IfSome result (λ length. IsCharBoundary text.now length) }

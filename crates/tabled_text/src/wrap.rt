@@ -1,5 +1,5 @@
 //! Wraps texts to n columns. One walk writes unit after unit to a `Sink`.
-ghost use Rattle.std.specs.Prelude.{◌≡◌, ◌&&◌, Bool, nat_le, ◌<◌, ◌≤◌, ◌+◌, ◌-◌, slice_index, ◌∷◌};
+ghost use Rattle.std.specs.Prelude.{◌≡◌, Bool, nat_le, ◌<◌, ◌≤◌, ◌+◌, ◌-◌, slice_index, ◌∷◌};
 ghost use Rattle.std.specs.Prelude.{chars, encode_utf8_all, length, map, IfOk, OnOk, IfSome};
 ghost use Rattle.std.specs.Prelude.{IsUtf8, string_bytes, OnErr, false, true};
 ghost use Rattle.std.specs.Int.{is_in_range};
@@ -370,16 +370,4 @@ pub fn fits_bytes(text: &str, n: usize) -> bool
     ensures unfilled { result ≡ true → NeedsFill n text.now → ⊥ }
 {
     text.len() <= n
-}
-
-/// Whether a text is printable ASCII of at most n bytes. Wrapping or cutting it to n columns, which
-/// are then at least 1 if it isn't empty, leaves it as it is.
-#[inline]
-pub fn fits_printable(text: &str, n: usize) -> bool
-    ensures value { result
-        ≡ (nat_le (length text.now) n && list_all (is_in_range 0x20 0x7E) text.now) }
-    ensures wrapped { (words : Bool) → result ≡ true → 0 < n → IsWrapped n words text.now text.now }
-    ensures cut { result ≡ true → IsCut n text.now text.now }
-{
-    text.len() <= n && is_printable(text)
 }
