@@ -1,4 +1,5 @@
 -- The lemmas of streamed tables.
+pub mod Cuts
 pub mod Drawn
 pub mod Finished
 pub mod FirstRows

@@ -1,5 +1,6 @@
 -- The definitions of streamed tables.
 pub mod Applied
+pub mod Cuts
 pub mod GoesOn
 pub mod LikeTable
 pub mod NewTable

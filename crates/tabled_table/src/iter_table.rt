@@ -11,6 +11,7 @@ ghost use Rattle.tabled_table.specs.Stream.LikeTable.{PrintsLikeTable};
 ghost use Rattle.tabled_table.specs.Stream.NewTable.{new_settings, with_settings};
 ghost use Rattle.tabled_table.specs.Stream.Streams.{BuildsStream, Came, PrintsStream};
 
+mod cuts;
 mod first_rows;
 mod layout;
 mod next_rows;

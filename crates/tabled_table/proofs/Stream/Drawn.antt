@@ -1,5 +1,6 @@
 -- What stands in the further columns of a stream where nothing is taken there.
 use Rattle.std.proofs.Common.{◌≡◌, ℕ, zero, suc, ◌+◌, ◌-◌, ◌<◌, ◌≤◌, Bool, false, List, [], ◌∷◌, ◌++◌, length, replicate, take, slice_index_or, refl, ◌∙◌, ap, arith}
+use Rattle.std.proofs.lemmas.List.{get_or_past}
 use Rattle.tabled_config.specs.Frame.{has_bar}
 use Rattle.tabled_config.specs.declared.alignment.AlignmentHorizontal.{AlignmentHorizontal}
 use Rattle.tabled_config.specs.declared.alignment.AlignmentHorizontal.TheVariants as horizontal
@@ -65,10 +66,11 @@ block-none style height l r =
     (blank-append (replicate a []) below (blank-copies a)
     (blank-append (line ∷ []) (replicate b []) (blank-one line (line-none style l r)) (blank-copies b)))
 
-past-end : (cells : List (List ℕ)) (n k : ℕ) → length cells ≤ k → slice_index_or (cells ++ replicate n []) k [] ≡ []
-past-end [] n k h = blank-copies n k
-past-end (x ∷ cells) n zero h = absurd (omega arith)
-past-end (x ∷ cells) n (suc k) h = past-end cells n k (omega arith)
+-- filling up adds nothing to read
+pub filled-at : (cells : List (List ℕ)) (n k : ℕ) → slice_index_or (cells ++ replicate n []) k [] ≡ slice_index_or cells k []
+filled-at [] n k = blank-copies n k
+filled-at (x ∷ cells) n zero = refl
+filled-at (x ∷ cells) n (suc k) = filled-at cells n k
 
 -- nothing stands in a line of a row in a further column, behind the cells that came
 pub nothing-further : (layout : Layout) (height : ℕ) (cells : List (List ℕ)) (column index : ℕ) → TakesNoMore layout
@@ -82,7 +84,7 @@ nothing-further layout height cells column index none known came within =
     listed (width_at layout) layout.count column within
     ∙ ap (λ w. w + layout.side) (past-list layout.contents.items column layout.rest known)
     ∙ (let a = none.rest in let b = none.side in omega arith) in
-    let text = past-end cells (layout.count - length cells) column came in
+    let text = filled-at cells (layout.count - length cells) column ∙ get_or_past cells column [] came in
     let F : Bool → ℕ → List ℕ → List ℕ = λ b w t. piece b f.inner.main ++ slice_index_or (block layout.style w height t) index [] in
     let w = (layout_row layout height (lengthened layout.count cells)).columns.width column in
     let t = slice_index_or (lengthened layout.count cells) column [] in

@@ -4,6 +4,7 @@ ghost use Rattle.std.specs.Prelude.{length, map, take, true, unwrap_or};
 ghost use Rattle.std.proofs.Props.{props};
 ghost use Rattle.tabled_line.specs.LineCache.{IsCacheOf};
 ghost use Rattle.tabled_records.specs.Reading.{MayGive, Reads, ReadsTo};
+ghost use Rattle.tabled_table.specs.Stream.Cuts.{AreMeasured, cut_texts};
 ghost use Rattle.tabled_table.specs.Stream.Progress.{AreFirst, AreFurther, FinishesBehind};
 ghost use Rattle.tabled_table.specs.Stream.Progress.{HaltsMore, HasPutMore, IsLimited, IsPermitted};
 ghost use Rattle.tabled_table.specs.Stream.Progress.{PutsBottom, PutsFirst, PutsNext};
@@ -11,12 +12,12 @@ ghost use Rattle.tabled_table.specs.Stream.Progress.{StreamsLaidOut, left_of, Re
 ghost use Rattle.tabled_table.specs.Stream.Row.{PutsCut, layout_columns, rule_of};
 ghost use Rattle.tabled_table.specs.Stream.Streamed.{limited};
 
-use crate::iter_table::row::{CutRow, StreamColumns, cut_cells};
+use crate::iter_table::cuts::{TextCut, cut_cells, find_cuts};
+use crate::iter_table::row::{CutRow, StreamColumns};
 use crate::iter_table::settings::{ahead, fewer, is_none_left, up_to};
 use crate::iter_table::sniff::content_height;
 use std::alloc::Global;
-use std::borrow::CowStr;
-use tabled_base::{CellText, TableError, Text};
+use tabled_base::{CellText, TableError};
 use tabled_line::{Cursor, FEW_CURSORS, LinePrinter, TextSink};
 use tabled_records::flat_rows::FlatRows;
 use tabled_records::reading::{Taken, append_cells};
@@ -28,6 +29,8 @@ pub(crate) struct Stream<'a> {
     lines: LinePrinter<StreamColumns<'a>>,
     // Whether no row was printed so far.
     first: bool,
+    // Where the cells of the last row were cut.
+    cuts: Vec<TextCut>,
     ghost kept: { IsCacheOf (layout_columns lines.columns.layout.now) lines.kept } by { Prim.hlevel
         props },
 }
@@ -43,53 +46,53 @@ impl<'a> Stream<'a> {
             alloc,
             lines: LinePrinter::new(columns, Some(alloc)),
             first: true,
+            cuts: Vec::new(alloc),
         }
     }
 
     /// Writes a row of cut cells below its horizontal line. The cursors are those of its first
     /// columns.
-    fn write_cut_row<'c, S: TextSink>(
+    fn write_cut_row<'c, C: CellText, S: TextSink>(
         &mut self,
         sink: &mut S,
         height: usize,
-        cells: &'c [Text<CowStr<'c>>],
+        cells: &'c [C],
         cursors: &mut [Cursor<'c>],
     ) -> Result<(), TableError>
-    where
-        'a: 'c,
+        requires { AreMeasured (map C.text cells.now) self.old.cuts.items }
         ensures printed { PutsCut self.old.lines.columns.layout.now
-            (rule_of self.old.lines.columns.layout.now self.old.first) height cells.now
-            (S.sent sink.old) self.old.lines.begun result
-            (S.sent sink.new) self.new.lines.begun }
+            (rule_of self.old.lines.columns.layout.now self.old.first) height
+            (cut_texts self.old.cuts.items (map C.text cells.now)) (S.sent sink.old)
+            self.old.lines.begun result (S.sent sink.new) self.new.lines.begun }
         ensures same { self.new.lines.columns ≡ self.old.lines.columns }
         ensures first { OnOk result (self.new.first ≡ false) }
     {
         let layout = self.lines.columns.layout;
+        self.lines.write_rule(sink, layout.rule(self.first))?;
+        self.first = false;
         let row = CutRow {
             layout,
             cells,
+            cuts: self.cuts.as_slice(),
             height,
         };
-        self.lines.write_rule(sink, layout.rule(self.first))?;
-        self.first = false;
         self.lines.write_row(sink, &row, cursors)
     }
 
     /// Writes a row of cut cells as `write_cut_row` does, with a cursor for each cell. Only a row
     /// of several lines needs them. More than `FEW_CURSORS` are allocated, which may fail with
     /// `Memory` before the first byte.
-    fn write_cut_cells<'c, S: TextSink>(
+    fn write_cut_cells<'c, C: CellText, S: TextSink>(
         &mut self,
         sink: &mut S,
         height: usize,
-        cells: &'c [Text<CowStr<'c>>],
+        cells: &'c [C],
     ) -> Result<(), TableError>
-    where
-        'a: 'c,
+        requires { AreMeasured (map C.text cells.now) self.old.cuts.items }
         ensures printed { PutsCut self.old.lines.columns.layout.now
-            (rule_of self.old.lines.columns.layout.now self.old.first) height cells.now
-            (S.sent sink.old) self.old.lines.begun result
-            (S.sent sink.new) self.new.lines.begun }
+            (rule_of self.old.lines.columns.layout.now self.old.first) height
+            (cut_texts self.old.cuts.items (map C.text cells.now)) (S.sent sink.old)
+            self.old.lines.begun result (S.sent sink.new) self.new.lines.begun }
         ensures same { self.new.lines.columns ≡ self.old.lines.columns }
         ensures first { OnOk result (self.new.first ≡ false) }
     {
@@ -121,8 +124,13 @@ impl<'a> Stream<'a> {
         let Some(height) = layout.padded_height(lines) else {
             return Err(TableError::Range);
         };
-        let cut = cut_cells(self.alloc, layout, cells)?;
-        self.write_cut_cells(sink, height, cut.as_slice())
+        let (first, _) = cells.split_at(layout.count.min(cells.len()));
+        if find_cuts(&mut self.cuts, layout, first)? {
+            return self.write_cut_cells(sink, height, first);
+        }
+        self.cuts.clear();
+        let filled = cut_cells(self.alloc, layout, first)?;
+        self.write_cut_cells(sink, height, filled.as_slice())
     }
 
     /// Writes the horizontal line below the last row, and the bottom margin.

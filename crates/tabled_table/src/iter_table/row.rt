@@ -1,17 +1,16 @@
-//! The columns of a stream, and a row of it that is cut to them.
-ghost use Rattle.std.specs.Prelude.{◌≡◌, ◌<◌, ◌^◌, [], ℕ, IfOk, length, map, min, slice_index_or};
-ghost use Rattle.tabled_table.specs.Stream.Row.{content_at, layout_columns, layout_row, width_at};
+//! The columns of a stream, and a row of it whose cells are cut to them.
+ghost use Rattle.std.specs.Prelude.{◌≡◌, ◌<◌, ◌^◌, ℕ, map, take};
+ghost use Rattle.std.proofs.Props.{props};
 ghost use Rattle.tabled_base.specs.Cells.{lengthened};
-ghost use Rattle.tabled_text.specs.Cut.{IsCut};
+ghost use Rattle.tabled_table.specs.Stream.Cuts.{AreMeasured, IsMeasured, cut_texts};
+ghost use Rattle.tabled_table.specs.Stream.Row.{layout_columns, layout_row, width_at};
 
+use crate::iter_table::cuts::TextCut;
 use crate::iter_table::layout::Layout;
 use crate::iter_table::settings::StreamSettings;
-use std::alloc::{AllocError, Global};
-use std::borrow::CowStr;
-use tabled_base::{CellText, Text};
+use tabled_base::CellText;
 use tabled_config::{Frame, RowStyles};
 use tabled_line::{ColumnSeparator, Content, KnownPlacements, Row, TableColumns};
-use tabled_text::cut_str;
 
 /// The columns of a stream, whose widths are in range, and what else stays the same while its lines
 /// are printed.
@@ -48,20 +47,23 @@ impl<'a> TableColumns for StreamColumns<'a> {
 
 /// A row of a stream. Its cells are cut to their columns, and missing ones are empty.
 #[derive(Drop)]
-pub(crate) struct CutRow<'a> {
-    pub layout: &'a Layout,
+pub(crate) struct CutRow<'a, 'c, C: CellText> {
+    pub layout: &'c Layout,
     /// The first cells; those after them are empty.
-    pub cells: &'a [Text<CowStr<'a>>],
+    pub cells: &'a [C],
+    /// Where the first cells are cut; those after them are whole.
+    pub cuts: &'c [TextCut],
     /// The height in lines, padding included.
     pub height: usize,
     ghost in_range: { (column : ℕ) → column < layout.now.count
         → width_at layout.now column < 2 ^ 64 },
     ghost high: { height < 2 ^ 64 },
+    ghost measured: { AreMeasured (map C.text cells.now) cuts.now } by { Prim.hlevel props },
 }
 
-impl<'a> Row<'a> for CutRow<'a> {
+impl<'a, 'c, C: CellText> Row<'a> for CutRow<'a, 'c, C> {
     ghost sheet = { λ r. layout_row r.layout.now r.height
-        (lengthened r.layout.now.count r.cells.now) };
+        (lengthened r.layout.now.count (cut_texts r.cuts.now (map C.text r.cells.now))) };
 
     fn count_columns(&self) -> usize {
         self.layout.count
@@ -95,13 +97,12 @@ impl<'a> Row<'a> for CutRow<'a> {
     }
 
     fn content(&self, column: usize) -> Content<'a> {
-        match self.cells.get(column) {
-            Some(cell) => Content {
-                text: cell.text(),
-                columns: cell.width(),
-                lines: cell.count_lines(),
-            },
-            None => Content::new(""),
+        let Some(cell) = self.cells.get(column) else {
+            return Content::new("");
+        };
+        match self.cuts.get(column) {
+            Some(cut) => cut_content(cell, *cut),
+            None => whole_content(cell),
         }
     }
 
@@ -114,24 +115,23 @@ impl<'a> Row<'a> for CutRow<'a> {
     }
 }
 
-/// Cuts the cells of a row to their columns and measures them. Cells after the last column are
-/// ignored.
-pub(crate) fn cut_cells<'a, C: CellText>(
-    alloc: Global,
-    layout: &Layout,
-    cells: &'a [C],
-) -> Result<Vec<Text<CowStr<'a>>>, AllocError>
-    ensures as_many { IfOk result (λ cut. length cut.items
-        ≡ min layout.now.count (length cells.now)) }
-    ensures each { IfOk result (λ cut. (column : ℕ) → column < length cut.items
-        → IsCut (content_at layout.now column) (slice_index_or (map C.text cells.now) column [])
-        (slice_index_or cut.items column [])) }
+fn whole_content<C: CellText>(cell: &C) -> Content<'_>
+    ensures { result.text.now ≡ C.text cell.now }
 {
-    let count = layout.count.min(cells.len());
-    let mut cut = Vec::with_capacity(alloc, count)?;
-    'cells: for column in 0..count {
-        let text = cut_str(alloc, cells[column].text(), layout.content_width(column))?;
-        cut.push(Text::new(text))?;
+    Content {
+        text: cell.text(),
+        columns: cell.width(),
+        lines: cell.count_lines(),
     }
-    Ok(cut)
+}
+
+fn cut_content<C: CellText>(cell: &C, cut: TextCut) -> Content<'_>
+    requires { IsMeasured (C.text cell.now) cut }
+    ensures { result.text.now ≡ take cut.length (C.text cell.now) }
+{
+    Content {
+        text: &cell.text()[..cut.length],
+        columns: cut.columns,
+        lines: cut.lines,
+    }
 }

@@ -1,12 +1,18 @@
-use Rattle.std.proofs.Common.{arith}
+use Rattle.std.proofs.Common.{◌≡◌, ◌∙◌, arith, length, map}
+use Rattle.std.proofs.lemmas.List.{length-map}
+use Rattle.tabled_table.specs.Stream.Cuts.{cut_texts}
+use Rattle.tabled_table.proofs.Stream.Cuts.{length_cut_texts}
 use Rattle.tabled_table.proofs.Stream.Drawn.{nothing-further}
 use Rattle.tabled_table.proofs.iter_table.row.CutRowRow.count_drawn.Goals as goal
 
 pub returns-clause-rest : goal.returns-clause-rest
-returns-clause-rest c column index l m =
+returns-clause-rest g c column index l m =
     let row = c.args.self.now in
     let layout = row.layout.now in
-    nothing-further layout row.height row.cells.now column index (c.takes_more.ensures c.if-takes_more.false)
+    let texts = map g.C.CellText.text row.cells.now in
+    let as_many : length (cut_texts row.cuts.now texts) ≡ length row.cells.now =
+    length_cut_texts row.cuts.now texts ∙ length-map row.cells.now g.C.CellText.text in
+    nothing-further layout row.height (cut_texts row.cuts.now texts) column index (c.takes_more.ensures c.if-takes_more.false)
     (omega (arith, l, m, c.min.ensures, c.max-known.ensures, c.len.ensures))
-    (omega (arith, l, m, c.min.ensures, c.max-known.ensures))
+    (omega (arith, l, m, as_many, c.min.ensures, c.max-known.ensures))
     m

@@ -3,7 +3,7 @@ use Rattle.std.proofs.lemmas.List.{get_or-map}
 use Rattle.tabled_text.specs.Cut.{IsCut}
 use Rattle.tabled_table.specs.Stream.Row.{content_at}
 use Rattle.tabled_table.proofs.Stream.Steps.{each-pushed}
-use Rattle.tabled_table.proofs.iter_table.row.cut_cells.Goals as goal
+use Rattle.tabled_table.proofs.iter_table.cuts.cut_cells.Goals as goal
 
 pub cells-preserved : goal.cells-preserved
 cells-preserved g c =

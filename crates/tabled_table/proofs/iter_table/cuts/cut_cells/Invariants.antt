@@ -2,7 +2,7 @@ use Rattle.std.proofs.Common.{◌≡◌, ℕ, ◌<◌, [], length, map}
 use Rattle.std.specs.List.{slice_index_or}
 use Rattle.tabled_text.specs.Cut.{IsCut}
 use Rattle.tabled_table.specs.Stream.Row.{content_at}
-use Rattle.tabled_table.proofs.iter_table.row.cut_cells.Given as goal
+use Rattle.tabled_table.proofs.iter_table.cuts.cut_cells.Given as goal
 
 abbrev pub invariant-cells : goal.invariant-cells
 invariant-cells g l = record {
