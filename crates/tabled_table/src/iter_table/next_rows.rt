@@ -4,7 +4,7 @@ ghost use Rattle.std.specs.Prelude.{length, map, take, true, unwrap_or};
 ghost use Rattle.std.proofs.Props.{props};
 ghost use Rattle.tabled_line.specs.LineCache.{IsCacheOf};
 ghost use Rattle.tabled_records.specs.Reading.{MayGive, Reads, ReadsTo};
-ghost use Rattle.tabled_table.specs.Stream.Cuts.{AreMeasured, cut_texts};
+ghost use Rattle.tabled_table.specs.Stream.Cuts.{cut_texts};
 ghost use Rattle.tabled_table.specs.Stream.Progress.{AreFirst, AreFurther, FinishesBehind};
 ghost use Rattle.tabled_table.specs.Stream.Progress.{HaltsMore, HasPutMore, IsLimited, IsPermitted};
 ghost use Rattle.tabled_table.specs.Stream.Progress.{PutsBottom, PutsFirst, PutsNext};
@@ -29,8 +29,6 @@ pub(crate) struct Stream<'a> {
     lines: LinePrinter<StreamColumns<'a>>,
     // Whether no row was printed so far.
     first: bool,
-    // Where the cells of the last row were cut.
-    cuts: Vec<TextCut>,
     ghost kept: { IsCacheOf (layout_columns lines.columns.layout.now) lines.kept } by { Prim.hlevel
         props },
 }
@@ -46,7 +44,6 @@ impl<'a> Stream<'a> {
             alloc,
             lines: LinePrinter::new(columns, Some(alloc)),
             first: true,
-            cuts: Vec::new(alloc),
         }
     }
 
@@ -55,28 +52,20 @@ impl<'a> Stream<'a> {
     fn write_cut_row<'c, C: CellText, S: TextSink>(
         &mut self,
         sink: &mut S,
-        height: usize,
-        cells: &'c [C],
+        row: &CutRow<'c, C>,
         cursors: &mut [Cursor<'c>],
     ) -> Result<(), TableError>
-        requires { AreMeasured (map C.text cells.now) self.old.cuts.items }
-        ensures printed { PutsCut self.old.lines.columns.layout.now
-            (rule_of self.old.lines.columns.layout.now self.old.first) height
-            (cut_texts self.old.cuts.items (map C.text cells.now)) (S.sent sink.old)
+        requires { row.now.layout.now ≡ self.old.lines.columns.layout.now }
+        ensures printed { PutsCut row.now.layout.now
+            (rule_of row.now.layout.now self.old.first) row.now.height
+            (cut_texts row.now.cuts.now (map C.text row.now.cells.now)) (S.sent sink.old)
             self.old.lines.begun result (S.sent sink.new) self.new.lines.begun }
         ensures same { self.new.lines.columns ≡ self.old.lines.columns }
         ensures first { OnOk result (self.new.first ≡ false) }
     {
-        let layout = self.lines.columns.layout;
-        self.lines.write_rule(sink, layout.rule(self.first))?;
+        self.lines.write_rule(sink, row.layout.rule(self.first))?;
         self.first = false;
-        let row = CutRow {
-            layout,
-            cells,
-            cuts: self.cuts.as_slice(),
-            height,
-        };
-        self.lines.write_row(sink, &row, cursors)
+        self.lines.write_row(sink, row, cursors)
     }
 
     /// Writes a row of cut cells as `write_cut_row` does, with a cursor for each cell. Only a row
@@ -85,35 +74,35 @@ impl<'a> Stream<'a> {
     fn write_cut_cells<'c, C: CellText, S: TextSink>(
         &mut self,
         sink: &mut S,
-        height: usize,
-        cells: &'c [C],
+        row: &CutRow<'c, C>,
     ) -> Result<(), TableError>
-        requires { AreMeasured (map C.text cells.now) self.old.cuts.items }
-        ensures printed { PutsCut self.old.lines.columns.layout.now
-            (rule_of self.old.lines.columns.layout.now self.old.first) height
-            (cut_texts self.old.cuts.items (map C.text cells.now)) (S.sent sink.old)
+        requires { row.now.layout.now ≡ self.old.lines.columns.layout.now }
+        ensures printed { PutsCut row.now.layout.now
+            (rule_of row.now.layout.now self.old.first) row.now.height
+            (cut_texts row.now.cuts.now (map C.text row.now.cells.now)) (S.sent sink.old)
             self.old.lines.begun result (S.sent sink.new) self.new.lines.begun }
         ensures same { self.new.lines.columns ≡ self.old.lines.columns }
         ensures first { OnOk result (self.new.first ≡ false) }
     {
-        if height <= 1 {
-            return self.write_cut_row(sink, height, cells, &mut []);
+        if row.height <= 1 {
+            return self.write_cut_row(sink, row, &mut []);
         }
-        if cells.len() <= FEW_CURSORS {
-            return self.write_cut_row(sink, height, cells, &mut [Cursor::nowhere(); FEW_CURSORS]);
+        if row.cells.len() <= FEW_CURSORS {
+            return self.write_cut_row(sink, row, &mut [Cursor::nowhere(); FEW_CURSORS]);
         }
-        let mut cursors = vec![in self.alloc; Cursor::nowhere(); cells.len()]?;
-        self.write_cut_row(sink, height, cells, &mut cursors)
+        let mut cursors = vec![in self.alloc; Cursor::nowhere(); row.cells.len()]?;
+        self.write_cut_row(sink, row, &mut cursors)
     }
 
     /// Cuts the next row to its columns, and writes it with `lines` lines for text, below its
     /// horizontal line. Before its first byte it fails with `Range` if its height exceeds
-    /// `usize::MAX`, and with `Memory`.
+    /// `usize::MAX`, and with `Memory`. `cuts` is room for the cuts of a row.
     fn write_next_record<C: CellText, S: TextSink>(
         &mut self,
         sink: &mut S,
         lines: usize,
         cells: &[C],
+        cuts: &mut Vec<TextCut>,
     ) -> Result<(), TableError>
         ensures printed { PutsNext lines (map C.text cells.now) self.old.lines.columns.layout.now
             self.old.first (S.sent sink.old) self.old.lines.begun result
@@ -125,12 +114,23 @@ impl<'a> Stream<'a> {
             return Err(TableError::Range);
         };
         let (first, _) = cells.split_at(layout.count.min(cells.len()));
-        if find_cuts(&mut self.cuts, layout, first)? {
-            return self.write_cut_cells(sink, height, first);
+        if find_cuts(cuts, layout, first)? {
+            let row = CutRow {
+                layout,
+                cells: first,
+                cuts: cuts.as_slice(),
+                height,
+            };
+            return self.write_cut_cells(sink, &row);
         }
-        self.cuts.clear();
         let filled = cut_cells(self.alloc, layout, first)?;
-        self.write_cut_cells(sink, height, filled.as_slice())
+        let row = CutRow {
+            layout,
+            cells: filled.as_slice(),
+            cuts: &[],
+            height,
+        };
+        self.write_cut_cells(sink, &row)
     }
 
     /// Writes the horizontal line below the last row, and the bottom margin.
@@ -162,11 +162,12 @@ impl<'a> Stream<'a> {
         ensures same { self.new.lines.columns ≡ self.old.lines.columns }
     {
         let settings = self.lines.columns.settings;
+        let mut cuts = Vec::new(self.alloc);
         'rows: for index in 0..shown {
             let cells = rows.row(index);
             let count = self.lines.columns.layout.count;
             let lines = content_height(settings, count, index < ahead, cells);
-            self.write_next_record(sink, lines, cells)?;
+            self.write_next_record(sink, lines, cells, &mut cuts)?;
         }
         Ok(())
     }
@@ -202,6 +203,7 @@ impl<'a> Stream<'a> {
         ensures same { self.new.lines.columns ≡ self.old.lines.columns }
     {
         let mut cells = Vec::new(self.alloc);
+        let mut cuts = Vec::new(self.alloc);
         let mut left = limit;
         'rows: loop {
             if is_none_left(left) {
@@ -211,7 +213,7 @@ impl<'a> Stream<'a> {
             if !append_cells(&mut cells, rows)? {
                 return Ok(true);
             }
-            self.write_next_record(sink, lines, cells.as_slice())?;
+            self.write_next_record(sink, lines, cells.as_slice(), &mut cuts)?;
             left = fewer(left, 1);
         }
     }

@@ -47,12 +47,12 @@ impl<'a> TableColumns for StreamColumns<'a> {
 
 /// A row of a stream. Its cells are cut to their columns, and missing ones are empty.
 #[derive(Drop)]
-pub(crate) struct CutRow<'a, 'c, C: CellText> {
-    pub layout: &'c Layout,
+pub(crate) struct CutRow<'a, C: CellText> {
+    pub layout: &'a Layout,
     /// The first cells; those after them are empty.
     pub cells: &'a [C],
     /// Where the first cells are cut; those after them are whole.
-    pub cuts: &'c [TextCut],
+    pub cuts: &'a [TextCut],
     /// The height in lines, padding included.
     pub height: usize,
     ghost in_range: { (column : ℕ) → column < layout.now.count
@@ -61,7 +61,7 @@ pub(crate) struct CutRow<'a, 'c, C: CellText> {
     ghost measured: { AreMeasured (map C.text cells.now) cuts.now } by { Prim.hlevel props },
 }
 
-impl<'a, 'c, C: CellText> Row<'a> for CutRow<'a, 'c, C> {
+impl<'a, C: CellText> Row<'a> for CutRow<'a, C> {
     ghost sheet = { λ r. layout_row r.layout.now r.height
         (lengthened r.layout.now.count (cut_texts r.cuts.now (map C.text r.cells.now))) };
 

@@ -1,4 +1,4 @@
-use Rattle.std.proofs.Common.{map}
+use Rattle.std.proofs.Common.{map, sym}
 use Rattle.tabled_table.specs.Stream.Cuts.{cut_texts}
 use Rattle.tabled_table.specs.Stream.Row.{rule_of}
 use Rattle.tabled_table.proofs.Stream.Steps.{cut-finished, cut-stopped}
@@ -7,14 +7,16 @@ use Rattle.tabled_table.proofs.iter_table.next_rows.Stream.write_cut_row.Goals a
 pub returns-in_err-write_rule-clause-printed : goal.returns-in_err-write_rule-clause-printed
 returns-in_err-write_rule-clause-printed g c =
     let stream = c.args.self.now in
-    let layout = stream.lines.columns.layout.now in
-    cut-stopped layout (rule_of layout stream.first) c.args.height (cut_texts stream.cuts.items (map g.C.CellText.text c.args.cells.now)) _ _
-    stream.lines.begun _ _ _ (rw c.rule.ensures at c.in_err-write_rule.ensures.printed) c.from_residual.ensures.1
+    let row = c.args.row.now in
+    let layout = row.layout.now in
+    cut-stopped layout (rule_of layout stream.first) row.height (cut_texts row.cuts.now (map g.C.CellText.text row.cells.now)) _ _
+    stream.lines.begun _ _ _ (rw (c.rule.ensures, sym c.requires) at c.in_err-write_rule.ensures.printed) c.from_residual.ensures.1
 
 pub returns-clause-printed : goal.returns-clause-printed
 returns-clause-printed g c =
     let stream = c.args.self.now in
-    let layout = stream.lines.columns.layout.now in
-    cut-finished layout (rule_of layout stream.first) c.args.height (cut_texts stream.cuts.items (map g.C.CellText.text c.args.cells.now)) _ _ _
-    stream.lines.begun c.write_rule.new.self.begun _ _ (rw c.rule.ensures at c.in_ok-write_rule.ensures.printed)
-    (rw c.as_slice.ensures.value at c.write_row.ensures.printed)
+    let row = c.args.row.now in
+    let layout = row.layout.now in
+    cut-finished layout (rule_of layout stream.first) row.height (cut_texts row.cuts.now (map g.C.CellText.text row.cells.now)) _ _ _
+    stream.lines.begun c.write_rule.new.self.begun _ _ (rw (c.rule.ensures, sym c.requires) at c.in_ok-write_rule.ensures.printed)
+    c.write_row.ensures.printed
