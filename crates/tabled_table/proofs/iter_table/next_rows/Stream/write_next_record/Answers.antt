@@ -31,7 +31,7 @@ returns-then-branch-clause-printed g c =
     (cut-put layout _ c.in-Some.height _ (cut_texts _ (map text first)) _ _ stream.lines.begun _ _
     (cuts_first text (content_at layout) layout.count c.min.result c.args.cells.now first _ c.split_at.ensures.front c.min.ensures
     (c.in_ok-find_cuts.ensures c.if-branch.true))
-    c.write_cut_cells.ensures.printed) c.write_cut_cells.ensures.first e.0 within
+    (rw c.as_slice.ensures.value at c.write_cut_cells.ensures.printed)) c.write_cut_cells.ensures.first e.0 within
 
 pub returns-clause-printed : goal.returns-clause-printed
 returns-clause-printed g c =
@@ -44,5 +44,5 @@ returns-clause-printed g c =
     (cut-put layout _ c.in-Some.height _ filled _ _ stream.lines.begun _ _
     (cut_first g.C.CellText.text (content_at layout) layout.count c.min.result c.args.cells.now c.split_at.result.0.now filled
     c.split_at.ensures.front c.min.ensures c.in_ok-filled.ensures.as_many c.in_ok-filled.ensures.each)
-    (rw (c.clear.ensures.items, c.as_slice.ensures.value, map-id filled) at c.write_cut_cells-2.ensures.printed))
+    (rw (c.as_slice-2.ensures.value, map-id filled) at c.write_cut_cells-2.ensures.printed))
     c.write_cut_cells-2.ensures.first e.0 within
