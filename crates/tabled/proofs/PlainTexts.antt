@@ -18,7 +18,7 @@ use Rattle.tabled_table.specs.NewConfig.{new_config}
 use Rattle.tabled_table.specs.TableSheet.{new_sheet}
 use Rattle.tabled_text.specs.Cut.{IsCut}
 use Rattle.tabled_text.specs.Measure.{lines_of, text_columns}
-use Rattle.tabled_text.proofs.Kept.{cut-printable}
+use Rattle.tabled_text.proofs.CutWhole.{IsCut-short}
 use Rattle.tabled_text.proofs.PlainLines.{plain_line-printable, text_columns-plain_line}
 use Rattle.tabled.specs.declared.plan.Plan.{Plan}
 use Rattle.tabled.specs.declared.plan.Plan.TheVariants.{Buffered, Streamed, Wrapped, Shortened}
@@ -99,7 +99,7 @@ module _ (text : List ℕ) (plain : list_all is_plain_byte text ≡ true) (texts
       let wide : text_columns cell ≡ length cell = text_columns-plain_line (plain_line-printable cell shown) in
       let held : needed_width cells new_config row column ≤ slice_index (new_sheet cells).widths column =
       holds_estimated cells new_config row column inside.row_in inside.column_in in
-      cut-printable (inner_width (new_sheet cells) row column) cell shown (omega arith)
+      IsCut-short (inner_width (new_sheet cells) row column) cell (texts row [] inside.row_in column [] (omega arith)) (omega arith)
 
   streamed : IsStreamedFrom (new_sheet cells) (new_sheet cells)
   streamed = record {
