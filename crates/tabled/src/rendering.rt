@@ -1,5 +1,5 @@
 //! `render`: prints a text as a table, and narrows it by wrapping or truncating its cells.
-ghost use Rattle.std.specs.Prelude.{◌≡◌, ◌⊎◌, IfErr, IfOk, false};
+ghost use Rattle.std.specs.Prelude.{◌≡◌, ◌⊎◌, IfErr, IfOk, false, true};
 ghost use Rattle.std.specs.List.{list_all};
 ghost use Rattle.tabled_base.specs.Cells.{IsRectangular};
 ghost use Rattle.tabled_base.specs.declared.error.TableError.TheVariants.{Memory, Range, Writer};
@@ -149,6 +149,13 @@ fn is_plain_text(text: &str) -> bool
         .all(|byte| matches!(byte, b'\t' | b'\n' | b' '..=b'~'))
 }
 
+/// Whether a plan streams a text of which it cuts no cell, so that it prints the whole table.
+fn streams_whole(plan: Plan, text: &str) -> bool
+    ensures { result ≡ true → list_all is_plain_byte text.now ≡ true }
+{
+    matches!(plan, Plan::Streamed) && is_plain_text(text)
+}
+
 /// Prints tab-separated rows as a table, under a plan.
 ///
 /// A row ends at a line feed and a cell at a tab. The empty text has no rows, and short rows get
@@ -174,8 +181,7 @@ pub fn render<S: TextSink>(
         return Ok(());
     }
     let rows = text_rows(alloc, text)?;
-    // A stream cuts no cell of such a text, and so it prints the whole table.
-    if is_plain_text(text) {
+    if streams_whole(plan, text) {
         let config = ColoredConfig::new(new_config(alloc));
         return print_measured(alloc, &rows, config, plan, sink);
     }

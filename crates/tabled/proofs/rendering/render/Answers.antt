@@ -25,26 +25,26 @@ print_measured-requires-clause-texts g c = subst AreTexts (sym c.in_ok-rows.ensu
 pub print_measured-requires-clause-rectangular : goal.print_measured-requires-clause-rectangular
 print_measured-requires-clause-rectangular g c = subst IsRectangular (sym c.in_ok-rows.ensures.ok) (text_rectangular c.args.text.now)
 
-pub returns-then-is_plain_text-clause-rendered : goal.returns-then-is_plain_text-clause-rendered
-returns-then-is_plain_text-clause-rendered g c =
+pub returns-then-streams_whole-clause-rendered : goal.returns-then-streams_whole-clause-rendered
+returns-then-streams_whole-clause-rendered g c =
     let text = c.args.text.now in
     let plan = c.args.plan in
     let old = g.S.TextSink.sent c.args.sink.now in
     let r = c.print_measured.result in
     let new = g.S.TextSink.sent c.print_measured.new.sink in
-    rendered_plain text (sym c.if-is_plain_text.ensures) (texts_of_text text c.utf8.text) plan old r new
+    rendered_plain text (c.if-streams_whole.ensures refl) (texts_of_text text c.utf8.text) plan old r new
     (subst (λ (cells : Cells). IsRenderedOf (measured plan) (estimated cells new_config) old r new) c.in_ok-rows.ensures.ok
     (subst (λ (d : SpannedConfig). IsRenderedOf (measured plan) (estimated c.in_ok-rows.rows d) old r new) (c.new-config.ensures ∙ c.new_config.ensures) c.print_measured.ensures))
 
-pub returns-then-is_plain_text-clause-only : goal.returns-then-is_plain_text-clause-only
-returns-then-is_plain_text-clause-only g c =
+pub returns-then-streams_whole-clause-only : goal.returns-then-streams_whole-clause-only
+returns-then-streams_whole-clause-only g c =
     let text = c.args.text.now in
     let plan = c.args.plan in
     let old = g.S.TextSink.sent c.args.sink.now in
     let r = c.print_measured.result in
     let new = g.S.TextSink.sent c.print_measured.new.sink in
     only_rendered plan (text_rows text) old r new
-    (rendered_plain text (sym c.if-is_plain_text.ensures) (texts_of_text text c.utf8.text) plan old r new
+    (rendered_plain text (c.if-streams_whole.ensures refl) (texts_of_text text c.utf8.text) plan old r new
     (subst (λ (cells : Cells). IsRenderedOf (measured plan) (estimated cells new_config) old r new) c.in_ok-rows.ensures.ok
     (subst (λ (d : SpannedConfig). IsRenderedOf (measured plan) (estimated c.in_ok-rows.rows d) old r new) (c.new-config.ensures ∙ c.new_config.ensures) c.print_measured.ensures)))
 
