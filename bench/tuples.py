@@ -7,7 +7,7 @@ BASELINE is the program that was written by hand for tables of tab-separated tex
 temporary folder) beside copies of the crates and built with `rt run`: it makes a vector of tuples of six values (numbers, texts, a
 truth value), a `Table` of it with a header, and prints that to standard output. The baseline prints what a first run of the program tells of the same
 cells with tabs between them. Both run in interleaved rounds, their output to the null device. Printed are the shortest and the median of the
-processor times (user and system) in milliseconds, and whether the bar holds: at most twice the time of the baseline.
+processor times (user and system) in milliseconds, and whether the bar holds: at most the time of the baseline.
 """
 
 import pathlib
@@ -108,7 +108,7 @@ def main():
     for name, all_of in times.items():
         print(f"{name:10} {min(all_of):7.1f} {statistics.median(all_of):7.1f}")
     share = min(times["tuples"]) / min(times["baseline"])
-    print(f"at most twice the time of the baseline: {'yes' if share <= 2 else 'NO'} ({share:.2f})")
+    print(f"at most the time of the baseline: {'yes' if share <= 1 else 'NO'} ({share:.2f})")
 
 
 main()
