@@ -211,12 +211,12 @@ pub Walked-le : {n columns : ℕ} {text rest : List ℕ} → Walked n text rest 
 Walked-le {n} {columns} w = let h = All-last_line (λ l. count_of l ≤ n) (chars w.front) w.reached.fits in let e = w.columns_are in omega arith
 
 -- what a step over one character needs
-more_bytes : (text front rest after : List ℕ) (y : ℕ) → text ≡ front ++ rest → rest ≡ encode_utf8 y ++ after → text
+pub more_bytes : (text front rest after : List ℕ) (y : ℕ) → text ≡ front ++ rest → rest ≡ encode_utf8 y ++ after → text
     ≡ (front ++ encode_utf8 y) ++ after
 more_bytes text front rest after y e f = e ∙ ap (λ l. front ++ l) f ∙ sym (append_assoc front (encode_utf8 y) after)
 
 -- the first character of a text
-IsScalar-first : (rest : List ℕ) (y : ℕ) (cs : List ℕ) → IsUtf8 rest → chars rest ≡ y ∷ cs → IsScalar y
+pub IsScalar-first : (rest : List ℕ) (y : ℕ) (cs : List ℕ) → IsUtf8 rest → chars rest ≡ y ∷ cs → IsScalar y
 IsScalar-first rest y cs v e = (and_parts (scalar y) (scalars cs) (subst (λ l. scalars l ≡ true) e (scalars-chars rest v))).0
 
 -- the characters of a text with one more
@@ -308,22 +308,19 @@ IsParted-end {n} {columns} {text} {rest} b w none same =
       dropped = none;
     }
 
--- where the text is split
-pub front_length : {n columns : ℕ} {text rest : List ℕ} → (w : Walked n text rest columns) → length text - length rest ≡ length w.front
-front_length {n} {columns} {text} {rest} w = omega (arith, ap length w.parts, length-append w.front rest)
+-- where a text is split
+pub front_length : {text : List ℕ} (front rest : List ℕ) → text ≡ front ++ rest → length text - length rest ≡ length front
+front_length {text} front rest e = omega (arith, ap length e, length-append front rest)
 
-pub front_taken : {n columns : ℕ} {text rest : List ℕ} → (w : Walked n text rest columns) → take (length text - length rest) text ≡ w.front
-front_taken {n} {columns} {text} {rest} w = ap (λ k. take k text) (front_length w) ∙ ap (take (length w.front))
-    w.parts ∙ take_at w.front rest (length w.front) refl
+pub front_taken : {text : List ℕ} (front rest : List ℕ) → text ≡ front ++ rest → take (length text - length rest) text ≡ front
+front_taken {text} front rest e = ap (λ k. take k text) (front_length front rest e) ∙ ap (take (length front)) e ∙ take_at front rest (length front) refl
 
-pub rest_taken : {n columns : ℕ} {text rest : List ℕ} → (w : Walked n text rest columns) → drop (length text - length rest) text ≡ rest
-rest_taken {n} {columns} {text} {rest} w = ap (λ k. drop k text) (front_length w) ∙ ap (drop (length w.front)) w.parts
-    ∙ drop_at w.front rest (length w.front) refl
+pub rest_taken : {text : List ℕ} (front rest : List ℕ) → text ≡ front ++ rest → drop (length text - length rest) text ≡ rest
+rest_taken {text} front rest e = ap (λ k. drop k text) (front_length front rest e) ∙ ap (drop (length front)) e ∙ drop_at front rest (length front) refl
 
-pub front_boundary : {n columns : ℕ} {text rest : List ℕ} → (w : Walked n text rest columns) → IsUtf8 rest
-    → IsCharBoundary text (length text - length rest)
-front_boundary {n} {columns} {text} {rest} w u = subst (IsCharBoundary text) (sym (front_length w))
-    (IsCharBoundary-at_seam text w.front rest w.parts u)
+pub front_boundary : {text : List ℕ} (front rest : List ℕ) → text ≡ front ++ rest → IsUtf8 rest → IsCharBoundary text (length text - length rest)
+front_boundary {text} front rest e u =
+    subst (IsCharBoundary text) (sym (front_length front rest e)) (IsCharBoundary-at_seam text front rest e u)
 
 scalars-replicate : (n : ℕ) → scalars (replicate n 0xFFFD) ≡ true
 scalars-replicate zero = refl

@@ -1,6 +1,9 @@
 -- What letters take, by the tables of `unicode_width`.
-use Rattle.std.proofs.Common.{◌≡◌, max, ℕ, ◌+◌, ◌-◌, ◌*◌, ◌/◌, ◌≤◌, ◌<◌, Bool, true, false, cond, not, ◌||◌, ◌&&◌, nat_le, nat_lt, List, [], ◌∷◌, ◌++◌, get_or, refl, inl, inr, ap, sym, ◌∙◌, arith, lit<, ⊎_elim}
-use Rattle.std.specs.Char.{encode_utf8}
+use Rattle.std.proofs.Common.{◌≡◌, ℕ, ◌+◌, ◌-◌, ◌*◌, ◌/◌, ◌≤◌, ◌<◌, Bool, true, false, cond, not, ◌||◌, ◌&&◌, nat_le, nat_lt, List, [], ◌∷◌, ◌++◌, length, length-append, drop, chars, encode_utf8_all, get_or, refl, subst, inl, inr, ap, sym, ◌∙◌, arith, lit<, ⊎_elim}
+use Rattle.std.specs.Char.{encode_utf8, len_utf8}
+use Rattle.std.specs.Str.{IsCharBoundary, IsUtf8}
+use Rattle.std.proofs.lemmas.List.{drop_at}
+use Rattle.std.proofs.lemmas.Str.{IsCharBoundary-at_seam, IsUtf8-past_char, chars_past_char, encode_ascii, encodes-chars, length-encode, len_utf8_ascii, len_utf8_bounds}
 use Rattle.std.specs.Int.{is_in_range}
 use Rattle.std.proofs.lemmas.Bool.{and_from, and_parts, cases_lt, le-leb, leb-true, lt-ltb, or_cases, or_left, or_right}
 use Rattle.std.proofs.lemmas.Bool.Decides.{nat_tests}
@@ -14,7 +17,7 @@ use Rattle.unicode_width.specs.Kind.{kind}
 use Rattle.unicode_width.specs.Width.{alone, char_width, of_kind}
 use Rattle.unicode_width.proofs.KindLemmas.{kind_stepped}
 use Rattle.unicode_width.proofs.Rules.{is_simple, is_simple_kind}
-use Rattle.tabled_text.specs.Letters.{IsLetter, is_narrow_lead, is_narrow_letter, is_wide_lead, is_wide_letter, lead_byte}
+use Rattle.tabled_text.specs.Letters.{BeginsBy, IsLetter, is_narrow_lead, is_wide_lead, lead_byte}
 use Rattle.tabled_text.specs.Measure.{char_columns, char_count}
 
 is_narrow : Kind → Bool
@@ -178,7 +181,7 @@ three-led c lead h low high = elim (cases_lt c 128) [
 narrow-high : (c : ℕ) → in_ranges narrow_ranges c ≡ true → 0xA0 < c → c ≤ 0x10_FFFF → IsLetter c 1
 narrow-high c inside high within =
     let is = passed (in_ranges narrow_ranges c) (is_narrow (kind c)) (are-narrow c within) inside in
-    record { simple = simple-high c high (narrow-simple (kind c) is); columns = columns-high c high ∙ narrow-columns c (kind c) is; few = lit< tt }
+    record { simple = simple-high c high (narrow-simple (kind c) is); columns = columns-high c high ∙ narrow-columns c (kind c) is; some = lit< tt; few = lit< tt }
 
 in-first : (a b x : ℕ) (rest : List Range) → a ≤ x → x ≤ b → in_ranges ((a, b) ∷ rest) x ≡ true
 unfolding in_ranges
@@ -196,7 +199,7 @@ narrow-letter c h =
     let m = leb-true lead 0x7E parts.1 in
     let same = ascii-led c lead (led c) (omega arith) in
     let printed : is_in_range 0x20 0x7E c ≡ true = sym (ap (is_in_range 0x20 0x7E) same) ∙ ascii in
-    record { simple = or_left (is_in_range 0x20 0x7E c) (nat_lt 0xA0 c && is_simple_kind (kind c)) printed; columns = columns-printable c printed; few = lit< tt })
+    record { simple = or_left (is_in_range 0x20 0x7E c) (nat_lt 0xA0 c && is_simple_kind (kind c)) printed; columns = columns-printable c printed; some = lit< tt; few = lit< tt })
     (λ above. ⊎_elim (λ latin.
     let parts = and_parts (nat_le 0xC3 lead) (nat_le lead 0xCB) latin in
     let l = leb-true 0xC3 lead parts.0 in
@@ -222,29 +225,80 @@ wide-letter c h =
     let high : 0xA0 < c = omega (arith, ends) in
     let is = passed (in_ranges wide_ranges c) (is_wide (kind c)) (are-wide c (omega (arith, ends)))
     (in-first 0x4000 0x9FFF c [] (omega (arith, ends)) (omega (arith, ends))) in
-    record { simple = simple-high c high (wide-simple (kind c) is); columns = columns-high c high ∙ wide-columns c (kind c) is; few = lit< tt }
+    record { simple = simple-high c high (wide-simple (kind c) is); columns = columns-high c high ∙ wide-columns c (kind c) is; some = lit< tt; few = lit< tt }
 
--- what letters count
-pub narrow-count : (c : ℕ) → is_narrow_letter c ≡ true → char_count c ≡ 1
-narrow-count c h =
-    ⊎_elim
-    (λ latin.
-    let parts = and_parts (nat_le 0xC0 c) (nat_le c 0x2FF) latin in
-    let l = leb-true 0xC0 c parts.0 in
-    let m = leb-true c 0x2FF parts.1 in
-    ap (max 1) (narrow-high c (in-first 0xC0 0x2FF c ((0x380, 0x47F) ∷ []) l m) (omega arith) (omega arith)).columns)
-    (λ later.
-    let parts = and_parts (nat_le 0x380 c) (nat_le c 0x47F) later in
-    let l = leb-true 0x380 c parts.0 in
-    let m = leb-true c 0x47F parts.1 in
-    ap (max 1) (narrow-high c (in-later (0xC0, 0x2FF) ((0x380, 0x47F) ∷ []) c (in-first 0x380 0x47F c [] l m)) (omega arith) (omega arith)).columns)
-    (or_cases (is_in_range 0xC0 0x2FF c) (is_in_range 0x380 0x47F c) h)
+-- how many bytes they take
+pub ascii-length : (c : ℕ) → lead_byte c < 128 → length (encode_utf8 c) ≡ 1
+ascii-length c h = let e = ascii-led c (lead_byte c) (led c) h in length-encode c ∙ len_utf8_ascii c (omega arith)
 
-pub wide-count : (c : ℕ) → is_wide_letter c ≡ true → char_count c ≡ 2
-wide-count c h =
-    let parts = and_parts (nat_le 0x4000 c) (nat_le c 0x9FFF) h in
-    let l = leb-true 0x4000 c parts.0 in
-    let m = leb-true c 0x9FFF parts.1 in
-    let high : 0xA0 < c = omega arith in
-    let is = passed (in_ranges wide_ranges c) (is_wide (kind c)) (are-wide c (omega arith)) (in-first 0x4000 0x9FFF c [] l m) in
-    ap (max 1) (columns-high c high ∙ wide-columns c (kind c) is)
+pub narrow-length : (c : ℕ) → is_narrow_lead (lead_byte c) ≡ true → 128 ≤ lead_byte c → length (encode_utf8 c) ≡ 2
+narrow-length c h high =
+    let lead = lead_byte c in
+    let range : (0xC3 ≤ lead) × (lead ≤ 0xD1) = grind (arith, nat_tests) in
+    let ends = two-led c lead (led c) (omega arith) (omega arith) in
+    let low : 128 ≤ c = omega (arith, ends) in
+    let few : c < 2048 = omega (arith, ends) in
+    let is : len_utf8 c ≡ 2 = grind (arith, nat_tests) in
+    length-encode c ∙ is
+
+pub wide-length : (c : ℕ) → is_wide_lead (lead_byte c) ≡ true → length (encode_utf8 c) ≡ 3
+wide-length c h =
+    let lead = lead_byte c in
+    let range : (0xE4 ≤ lead) × (lead ≤ 0xE9) = grind (arith, nat_tests) in
+    let ends = three-led c lead (led c) (omega arith) (omega arith) in
+    let low : 2048 ≤ c = omega (arith, ends) in
+    let few : c < 65536 = omega (arith, ends) in
+    let is : len_utf8 c ≡ 3 = grind (arith, nat_tests) in
+    length-encode c ∙ is
+
+-- ---- the first character of a text
+record HasFirst (text : List ℕ) : Type 0 where
+  first : ℕ
+  after : List ℕ
+  parts : text ≡ encode_utf8 first ++ after
+
+first-of : (text cs : List ℕ) → chars text ≡ cs → IsUtf8 text → 0 < length text → HasFirst text
+first-of text [] e u some = absurd (omega (arith, ap length (sym (encodes-chars text u) ∙ ap encode_utf8_all e)))
+first-of text (c ∷ cs) e u some = record { first = c; after = encode_utf8_all cs; parts = sym (encodes-chars text u) ∙ ap encode_utf8_all e }
+
+-- what is split off by its first byte
+pub record IsSplitLetter (text : List ℕ) (size columns : ℕ) : Type 0 where
+  pub at : IsCharBoundary text size
+  pub begins : BeginsBy (λ c. IsLetter c columns) text (drop size text)
+
+pub letter-split : (text : List ℕ) (size columns : ℕ) → IsUtf8 text → 0 < length text
+    → ((c : ℕ) → get_or text 0 0 ≡ lead_byte c → IsLetter c columns × (length (encode_utf8 c) ≡ size)) → IsSplitLetter text size columns
+letter-split text size columns u some h =
+    let f = first-of text (chars text) refl u some in
+    let own = h f.first (ap (λ bs. get_or bs 0 0) f.parts ∙ lead-here f.first f.after) in
+    let rest = IsUtf8-past_char text f.after f.first u f.parts in
+    let back : drop size text ≡ f.after = ap (drop size) f.parts ∙ drop_at (encode_utf8 f.first) f.after size own.1 in
+    record {
+      at = subst (IsCharBoundary text) own.1 (IsCharBoundary-at_seam text (encode_utf8 f.first) f.after f.parts rest);
+      begins = subst (BeginsBy (λ c. IsLetter c columns) text) (sym back) record {
+        first = f.first;
+        is = own.0;
+        parts = f.parts;
+        shorter = omega (arith, ap length f.parts, length-append (encode_utf8 f.first) f.after, length-encode f.first, len_utf8_bounds f.first);
+        characters = chars_past_char text f.after f.first u f.parts;
+      };
+    }
+
+pub letter-count : (columns : ℕ) (text after : List ℕ) → BeginsBy (λ c. IsLetter c columns) text after → BeginsBy (λ c. columns ≡ char_count c) text after
+letter-count columns text after b = record {
+  first = b.first;
+  is = let e = b.is.columns in let some = b.is.some in omega arith;
+  parts = b.parts;
+  shorter = b.shorter;
+  characters = b.characters;
+}
+
+-- a line feed is its own first byte
+pub feed-lead : (P : ℕ → Type 0) (text after : List ℕ) → (b : BeginsBy P text after) → get_or text 0 0 ≡ 10 → b.first ≡ 10
+feed-lead P text after b h =
+    let e : lead_byte b.first ≡ 10 = sym (ap (λ bs. get_or bs 0 0) b.parts ∙ lead-here b.first after) ∙ h in
+    sym (ascii-led b.first (lead_byte b.first) (led b.first) (omega arith)) ∙ e
+
+pub lead-feed : (P : ℕ → Type 0) (text after : List ℕ) → (b : BeginsBy P text after) → b.first ≡ 10 → get_or text 0 0 ≡ 10
+lead-feed P text after b h =
+    ap (λ bs. get_or bs 0 0) b.parts ∙ lead-here b.first after ∙ ap lead_byte h ∙ ap (λ bs. get_or bs 0 0) (encode_ascii 10 (lit< tt))

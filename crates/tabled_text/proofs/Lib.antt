@@ -1,4 +1,3 @@
-pub mod AsciiLines
 pub mod Beside
 pub mod Blocks
 pub mod BoundLemmas

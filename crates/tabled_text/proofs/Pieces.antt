@@ -2,21 +2,24 @@
 use Rattle.std.proofs.Common.{◌≡◌, ℕ, ◌+◌, ◌<◌, ◌≤◌, Bool, true, false, cond, max, nat_le, List, [], ◌∷◌, ◌++◌, length, take, drop, map, refl, sym, ap, subst, ◌∙◌, arith, chars, encode_utf8, encode_utf8_all, replicate, ◌-◌, All}
 use Rattle.std.specs.Int.{is_in_range}
 use Rattle.std.specs.List.{list_all}
-use Rattle.std.specs.Str.{IsAscii}
+use Rattle.std.specs.Str.{IsAscii, IsUtf8}
 use Rattle.std.proofs.lemmas.Bool.{and_parts, le-leb}
 use Rattle.std.proofs.lemmas.Bool.Decides.{nat_tests}
 use Rattle.std.proofs.lemmas.List.{append-nil, take-append-drop, length-take-le, length-drop}
 use Rattle.std.proofs.lemmas.List.Elements.{All-cons, All-nil}
 use Rattle.std.proofs.lemmas.List.Folds.{list_all-append}
 use Rattle.std.proofs.lemmas.List.Sums.{sum_by-cons}
-use Rattle.std.proofs.lemmas.Str.{IsUtf8-from_ascii, chars-IsAscii, encodes-IsAscii, encodes-append}
+use Rattle.std.proofs.lemmas.Str.{IsUtf8-append, IsUtf8-encode, IsUtf8-from_ascii, IsUtf8-nil, IsUtf8-past_char, chars-IsAscii, chars-append, chars-nil}
+use Rattle.std.proofs.lemmas.Str.{encodes-IsAscii, encodes-append, encodes-chars}
 use Rattle.std.proofs.lemmas.Str.Ascii.{IsAscii-nil, IsAscii-cons}
 use Rattle.tabled_text.specs.Cut.{IsParted, IsReached, last_line, last_of}
 use Rattle.tabled_text.specs.Measure.{char_count, count_of, lines_of}
-use Rattle.tabled_text.specs.Units.{unit_of_char, units}
-use Rattle.tabled_text.specs.Walk.{append_all, append_used, pending, used_after}
-use Rattle.tabled_text.specs.Wrapping.{needed, shown}
-use Rattle.tabled_text.proofs.CutLemmas.{IsParted-full, Walked}
+use Rattle.tabled_text.specs.Units.{TextUnit, unit_of_char, units}
+use Rattle.tabled_text.specs.Walk.{IsPiece, append_all, append_used, pending, used_after}
+use Rattle.tabled_text.specs.Wrapping.{needed}
+use Rattle.tabled_text.specs.Letters.{BeginsBy}
+use Rattle.tabled_text.proofs.CountBound.{count-some}
+use Rattle.tabled_text.proofs.CutLemmas.{IsParted-full, IsScalar-first, Walked, chars-push, count_of-push, more_bytes}
 use Rattle.tabled_text.proofs.Filling.{append_all-append, append_all-breaks, append_text-fits}
 use Rattle.tabled_text.proofs.LetterLemmas.{columns-printable}
 use Rattle.tabled_text.proofs.PlainLines.{one_line, plain_line-printable}
@@ -42,32 +45,32 @@ parts-printable n bytes h =
     and_parts (is_printable (take n bytes)) (is_printable (drop n bytes))
     (sym (list_all-append (is_in_range 0x20 0x7E) (take n bytes) (drop n bytes)) ∙ ap is_printable (take-append-drop n bytes) ∙ h)
 
--- a character of one column takes one
-needed-one : (n c : ℕ) → 1 ≤ n → char_count c ≡ 1 → needed n (unit_of_char c) ≡ 1
-needed-one n c some one = ap (λ k. cond (nat_le k n) k 1) one ∙ ap (λ b. cond b 1 1) (le-leb 1 n some)
+pub count_of-printable : (cs : List ℕ) → is_printable cs ≡ true → count_of cs ≡ length cs
+count_of-printable [] h = refl
+count_of-printable (c ∷ cs) h =
+    let parts = and_parts (is_in_range 0x20 0x7E c) (is_printable cs) h in
+    omega (arith, sum_by-cons char_count c cs, count-printable c parts.0, count_of-printable cs parts.1)
 
-shown-one : (n used c : ℕ) → 1 ≤ n → char_count c ≡ 1 → shown n used (unit_of_char c) ≡ c ∷ []
-shown-one n used c some one = ap (λ b. cond b (c ∷ []) (replicate (n - used) 0xFFFD)) (ap (λ k. nat_le k n) one ∙ le-leb 1 n some)
-
+-- characters that count at most the columns left are written as they are
 pub record Fitted (n used : ℕ) (cs : List ℕ) : Type 0 where
   pub text : append_all n used (map unit_of_char cs) ≡ cs
-  pub used_is : used_after n used (map unit_of_char cs) ≡ used + length cs
+  pub used_is : used_after n used (map unit_of_char cs) ≡ used + count_of cs
 
-pub fitted : (n used : ℕ) (cs : List ℕ) → is_printable cs ≡ true → used + length cs ≤ n → Fitted n used cs
-fitted n used [] h le = record { text = refl; used_is = omega arith }
-fitted n used (c ∷ cs) h le =
-    let parts = and_parts (is_in_range 0x20 0x7E c) (is_printable cs) h in
-    let one = count-printable c parts.0 in
-    let some : 1 ≤ n = omega arith in
-    let need = needed-one n c some one in
+pub fitted : (n used : ℕ) (cs : List ℕ) → count_of cs ≤ n - used → Fitted n used cs
+fitted n used [] le = record { text = refl; used_is = omega arith }
+fitted n used (c ∷ cs) le =
+    let sum = sum_by-cons char_count c cs in
+    let some = count-some c in
+    let own = le-leb (char_count c) n (omega arith) in
+    let need : needed n (unit_of_char c) ≡ char_count c = ap (λ b. cond b (char_count c) 1) own in
     let put = append_text-fits n used (unit_of_char c) (le-leb (used + needed n (unit_of_char c)) n (omega (arith, need))) in
-    let next : append_used n used (unit_of_char c) ≡ used + 1 = put.1 ∙ ap (λ k. used + k) one in
-    let more = fitted n (used + 1) cs parts.1 (omega arith) in
-    let far : used + 1 + length cs ≡ used + length (c ∷ cs) = omega arith in
+    let more = fitted n (used + char_count c) cs (omega arith) in
+    let far : used + char_count c + count_of cs ≡ used + count_of (c ∷ cs) = omega arith in
     record {
-      text = ap (λ l. l ++ append_all n (append_used n used (unit_of_char c)) (map unit_of_char cs)) (put.0 ∙ shown-one n used c some one)
-          ∙ ap (λ k. c ∷ append_all n k (map unit_of_char cs)) next ∙ ap (λ l. c ∷ l) more.text;
-      used_is = ap (λ k. used_after n k (map unit_of_char cs)) next ∙ more.used_is ∙ far;
+      text = ap (λ l. l ++ append_all n (append_used n used (unit_of_char c)) (map unit_of_char cs))
+          (put.0 ∙ ap (λ b. cond b (c ∷ []) (replicate (n - used) 0xFFFD)) own)
+          ∙ ap (λ k. c ∷ append_all n k (map unit_of_char cs)) put.1 ∙ ap (λ l. c ∷ l) more.text;
+      used_is = ap (λ k. used_after n k (map unit_of_char cs)) put.1 ∙ more.used_is ∙ far;
     }
 
 -- a line begins after a full one
@@ -75,13 +78,75 @@ broken-one : (n : ℕ) (cs : List ℕ) → 0 < n → is_printable cs ≡ true �
     → append_all n n (map unit_of_char cs) ≡ 10 ∷ append_all n 0 (map unit_of_char cs)
 broken-one n [] some h l = absurd (omega arith)
 broken-one n (c ∷ cs) some h l =
-    let parts = and_parts (is_in_range 0x20 0x7E c) (is_printable cs) h in
-    let need = needed-one n c some (count-printable c parts.0) in
+    let one = count-printable c (and_parts (is_in_range 0x20 0x7E c) (is_printable cs) h).0 in
+    let need : needed n (unit_of_char c) ≡ 1 = ap (λ k. cond (nat_le k n) k 1) one ∙ ap (λ b. cond b 1 1) (le-leb 1 n some) in
     append_all-breaks n n (unit_of_char c) (map unit_of_char cs) some (omega (arith, need))
 
 map-append : (xs ys : List ℕ) → map unit_of_char (xs ++ ys) ≡ map unit_of_char xs ++ map unit_of_char ys
 map-append [] ys = refl
 map-append (x ∷ xs) ys = ap (λ l. unit_of_char x ∷ l) (map-append xs ys)
+
+used_after-append : (n used : ℕ) (xs ys : List TextUnit) → used_after n used (xs ++ ys) ≡ used_after n (used_after n used xs) ys
+used_after-append n used [] ys = refl
+used_after-append n used (x ∷ xs) ys = used_after-append n (append_used n used x) xs ys
+
+-- ---- a piece of a text
+
+-- a loop has taken a piece off the text
+pub record Taken (n : ℕ) (text : List ℕ) (columns : ℕ) (rest : List ℕ) : Type 0 where
+  pub front : List ℕ
+  pub is : IsPiece n text front columns rest
+
+pub Taken-start : (n : ℕ) (text : List ℕ) → IsUtf8 text → Taken n text 0 text
+Taken-start n text u = record {
+  front = [];
+  is = record { parts = refl; utf8 = IsUtf8-nil; rest_utf8 = u; counted = ap count_of (sym chars-nil); fits = omega arith };
+}
+
+pub Taken-more : (n : ℕ) (text : List ℕ) (columns count : ℕ) (rest after : List ℕ) → Taken n text columns rest
+    → BeginsBy (λ c. count ≡ char_count c) rest after → columns + count ≤ n → Taken n text (columns + count) after
+Taken-more n text columns count rest after t b le =
+    let p = t.is in
+    let c = b.first in
+    let s = IsScalar-first rest c (chars after) p.rest_utf8 b.characters in
+    record {
+      front = t.front ++ encode_utf8 c;
+      is = record {
+        parts = more_bytes text t.front rest after c p.parts b.parts;
+        utf8 = IsUtf8-append t.front (encode_utf8 c) p.utf8 (IsUtf8-encode c s);
+        rest_utf8 = IsUtf8-past_char rest after c p.rest_utf8 b.parts;
+        counted = omega (arith, p.counted, b.is, ap count_of (chars-push t.front c p.utf8 s), count_of-push (chars t.front) c);
+        fits = le;
+      };
+    }
+
+-- what is used and written of a piece and of what follows
+module _ (n m used columns : ℕ) (text piece rest : List ℕ) (p : IsPiece m text piece columns rest) (room : m ≤ n - used) where
+  spelled-text : map unit_of_char (chars text) ≡ map unit_of_char (chars piece) ++ map unit_of_char (chars rest)
+  spelled-text = ap (λ l. map unit_of_char (chars l)) p.parts ∙ ap (map unit_of_char) (chars-append piece rest p.utf8) ∙ map-append (chars piece) (chars rest)
+
+  fits-piece : Fitted n used (chars piece)
+  fits-piece = let e = p.counted in let le = p.fits in fitted n used (chars piece) (omega arith)
+
+  used-piece : used_after n used (map unit_of_char (chars piece)) ≡ used + columns
+  used-piece = fits-piece.used_is ∙ ap (λ k. used + k) (sym p.counted)
+
+  pub piece-used : used_after n used (map unit_of_char (chars text)) ≡ used_after n (used + columns) (map unit_of_char (chars rest))
+  piece-used =
+      ap (used_after n used) spelled-text ∙ used_after-append n used (map unit_of_char (chars piece)) (map unit_of_char (chars rest))
+      ∙ ap (λ k. used_after n k (map unit_of_char (chars rest))) used-piece
+
+  pub piece-written : piece ++ encode_utf8_all (append_all n (used + columns) (map unit_of_char (chars rest)))
+      ≡ encode_utf8_all (append_all n used (map unit_of_char (chars text)))
+  piece-written =
+      let next = append_all n (used + columns) (map unit_of_char (chars rest)) in
+      let whole : append_all n used (map unit_of_char (chars text)) ≡ chars piece ++ next =
+      ap (append_all n used) spelled-text ∙ append_all-append n used (map unit_of_char (chars piece)) (map unit_of_char (chars rest))
+      ∙ ap (λ l. l ++ append_all n (used_after n used (map unit_of_char (chars piece))) (map unit_of_char (chars rest))) fits-piece.text
+      ∙ ap (λ k. chars piece ++ append_all n k (map unit_of_char (chars rest))) used-piece in
+      ap (λ l. l ++ encode_utf8_all next) (sym (encodes-chars piece p.utf8)) ∙ sym (encodes-append (chars piece) next) ∙ ap encode_utf8_all (sym whole)
+
+-- ---- printable ASCII in pieces
 
 pieces-more : (n : ℕ) (cs : List ℕ) → 0 < n → is_printable cs ≡ true → n < length cs
     → append_all n 0 (map unit_of_char cs) ≡ take n cs ++ 10 ∷ append_all n 0 (map unit_of_char (drop n cs))
@@ -90,7 +155,8 @@ pieces-more n cs some h long =
     let back = drop n cs in
     let parts = parts-printable n cs h in
     let len : length front ≡ n = length-take-le n cs (omega arith) in
-    let fit = fitted n 0 front parts.0 (omega arith) in
+    let count = count_of-printable front parts.0 in
+    let fit = fitted n 0 front (omega arith) in
     let full : used_after n 0 (map unit_of_char front) ≡ n = let e = fit.used_is in omega arith in
     let left : 0 < length back = omega (arith, length-drop n cs) in
     ap (λ l. append_all n 0 (map unit_of_char l)) (sym (take-append-drop n cs))
@@ -127,12 +193,6 @@ pending-printable n words text h =
 
 printable-line : (cs : List ℕ) → is_printable cs ≡ true → lines_of cs ≡ cs ∷ []
 printable-line cs h = subst (λ l. lines_of l ≡ l ∷ []) (chars-printable cs h) (one_line (chars cs) (plain_line-printable cs h).characters)
-
-count_of-printable : (cs : List ℕ) → is_printable cs ≡ true → count_of cs ≡ length cs
-count_of-printable [] h = refl
-count_of-printable (c ∷ cs) h =
-    let parts = and_parts (is_in_range 0x20 0x7E c) (is_printable cs) h in
-    omega (arith, sum_by-cons char_count c cs, count-printable c parts.0, count_of-printable cs parts.1)
 
 last-printable : (cs : List ℕ) → is_printable cs ≡ true → count_of (last_line cs) ≡ length cs
 last-printable cs h = ap (λ ls. count_of (last_of ls)) (printable-line cs h) ∙ count_of-printable cs h

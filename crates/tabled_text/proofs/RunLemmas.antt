@@ -1,7 +1,7 @@
 -- Runs of bytes that pass a test.
-use Rattle.std.proofs.Common.{◌≡◌, ℕ, zero, suc, ◌+◌, ◌-◌, ◌<◌, ◌≤◌, ◌&&◌, Bool, true, false, List, [], ◌∷◌, length, drop, get_or, refl, sym, ap, ◌∙◌, arith}
+use Rattle.std.proofs.Common.{◌≡◌, ℕ, zero, suc, ◌+◌, ◌-◌, ◌<◌, ◌≤◌, ◌&&◌, Bool, true, false, List, [], ◌∷◌, length, take, drop, get_or, refl, sym, ap, ◌∙◌, arith}
 use Rattle.std.specs.List.{list_all}
-use Rattle.std.proofs.lemmas.List.{drop-drop, get_or-drop, length-drop}
+use Rattle.std.proofs.lemmas.List.{drop-drop, get_or-drop, get_or-take, length-drop, length-take-le}
 use Rattle.std.proofs.lemmas.List.Folds.{list_all_at}
 use Rattle.std.proofs.lemmas.Bool.{and_parts}
 
@@ -34,3 +34,10 @@ pub all-later : (test : ℕ → Bool) (xs : List ℕ) (earlier start : ℕ) → 
 all-later test xs earlier start o h =
     let place : earlier + (start - earlier) ≡ start = omega arith in
     ap (list_all test) (sym (drop-drop (start - earlier) earlier xs ∙ ap (λ n. drop n xs) place)) ∙ all-drop test (start - earlier) (drop earlier xs) h
+
+-- the bytes before the end of a run pass
+pub run-front : (test : ℕ → Bool) (xs : List ℕ) (end : ℕ) → end ≤ length xs → ((k : ℕ) → 0 ≤ k → k < end → test (get_or xs k 0) ≡ true)
+    → list_all test (take end xs) ≡ true
+run-front test xs end o run =
+    let len = length-take-le end xs o in
+    all-of test (take end xs) (λ k l. let within : k < end = omega arith in ap test (get_or-take end xs k 0 within) ∙ run k (omega arith) within)

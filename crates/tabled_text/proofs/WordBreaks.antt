@@ -14,7 +14,7 @@ use Rattle.tabled_text.specs.Units.{TextUnit, space, unit_of_char, units_of_word
 use Rattle.tabled_text.specs.Walk.{BreaksAt, append_all, words_in}
 use Rattle.tabled_text.specs.Wrapping.{needed}
 use Rattle.tabled_text.proofs.Filling.{append_all-breaks}
-use Rattle.tabled_text.proofs.Pieces.{IsAscii-printable, chars-printable, fitted, is_printable, parts-printable}
+use Rattle.tabled_text.proofs.Pieces.{IsAscii-printable, chars-printable, count_of-printable, fitted, is_printable, parts-printable}
 use Rattle.tabled_text.proofs.PlainLines.{plain_line-printable}
 use Rattle.tabled_text.proofs.Searched.{all-front, whole-front, words-split}
 use Rattle.tabled_text.proofs.WrapKept.{line_kept, line_kept-before}
@@ -156,7 +156,7 @@ one-word n cs h none =
     elim (cases_lt n (length cs)) [
       | inl wide ↦ ap (append_all n 0)
           (sym (ap (units_of_words n) (slice_split_none (λ b. eqb b 32) cs none) ∙ wide-word n cs (omega arith) (omega arith)))
-      | inr le ↦ (fitted n 0 cs h (omega arith)).text ∙ sym (line_kept n true cs (additive-printable cs h) (omega arith))
+      | inr le ↦ (fitted n 0 cs (omega (arith, count_of-printable cs h))).text ∙ sym (line_kept n true cs (additive-printable cs h) (omega arith))
     ]
 
 -- ---- what is written

@@ -1,5 +1,5 @@
 -- Letters that take the same columns in every text, and how their first byte determines these.
-use Rattle.std.specs.Prelude.{◌≡◌, ◌≤◌, ◌||◌, ℕ, Bool, true, encode_utf8}
+use Rattle.std.specs.Prelude.{◌≡◌, ◌<◌, ◌≤◌, ◌||◌, ◌∷◌, ◌++◌, ℕ, Bool, true, List, chars, encode_utf8, length}
 use Rattle.std.specs.Int.{is_in_range}
 use Rattle.std.specs.List.{slice_index_or}
 use Rattle.unicode_width.proofs.Rules.{is_simple}
@@ -22,12 +22,13 @@ is_wide_lead lead = is_in_range 0xE4 0xE9 lead
 pub record IsLetter (c n : ℕ) : Type 0 where
   pub simple : is_simple c ≡ true
   pub columns : char_columns c ≡ n
+  pub some : 0 < n
   pub few : n ≤ 2
 
--- a character from U+00C0 to U+02FF or from U+0380 to U+047F, which takes one column
-abbrev pub is_narrow_letter : ℕ → Bool
-is_narrow_letter c = is_in_range 0xC0 0x2FF c || is_in_range 0x380 0x47F c
-
--- a character from U+4000 to U+9FFF, which takes two
-abbrev pub is_wide_letter : ℕ → Bool
-is_wide_letter c = is_in_range 0x4000 0x9FFF c
+-- a text, given by its bytes, is a character for which P holds and then `after`
+pub record BeginsBy (P : ℕ → Type 0) (text after : List ℕ) : Type 0 where
+  pub first : ℕ
+  pub is : P first
+  pub parts : text ≡ encode_utf8 first ++ after
+  pub shorter : length after < length text
+  pub characters : chars text ≡ first ∷ chars after

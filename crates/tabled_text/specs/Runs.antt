@@ -16,10 +16,14 @@ pub record EndsRun (first last : ℕ) (bytes : List ℕ) (start place : ℕ) : T
   pub passed : LieWithin first last bytes start place
   pub stops : place < length bytes → is_in_range first last (slice_index bytes place) ≡ false
 
+-- no byte below `end` equals `byte`
+abbrev pub IsMissing : (byte : ℕ) (bytes : List ℕ) (end : ℕ) → Type 0
+IsMissing byte bytes end = (k : ℕ) → k < end → slice_index bytes k ≡ byte → ⊥
+
 -- `place` is the index of the first byte that equals `byte`, or else the length
 pub record IsFirstAt (byte : ℕ) (bytes : List ℕ) (place : ℕ) : Type 0 where
   pub end : place ≤ length bytes
-  pub before : (k : ℕ) → k < place → slice_index bytes k ≡ byte → ⊥
+  pub before : IsMissing byte bytes place
   pub found : place < length bytes → slice_index bytes place ≡ byte
 
 -- what is before and after the first byte that equals `byte`: all and nothing if there is none

@@ -2,7 +2,8 @@
 use Rattle.std.specs.Prelude.{◌≡◌, ℕ, ◌+◌, ◌<◌, ◌≤◌, Bool, true, false, ◌||◌, nat_le, List, [], ◌∷◌, ◌++◌, chars, length, take, drop, Option, Some, None, if◌then◌else◌}
 use Rattle.std.specs.Borrow.{Bor}
 use Rattle.std.specs.List.{list_all}
-use Rattle.tabled_text.specs.Measure.{columns_of}
+use Rattle.std.specs.Str.{IsUtf8}
+use Rattle.tabled_text.specs.Measure.{columns_of, count_of}
 use Rattle.tabled_text.specs.OldText.{finds_room}
 use Rattle.tabled_text.specs.Units.{TextUnit, units, units_of_words, words_of}
 use Rattle.tabled_text.specs.Wrapping.{needed, shown}
@@ -54,3 +55,11 @@ pub record BreaksAt (n : ℕ) (line : List ℕ) (k : ℕ) : Type 0 where
   pub some : 0 < k
   pub end : k ≤ length line
   pub rest : append_all n 0 (units_of_words n (words_of line)) ≡ take k line ++ 10 ∷ append_all n 0 (units_of_words n (words_of (drop k line)))
+
+-- a text begins with `piece`, whose characters count `columns`, at most n, and `rest` follows it
+pub record IsPiece (n : ℕ) (text piece : List ℕ) (columns : ℕ) (rest : List ℕ) : Type 0 where
+  pub parts : text ≡ piece ++ rest
+  pub utf8 : IsUtf8 piece
+  pub rest_utf8 : IsUtf8 rest
+  pub counted : columns ≡ count_of (chars piece)
+  pub fits : columns ≤ n

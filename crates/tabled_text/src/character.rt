@@ -1,8 +1,9 @@
 //! What a character counts, and whether it is plain, additive or a separator.
 ghost use Rattle.std.specs.Prelude.{◌≡◌, ◌<◌, ◌≤◌, ◌∷◌, [], ◌++◌, chars, encode_utf8, length};
-ghost use Rattle.std.specs.Prelude.{MatchOption, ◌↔◌};
+ghost use Rattle.std.specs.Prelude.{MatchOption, ◌↔◌, IfSome, ℕ};
 ghost use Rattle.std.specs.Prelude.{IsTrue};
-ghost use Rattle.tabled_text.specs.Letters.{is_narrow_letter, is_wide_letter};
+ghost use Rattle.tabled_text.specs.Letters.{BeginsBy, IsLetter, is_narrow_lead, is_wide_lead};
+ghost use Rattle.tabled_text.specs.Letters.{lead_byte};
 ghost use Rattle.tabled_text.specs.Measure.{char_count};
 ghost use Rattle.std.specs.List.{list_all};
 ghost use Rattle.tabled_text.specs.Plain.{is_listed, is_drawn, has_plain_width, is_plain_character};
@@ -14,32 +15,12 @@ ghost use Rattle.tabled_text.specs.Separators.{is_keycap_base};
 
 use unicode_width::UnicodeWidthChar;
 
-/// Whether a character is from U+00C0 to U+02FF or from U+0380 to U+047F. Each takes one column.
-fn is_narrow_letter(c: char) -> bool
-    ensures { result ≡ is_narrow_letter c }
-{
-    matches!(c, '\u{C0}'..='\u{2FF}' | '\u{380}'..='\u{47F}')
-}
-
-/// Whether a character is from U+4000 to U+9FFF. Each takes two columns.
-fn is_wide_letter(c: char) -> bool
-    ensures { result ≡ is_wide_letter c }
-{
-    matches!(c, '\u{4000}'..='\u{9FFF}')
-}
-
 /// Returns what a character counts in cutting and wrapping: its columns, at least 1.
 pub(crate) fn char_count(c: char) -> usize
     ensures value { result ≡ char_count c }
     ensures low { 1 ≤ result }
     ensures high { result ≤ 3 }
 {
-    if is_narrow_letter(c) {
-        return 1;
-    }
-    if is_wide_letter(c) {
-        return 2;
-    }
     c.width().unwrap_or(0).max(1)
 }
 
@@ -51,6 +32,70 @@ pub(crate) fn split_first(text: &str) -> Option<(char, &str)>
     let mut chars = text.chars();
     let first = chars.next()?;
     Some((first, chars.as_str()))
+}
+
+/// Whether a byte is printable ASCII, or begins a character from U+00C0 to U+02FF or from U+0380 to
+/// U+047F.
+#[inline(always)]
+fn is_narrow_lead(lead: u8) -> bool
+    ensures { result ≡ is_narrow_lead lead }
+{
+    matches!(lead, b' '..=b'~' | 0xC3..=0xCB | 0xCE..=0xD1)
+}
+
+/// Whether a byte begins a character from U+4000 to U+9FFF.
+#[inline(always)]
+fn is_wide_lead(lead: u8) -> bool
+    ensures { result ≡ is_wide_lead lead }
+{
+    matches!(lead, 0xE4..=0xE9)
+}
+
+/// Returns the bytes and the columns of a character by its first byte: 1 column for printable ASCII
+/// and the ranges of Latin, Greek and Cyrillic letters, 2 for that of ideographs, else `None`.
+#[inline(always)]
+fn letter_size(lead: u8) -> Option<(usize, usize)>
+    ensures { (c : ℕ) → lead ≡ lead_byte c → IfSome result (λ size. IsLetter c size.1
+        × (length (encode_utf8 c) ≡ size.0)) }
+{
+    if is_wide_lead(lead) {
+        return Some((3, 2));
+    }
+    if !is_narrow_lead(lead) {
+        return None;
+    }
+    if lead < 0x80 {
+        return Some((1, 1));
+    }
+    Some((2, 1))
+}
+
+/// Returns the columns of a text's first character and the rest, or `None` if the first byte isn't
+/// enough or there is none.
+#[inline(always)]
+pub(crate) fn split_letter(text: &str) -> Option<(usize, &str)>
+    ensures { IfSome result (λ x. BeginsBy (λ c. IsLetter c x.0) text.now x.1.now) }
+{
+    if text.is_empty() {
+        return None;
+    }
+    let size = letter_size(text.as_bytes()[0])?;
+    let (_, after) = text.split_at(size.0);
+    Some((size.1, after))
+}
+
+/// Returns what the first character of a text counts, and the rest, or `None` if the text is empty.
+/// Letters aren't decoded.
+#[inline(always)]
+pub(crate) fn split_count(text: &str) -> Option<(usize, &str)>
+    ensures { MatchOption result (chars text.now ≡ [])
+        (λ x. BeginsBy (λ c. x.0 ≡ char_count c) text.now x.1.now) }
+{
+    if let Some(letter) = split_letter(text) {
+        return Some(letter);
+    }
+    let (c, after) = split_first(text)?;
+    Some((char_count(c), after))
 }
 
 fn is_listed(c: char) -> bool

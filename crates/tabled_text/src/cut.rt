@@ -5,7 +5,7 @@ ghost use Rattle.std.specs.Str.{IsCharBoundary};
 ghost use Rattle.std.specs.Cow.{cow_str_bytes, IsOwnedStr};
 ghost use Rattle.tabled_text.specs.Cut.{IsCut, IsSplit, IsParted, NeedsFill};
 
-use crate::character::{char_count, split_first};
+use crate::character::split_count;
 use crate::runs::is_run;
 use crate::sink::append_copies;
 use std::alloc::{AllocError, Global};
@@ -31,14 +31,13 @@ fn part_by_chars(text: &str, n: usize) -> Parts<'_>
 {
     let mut rest = text;
     let mut columns = 0;
-    while let Some((c, after)) = split_first(rest) {
+    'chars: while let Some((count, after)) = split_count(rest) {
         if columns == n {
             break;
         }
-        if c == '\n' {
+        if rest.as_bytes()[0] == b'\n' {
             columns = 0;
         } else {
-            let count = char_count(c);
             if count > n - columns {
                 let (front, _) = text.split_at(text.len() - rest.len());
                 return Parts {

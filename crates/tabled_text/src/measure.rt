@@ -1,15 +1,16 @@
 //! The columns and lines of a text, and an iterator over its lines.
-ghost use Rattle.std.specs.Prelude.{◌≡◌, ◌*◌, ◌≤◌, drop, length, ℕ, IfSome, ◌∷◌};
+ghost use Rattle.std.specs.Prelude.{◌≡◌, ◌*◌, ◌<◌, ◌≤◌, drop, length, map, IfSome, ◌∷◌};
+ghost use Rattle.std.specs.Prelude.{IsUtf8};
 ghost use Rattle.std.specs.Int.{is_in_range};
 ghost use Rattle.std.specs.List.{list_all};
 ghost use Rattle.std.specs.Str.{IsCharBoundary};
 ghost use Rattle.tabled_text.specs.Measure.{lines_of, line_columns, text_columns};
-ghost use Rattle.tabled_text.specs.Letters.{IsLetter, is_narrow_lead, is_wide_lead, lead_byte};
 ghost use Rattle.std.specs.Iterator.{YieldsFirstBy, item_count};
 ghost use Rattle.tabled_text.specs.Lines.{lines_in, lines_left};
+ghost use Rattle.tabled_text.specs.Runs.{EndsRun};
 
-use crate::character::split_first;
-use crate::runs::{BLOCK, is_run, split_at_byte};
+use crate::character::split_letter;
+use crate::runs::{BLOCK, is_run, run_end, split_at_byte};
 use unicode_width::UnicodeWidthStr;
 
 /// Returns the columns of a line, as `unicode_width` counts them. The text is taken as one line,
@@ -21,6 +22,14 @@ pub fn line_width(line: &str) -> usize
     if is_printable(line) {
         return line.len();
     }
+    mixed_width(line)
+}
+
+/// Returns the columns of a line that isn't printable ASCII alone.
+fn mixed_width(line: &str) -> usize
+    ensures value { result ≡ line_columns line.now }
+    ensures bound { result ≤ 2 * length line.now }
+{
     match letters_width(line) {
         Some(columns) => columns,
         None => line.width(),
@@ -61,70 +70,47 @@ fn is_printable_tail(bytes: &[u8], start: usize) -> bool
     is_run(bytes, earlier, b' ', b'~') || is_run(bytes, start, b' ', b'~')
 }
 
-/// Returns the columns and the number of lines of a text, line by line.
-fn measures_of_lines(text: &str) -> (usize, usize)
-    ensures columns { result.0 ≡ text_columns text.now }
-    ensures lines { result.1 ≡ length (lines_of text.now) }
+/// Returns the columns of the first line of a text, and the rest after its line feed, if it has one.
+/// `run` is the end of the printable ASCII that the text begins with.
+fn measure_line(text: &str, run: usize) -> (usize, Option<&str>)
+    requires { EndsRun 0x20 0x7E text.now 0 run }
+    ensures columns { map line_columns (lines_of text.now)
+        ≡ result.0 ∷ map line_columns (lines_in result.1) }
     ensures bound { result.0 ≤ 2 * length text.now }
+    ensures after { IfSome result.1 (λ after. IsUtf8 after.now
+        × (length after.now < length text.now)) }
 {
-    let mut widest: usize = 0;
-    let mut count = 0;
-    'lines: for line in lines(text) {
-        widest = widest.max(line_width(line));
-        count += 1;
+    let (line, after) = split_at_byte(text, run, b'\n');
+    if line.len() == run {
+        return (run, after);
     }
-    (widest, count)
+    (mixed_width(line), after)
 }
 
-#[inline(always)]
-fn is_printable_byte(byte: u8) -> bool
-    ensures { result ≡ is_in_range 0x20 0x7E byte }
-{
-    matches!(byte, b' '..=b'~')
-}
-
-/// Returns the columns and the number of lines of printable ASCII, or `None` if another byte than a
-/// line feed is in the text.
-#[inline(always)]
-fn measures_of_ascii(text: &str) -> Option<(usize, usize)>
-    ensures columns { IfSome result (λ measures. measures.0 ≡ text_columns text.now) }
-    ensures lines { IfSome result (λ measures. measures.1 ≡ length (lines_of text.now)) }
-    ensures bound { IfSome result (λ measures. measures.0 ≤ 2 * length text.now) }
-{
-    let mut widest: usize = 0;
-    let mut columns: usize = 0;
-    let mut count: usize = 1;
-    let mut rest = text.as_bytes();
-    'bytes: while let Some((&byte, after)) = rest.split_first() {
-        rest = after;
-        if is_printable_byte(byte) {
-            columns += 1;
-            continue;
-        }
-        if byte != b'\n' {
-            return None;
-        }
-        widest = widest.max(columns);
-        columns = 0;
-        count += 1;
-    }
-    Some((widest.max(columns), count))
-}
-
-/// Returns the columns and the number of lines of any text. A text of one line isn't split.
+/// Returns the columns and the number of lines of a text. `run` is the end of the printable ASCII
+/// that it begins with.
 #[inline(never)]
-fn measures_of_any(text: &str) -> (usize, usize)
+fn measures_of_lines(text: &str, run: usize) -> (usize, usize)
+    requires { EndsRun 0x20 0x7E text.now 0 run }
     ensures columns { result.0 ≡ text_columns text.now }
     ensures lines { result.1 ≡ length (lines_of text.now) }
     ensures bound { result.0 ≤ 2 * length text.now }
 {
-    if let Some(measures) = measures_of_ascii(text) {
-        return measures;
-    }
-    if text.as_bytes().contains(&b'\n') {
-        measures_of_lines(text)
-    } else {
-        (line_width(text), 1)
+    let mut widest: usize = 0;
+    let mut count: usize = 1;
+    let mut rest = text;
+    let mut run = run;
+    'lines: loop {
+        let (columns, after) = measure_line(rest, run);
+        widest = widest.max(columns);
+        match after {
+            None => return (widest, count),
+            Some(next) => {
+                run = run_end(next.as_bytes(), 0, b' ', b'~');
+                rest = next;
+                count += 1;
+            }
+        }
     }
 }
 
@@ -135,10 +121,11 @@ pub fn text_measures(text: &str) -> (usize, usize)
     ensures lines { result.1 ≡ length (lines_of text.now) }
     ensures bound { result.0 ≤ 2 * length text.now }
 {
-    if is_printable(text) {
-        (text.len(), 1)
+    let run = run_end(text.as_bytes(), 0, b' ', b'~');
+    if run == text.len() {
+        (run, 1)
     } else {
-        measures_of_any(text)
+        measures_of_lines(text, run)
     }
 }
 
@@ -153,39 +140,8 @@ pub fn tail_measures(text: &str, start: usize) -> (usize, usize)
     if is_printable_tail(text.as_bytes(), start) {
         (text.len() - start, 1)
     } else {
-        measures_of_any(&text[start..])
-    }
-}
-
-/// Whether a byte is printable ASCII, or begins a character from U+00C0 to U+02FF or from U+0380 to
-/// U+047F.
-#[inline(always)]
-fn is_narrow_lead(lead: u8) -> bool
-    ensures { result ≡ is_narrow_lead lead }
-{
-    matches!(lead, b' '..=b'~' | 0xC3..=0xCB | 0xCE..=0xD1)
-}
-
-/// Whether a byte begins a character from U+4000 to U+9FFF.
-#[inline(always)]
-fn is_wide_lead(lead: u8) -> bool
-    ensures { result ≡ is_wide_lead lead }
-{
-    matches!(lead, 0xE4..=0xE9)
-}
-
-/// Returns the columns of a character by its first byte: 1 for printable ASCII and the ranges of
-/// Latin, Greek and Cyrillic letters, 2 for that of ideographs, else `None`.
-#[inline(always)]
-fn lead_width(lead: u8) -> Option<usize>
-    ensures { (c : ℕ) → lead ≡ lead_byte c → IfSome result (IsLetter c) }
-{
-    if is_narrow_lead(lead) {
-        Some(1)
-    } else if is_wide_lead(lead) {
-        Some(2)
-    } else {
-        None
+        let tail = &text[start..];
+        measures_of_lines(tail, run_end(tail.as_bytes(), 0, b' ', b'~'))
     }
 }
 
@@ -196,8 +152,9 @@ pub(crate) fn letters_width(line: &str) -> Option<usize>
 {
     let mut rest = line;
     let mut columns = 0;
-    'letters: while let Some((_, after)) = split_first(rest) {
-        columns += lead_width(rest.as_bytes()[0])?;
+    'letters: while !rest.is_empty() {
+        let (count, after) = split_letter(rest)?;
+        columns += count;
         rest = after;
     }
     Some(columns)
@@ -221,7 +178,7 @@ pub fn lines(text: &str) -> TextLines<'_>
 pub fn split_line(text: &str) -> (&str, Option<&str>)
     ensures { lines_of text.now ≡ result.0.now ∷ lines_in result.1 }
 {
-    split_at_byte(text, b'\n')
+    split_at_byte(text, 0, b'\n')
 }
 
 impl<'a> Iterator for TextLines<'a> {

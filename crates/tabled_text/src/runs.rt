@@ -4,7 +4,7 @@ ghost use Rattle.std.specs.Prelude.{not, slice_index};
 ghost use Rattle.std.specs.Int.{is_in_range};
 ghost use Rattle.std.specs.List.{list_all};
 ghost use Rattle.std.specs.Simd.Lanes.{chunk, mask_l};
-ghost use Rattle.tabled_text.specs.Runs.{EndsRun, IsFirstAt, IsSplitAt, LieWithin};
+ghost use Rattle.tabled_text.specs.Runs.{EndsRun, IsFirstAt, IsMissing, IsSplitAt, LieWithin};
 
 use std::simd::prelude::*;
 
@@ -110,14 +110,16 @@ pub(crate) fn is_run(bytes: &[u8], from: usize, first: u8, last: u8) -> bool
     run_end(bytes, from, first, last) == bytes.len()
 }
 
-/// Returns the index of the first byte that equals `byte`, or the length if there is none. Passes
-/// bytes that are greater 16 at a time.
+/// Returns the index of the first byte that equals `byte`, or the length if there is none. No byte
+/// before `from` equals it. Passes bytes that are greater 16 at a time.
 #[inline(always)]
-fn byte_index(bytes: &[u8], byte: u8) -> usize
-    requires { byte < 255 }
+fn byte_index(bytes: &[u8], from: usize, byte: u8) -> usize
+    requires from { from ≤ length bytes.now }
+    requires before { IsMissing byte bytes.now from }
+    requires byte { byte < 255 }
     ensures { IsFirstAt byte bytes.now result }
 {
-    let mut at = 0;
+    let mut at = from;
     'runs: loop {
         at = run_end(bytes, at, byte + 1, u8::MAX);
         if at == bytes.len() || bytes[at] == byte {
@@ -128,12 +130,15 @@ fn byte_index(bytes: &[u8], byte: u8) -> usize
 }
 
 /// Returns the text before the first `byte`, which is ASCII, and the rest after it, if it is there.
+/// No byte before `from` equals it.
 #[inline(always)]
-pub(crate) fn split_at_byte(text: &str, byte: u8) -> (&str, Option<&str>)
-    requires { byte < 128 }
+pub(crate) fn split_at_byte(text: &str, from: usize, byte: u8) -> (&str, Option<&str>)
+    requires from { from ≤ length text.now }
+    requires before { IsMissing byte text.now from }
+    requires byte { byte < 128 }
     ensures { IsSplitAt byte text.now result.0.now result.1 }
 {
-    let at = byte_index(text.as_bytes(), byte);
+    let at = byte_index(text.as_bytes(), from, byte);
     if at == text.len() {
         return (text, None);
     }

@@ -10,10 +10,10 @@ ghost use Rattle.tabled_text.specs.Units.{unit_of_char, words_of, units, units_o
 ghost use Rattle.tabled_text.specs.Units.{units_of_words};
 ghost use Rattle.tabled_text.specs.Breaking.{EachUnitFits, HasFewestLines, IsLeastBreaking};
 ghost use Rattle.tabled_text.specs.Wrapping.{IsWrapped};
-ghost use Rattle.tabled_text.specs.Walk.{BreaksAt, words_in, begin_at, begin_text, append_text};
+ghost use Rattle.tabled_text.specs.Walk.{BreaksAt, IsPiece, words_in, begin_at, begin_text, append_text};
 ghost use Rattle.tabled_text.specs.Walk.{append_used, append_all, used_after, pending};
 
-use crate::character::{char_count, split_first};
+use crate::character::{char_count, split_count, split_first};
 use crate::measure::{is_printable, line_width, lines};
 use crate::runs::split_at_byte;
 use crate::sink::{Sink, append_copies};
@@ -89,7 +89,26 @@ fn append_char<S: Sink>(out: &mut S, used: usize, n: usize, c: char) -> Result<u
     Ok(column + count)
 }
 
-/// Writes the characters of a text, and returns the columns then used.
+/// Splits off characters that count at most n together. Returns their text, their count and the
+/// rest.
+fn split_piece(text: &str, n: usize) -> (&str, usize, &str)
+    ensures { IsPiece n text.now result.0.now result.1 result.2.now }
+{
+    let mut rest = text;
+    let mut columns = 0;
+    'chars: while let Some((count, after)) = split_count(rest) {
+        if count > n - columns {
+            break;
+        }
+        columns += count;
+        rest = after;
+    }
+    let (piece, _) = text.split_at(text.len() - rest.len());
+    (piece, columns, rest)
+}
+
+/// Writes the characters of a text, and returns the columns then used. Those that fit in a line are
+/// written at once.
 fn append_chars<S: Sink>(out: &mut S, used: usize, n: usize, text: &str) -> Result<usize, S::Error>
     requires { 0 < n }
     ensures used { IfOk result (λ column. column
@@ -99,11 +118,18 @@ fn append_chars<S: Sink>(out: &mut S, used: usize, n: usize, text: &str) -> Resu
 {
     let mut column = used;
     let mut rest = text;
-    while let Some((c, after)) = split_first(rest) {
-        column = append_char(out, column, n, c)?;
-        rest = after;
+    'pieces: loop {
+        let (piece, columns, after) = split_piece(rest, n.saturating_sub(column));
+        out.append_str(piece)?;
+        column += columns;
+        match split_first(after) {
+            None => return Ok(column),
+            Some((c, next)) => {
+                column = append_char(out, column, n, c)?;
+                rest = next;
+            }
+        }
     }
-    Ok(column)
 }
 
 /// Writes a word, or its characters if it is wider than n columns. Returns the columns then used.
@@ -132,7 +158,7 @@ pub(crate) fn split_word(text: &str) -> (&str, Option<&str>)
     ensures after { IfSome result.1 (λ after. IsUtf8 after.now
         × (length after.now < length text.now)) }
 {
-    split_at_byte(text, b' ')
+    split_at_byte(text, 0, b' ')
 }
 
 /// Writes the words of a line and the spaces between them.
@@ -227,7 +253,7 @@ fn line_end(line: &str, n: usize) -> Option<usize>
     }
     let at = after_space(bytes, n)?;
     let (_, after) = line.split_at(at);
-    let (word, _) = split_at_byte(after, b' ');
+    let (word, _) = split_at_byte(after, 0, b' ');
     let width = word.len();
     if width > n {
         return None;
@@ -245,7 +271,7 @@ fn append_wide_words<S: Sink>(out: &mut S, n: usize, line: &str) -> Result<(), S
     ensures { OnOk result (S.adds out.old
         (encode_utf8_all (append_all n 0 (units_of_words n (words_of (chars line.now))))) out.new) }
 {
-    let (_, after) = split_at_byte(line, b' ');
+    let (_, after) = split_at_byte(line, 0, b' ');
     match after {
         None => append_pieces(out, n, line),
         Some(_) => append_words(out, n, line),

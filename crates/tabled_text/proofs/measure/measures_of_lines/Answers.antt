@@ -1,35 +1,32 @@
-use Rattle.std.proofs.Common.{rules, ◌≤◌, length, sym, ap, ◌∙◌, subst, arith, All}
-use Rattle.std.proofs.lemmas.List.Elements.{All-head, All-tail}
-use Rattle.tabled_text.specs.Lines.{lines_left}
+use Rattle.std.proofs.Common.{rules, ◌≡◌, ◌+◌, ◌<◌, ℕ, List, ◌∷◌, map, length, arith, ap, subst, ◌∙◌, IfSome, IsUtf8}
+use Rattle.std.proofs.lemmas.List.{length-map}
+use Rattle.tabled_text.specs.Lines.{lines_in}
+use Rattle.tabled_text.specs.Measure.{greatest, line_columns, lines_of}
 use Rattle.tabled_text.proofs.BoundLemmas.{count_lines-le}
-use Rattle.tabled_text.proofs.Bridge.{lines_length}
+use Rattle.tabled_text.proofs.Bridge.{some_line}
 use Rattle.tabled_text.proofs.measure.measures_of_lines.Goals as goal
 
-pub lines-init : goal.lines-init
-lines-init c =
-    let all = c.lines-line-items.ensures in
-    let same = ap lines_left c.into_iter-line-iterator.ensures.into_iter_gives ∙ all in
-    record {
-      value = search rules;
-      bound = omega arith;
-      short = subst (All (λ line. length line ≤ length c.args.text.now)) (sym same) (lines_length c.args.text.now);
-      counted = omega (arith, ap length same);
-    }
+counts : (n : ℕ) (ls more : List (List ℕ)) → map line_columns ls ≡ n ∷ map line_columns more → length ls ≡ length more + 1
+counts n ls more e = omega (arith, ap length e, length-map ls line_columns, length-map more line_columns)
 
 pub overflow_add-count : goal.overflow_add-count
-overflow_add-count c = omega (arith, c.lines.invariant.counted, ap length c.in-Some.ensures.steps, count_lines-le c.args.text.now)
+overflow_add-count c =
+    let n = c.measure_line-columns.result.0 in
+    let next = c.in-Some.next.now in
+    let e = c.measure_line-columns.ensures.columns ∙ ap (λ o. n ∷ map line_columns (lines_in o)) c.in-Some.is in
+    omega (arith, c.lines.invariant.counted, counts n (lines_of c.lines.rest.now) (lines_of next) e, some_line next, count_lines-le c.args.text.now)
 
 pub lines-preserved : goal.lines-preserved
 lines-preserved c =
-    let short = subst (All (λ line. length line ≤ length c.args.text.now)) c.in-Some.ensures.steps c.lines.invariant.short in
-    let first : length c.in-Some.line.now ≤ length c.args.text.now = All-head
-    (λ line. length line ≤ length c.args.text.now) c.in-Some.line.now (lines_left c.next.new.self) short in
+    let n = c.measure_line-columns.result.0 in
+    let next = c.in-Some.next.now in
+    let e = c.measure_line-columns.ensures.columns ∙ ap (λ o. n ∷ map line_columns (lines_in o)) c.in-Some.is in
+    let after = subst (λ o. IfSome o (λ x. IsUtf8 x.now × (length x.now < length c.lines.rest.now))) c.in-Some.is c.measure_line-columns.ensures.after in
     record {
-      value = search rules;
-      bound = omega arith;
-      short = All-tail (λ line. length line ≤ length c.args.text.now) c.in-Some.line.now (lines_left c.next.new.self) short;
-      counted = omega (arith, c.lines.invariant.counted, ap length c.in-Some.ensures.steps);
+      value = omega (arith, ap greatest e, c.lines.invariant.value, c.max-widest.ensures);
+      bound = omega (arith, c.max-widest.ensures, c.measure_line-columns.ensures.bound, c.lines.invariant.short, c.lines.invariant.bound);
+      short = omega (arith, after.1, c.lines.invariant.short);
+      counted = omega (arith, c.lines.invariant.counted, counts n (lines_of c.lines.rest.now) (lines_of next) e);
+      run = search rules;
+      utf8 = after.0;
     }
-
-pub returns-clause-lines : goal.returns-clause-lines
-returns-clause-lines c = omega (arith, c.lines.invariant.counted, ap length c.in-None.ensures.steps.0)

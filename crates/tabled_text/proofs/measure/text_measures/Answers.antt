@@ -1,11 +1,18 @@
-use Rattle.std.proofs.Common.{length, sym, ap, ◌∙◌}
+use Rattle.std.proofs.Common.{◌≡◌, length, true, arith, sym, ap, ◌∙◌}
+use Rattle.std.specs.Int.{is_in_range}
+use Rattle.std.specs.List.{list_all}
 use Rattle.tabled_text.proofs.PlainLines.{plain_line-lines, plain_line-printable, text_columns-plain_line}
+use Rattle.tabled_text.proofs.RunLemmas.{run-all}
 use Rattle.tabled_text.proofs.measure.text_measures.Goals as goal
 
-pub returns-then-is_printable-clause-columns : goal.returns-then-is_printable-clause-columns
-returns-then-is_printable-clause-columns c =
-    sym (text_columns-plain_line (plain_line-printable c.args.text.now (sym c.is_printable.ensures ∙ c.if-is_printable.true)))
+printable : (c : goal.Then-run-text) → list_all (is_in_range 0x20 0x7E) c.args.text.now ≡ true
+printable c =
+    let e = c.as_bytes.ensures.value in
+    ap (list_all (is_in_range 0x20 0x7E)) (sym e)
+    ∙ run-all (is_in_range 0x20 0x7E) c.as_bytes.result.now 0 c.run_end-run.result c.run_end-run.ensures.passed (omega (arith, ap length e))
 
-pub returns-then-is_printable-clause-lines : goal.returns-then-is_printable-clause-lines
-returns-then-is_printable-clause-lines c =
-    sym (ap length (plain_line-lines (plain_line-printable c.args.text.now (sym c.is_printable.ensures ∙ c.if-is_printable.true))))
+pub returns-then-run-text-clause-columns : goal.returns-then-run-text-clause-columns
+returns-then-run-text-clause-columns c = c.if-run-text.true ∙ sym (text_columns-plain_line (plain_line-printable c.args.text.now (printable c)))
+
+pub returns-then-run-text-clause-lines : goal.returns-then-run-text-clause-lines
+returns-then-run-text-clause-lines c = sym (ap length (plain_line-lines (plain_line-printable c.args.text.now (printable c))))

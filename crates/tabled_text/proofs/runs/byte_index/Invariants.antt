@@ -1,10 +1,11 @@
-use Rattle.std.proofs.Common.{◌≡◌, ◌-◌, ◌<◌, ◌≤◌, ℕ, length, get_or}
+use Rattle.std.proofs.Common.{◌-◌, ◌≤◌, length}
+use Rattle.tabled_text.specs.Runs.{IsMissing}
 use Rattle.tabled_text.proofs.runs.byte_index.Given as goal
 
 abbrev pub invariant-runs : goal.invariant-runs
 invariant-runs l = record {
   end : l.at ≤ length l.bytes;
-  before : (k : ℕ) → k < l.at → get_or l.bytes k 0 ≡ l.byte → ⊥;
+  before : IsMissing l.byte l.bytes l.at;
 }
 
 abbrev pub decreases-runs : goal.decreases-runs

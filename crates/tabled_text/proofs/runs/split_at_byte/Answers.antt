@@ -14,12 +14,12 @@ after byte at text small u f l = let b = f.found l in IsCharBoundary-after_ascii
 pub split_at-requires : goal.split_at-requires
 split_at-requires c =
     let f = subst (λ bytes. IsFirstAt c.args.byte bytes c.byte_index-at.result) c.as_bytes.ensures.value c.byte_index-at.ensures in
-    before c.args.byte c.byte_index-at.result c.args.text.now c.requires f (omega (arith, f.end))
+    before c.args.byte c.byte_index-at.result c.args.text.now c.requires.byte f (omega (arith, f.end))
 
 pub split_at-requires-2 : goal.split_at-requires-2
 split_at-requires-2 c =
     let f = subst (λ bytes. IsFirstAt c.args.byte bytes c.byte_index-at.result) c.as_bytes.ensures.value c.byte_index-at.ensures in
-    after c.args.byte c.byte_index-at.result c.args.text.now c.requires c.utf8.text f (omega (arith, f.end))
+    after c.args.byte c.byte_index-at.result c.args.text.now c.requires.byte c.utf8.text f (omega (arith, f.end))
 
 pub returns-then-at-text : goal.returns-then-at-text
 returns-then-at-text c =
@@ -41,10 +41,10 @@ returns c =
     record {
       first = subst (IsFirstAt c.args.byte text) len f;
       front_is = c.split_at.ensures.front ∙ ap (λ n. take n text) len;
-      utf8 = subst IsUtf8 (sym c.split_at.ensures.front) (IsUtf8-take text at c.utf8.text (before c.args.byte at text c.requires f within));
+      utf8 = subst IsUtf8 (sym c.split_at.ensures.front) (IsUtf8-take text at c.utf8.text (before c.args.byte at text c.requires.byte f within));
       after_is = (
         subst (λ n. n < length text) len within,
         c.split_at-2.ensures.back ∙ ap (λ n. drop (n + 1) text) len,
-        subst IsUtf8 (sym c.split_at-2.ensures.back) (IsUtf8-drop text (at + 1) c.utf8.text (after c.args.byte at text c.requires c.utf8.text f within)),
+        subst IsUtf8 (sym c.split_at-2.ensures.back) (IsUtf8-drop text (at + 1) c.utf8.text (after c.args.byte at text c.requires.byte c.utf8.text f within)),
       );
     }

@@ -1,0 +1,24 @@
+use Rattle.std.proofs.Common.{arith, subst, sym, ◌∙◌}
+use Rattle.tabled_text.specs.Walk.{IsPiece}
+use Rattle.tabled_text.proofs.CutLemmas.{front_boundary, front_taken}
+use Rattle.tabled_text.proofs.Pieces.{Taken-more, Taken-start}
+use Rattle.tabled_text.proofs.wrap.split_piece.Goals as goal
+
+pub chars-init : goal.chars-init
+chars-init c = Taken-start c.args.n c.args.text.now c.utf8.text
+
+pub chars-preserved : goal.chars-preserved
+chars-preserved c =
+    let fits = c.chars.invariant.is.fits in
+    Taken-more c.args.n c.args.text.now c.chars.columns c.in-Some.count c.chars.rest.now c.in-Some.after.now c.chars.invariant c.in-Some.ensures (omega arith)
+
+pub chars-smaller : goal.chars-smaller
+chars-smaller c = c.in-Some.ensures.shorter
+
+pub split_at-requires : goal.split_at-requires
+split_at-requires c = front_boundary _ _ c.chars.invariant.is.parts c.chars.invariant.is.rest_utf8
+
+pub returns : goal.returns
+returns c =
+    let t = c.chars.invariant in
+    subst (λ l. IsPiece c.args.n c.args.text.now l c.chars.columns c.chars.rest.now) (sym (c.split_at.ensures.front ∙ front_taken _ _ t.is.parts)) t.is
