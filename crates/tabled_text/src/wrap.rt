@@ -19,6 +19,9 @@ use crate::runs::split_at_byte;
 use crate::sink::{Sink, append_copies};
 use std::alloc::{AllocError, Global};
 
+/// The widest lines that are written character by character, without calls to copy them.
+const FEW_COLUMNS: usize = 3;
+
 /// Returns the column at which a unit of `needed` columns begins. Begins a new line if the current
 /// one has fewer columns left.
 fn begin<S: Sink>(out: &mut S, used: usize, n: usize, needed: usize) -> Result<usize, S::Error>
@@ -89,6 +92,23 @@ fn append_char<S: Sink>(out: &mut S, used: usize, n: usize, c: char) -> Result<u
     Ok(column + count)
 }
 
+/// Writes the characters of a text one by one, and returns the columns then used.
+fn append_each<S: Sink>(out: &mut S, used: usize, n: usize, text: &str) -> Result<usize, S::Error>
+    requires { 0 < n }
+    ensures used { IfOk result (λ column. column
+        ≡ used_after n used (map unit_of_char (chars text.now))) }
+    ensures text { OnOk result (S.adds out.old
+        (encode_utf8_all (append_all n used (map unit_of_char (chars text.now)))) out.new) }
+{
+    let mut column = used;
+    let mut rest = text;
+    while let Some((c, after)) = split_first(rest) {
+        column = append_char(out, column, n, c)?;
+        rest = after;
+    }
+    Ok(column)
+}
+
 /// Splits off characters that count at most n together. Returns their text, their count and the
 /// rest.
 fn split_piece(text: &str, n: usize) -> (&str, usize, &str)
@@ -108,7 +128,7 @@ fn split_piece(text: &str, n: usize) -> (&str, usize, &str)
 }
 
 /// Writes the characters of a text, and returns the columns then used. Those that fit in a line are
-/// written at once.
+/// written at once, except in lines of few columns.
 fn append_chars<S: Sink>(out: &mut S, used: usize, n: usize, text: &str) -> Result<usize, S::Error>
     requires { 0 < n }
     ensures used { IfOk result (λ column. column
@@ -116,6 +136,9 @@ fn append_chars<S: Sink>(out: &mut S, used: usize, n: usize, text: &str) -> Resu
     ensures text { OnOk result (S.adds out.old
         (encode_utf8_all (append_all n used (map unit_of_char (chars text.now)))) out.new) }
 {
+    if n <= FEW_COLUMNS {
+        return append_each(out, used, n, text);
+    }
     let mut column = used;
     let mut rest = text;
     'pieces: loop {
@@ -181,9 +204,6 @@ fn append_words<S: Sink>(out: &mut S, n: usize, line: &str) -> Result<(), S::Err
         }
     }
 }
-
-/// The widest lines of printable ASCII that are written byte by byte, without calls to copy them.
-const FEW_COLUMNS: usize = 3;
 
 /// Writes printable ASCII byte by byte, with a line feed after each n bytes that more bytes follow.
 #[inline(always)]
