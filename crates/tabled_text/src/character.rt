@@ -5,6 +5,7 @@ ghost use Rattle.std.specs.Prelude.{IsTrue};
 ghost use Rattle.tabled_text.specs.Letters.{BeginsBy, IsLetter, is_narrow_lead, is_wide_lead};
 ghost use Rattle.tabled_text.specs.Letters.{lead_byte};
 ghost use Rattle.tabled_text.specs.Measure.{char_count};
+ghost use Rattle.tabled_text.specs.Walk.{IsPiece};
 ghost use Rattle.std.specs.List.{list_all};
 ghost use Rattle.tabled_text.specs.Plain.{is_listed, is_drawn, has_plain_width, is_plain_character};
 ghost use Rattle.tabled_text.specs.Plain.{is_plain_or_feed};
@@ -96,6 +97,24 @@ pub(crate) fn split_count(text: &str) -> Option<(usize, &str)>
     }
     let (c, after) = split_first(text)?;
     Some((char_count(c), after))
+}
+
+/// Splits off characters that count at most n together. Returns their text, their count and the
+/// rest.
+pub(crate) fn split_piece(text: &str, n: usize) -> (&str, usize, &str)
+    ensures { IsPiece n text.now result.0.now result.1 result.2.now }
+{
+    let mut rest = text;
+    let mut columns = 0;
+    'chars: while let Some((count, after)) = split_count(rest) {
+        if count > n - columns {
+            break;
+        }
+        columns += count;
+        rest = after;
+    }
+    let (piece, _) = text.split_at(text.len() - rest.len());
+    (piece, columns, rest)
 }
 
 fn is_listed(c: char) -> bool

@@ -10,10 +10,10 @@ ghost use Rattle.tabled_text.specs.Units.{unit_of_char, words_of, units, units_o
 ghost use Rattle.tabled_text.specs.Units.{units_of_words};
 ghost use Rattle.tabled_text.specs.Breaking.{EachUnitFits, HasFewestLines, IsLeastBreaking};
 ghost use Rattle.tabled_text.specs.Wrapping.{IsWrapped};
-ghost use Rattle.tabled_text.specs.Walk.{BreaksAt, IsPiece, words_in, begin_at, begin_text, append_text};
+ghost use Rattle.tabled_text.specs.Walk.{BreaksAt, words_in, begin_at, begin_text, append_text};
 ghost use Rattle.tabled_text.specs.Walk.{append_used, append_all, used_after, pending};
 
-use crate::character::{char_count, split_count, split_first};
+use crate::character::{char_count, split_first, split_piece};
 use crate::measure::{is_printable, line_width, lines};
 use crate::runs::split_at_byte;
 use crate::sink::{Sink, append_copies};
@@ -109,26 +109,7 @@ fn append_each<S: Sink>(out: &mut S, used: usize, n: usize, text: &str) -> Resul
     Ok(column)
 }
 
-/// Splits off characters that count at most n together. Returns their text, their count and the
-/// rest.
-fn split_piece(text: &str, n: usize) -> (&str, usize, &str)
-    ensures { IsPiece n text.now result.0.now result.1 result.2.now }
-{
-    let mut rest = text;
-    let mut columns = 0;
-    'chars: while let Some((count, after)) = split_count(rest) {
-        if count > n - columns {
-            break;
-        }
-        columns += count;
-        rest = after;
-    }
-    let (piece, _) = text.split_at(text.len() - rest.len());
-    (piece, columns, rest)
-}
-
-/// Writes the characters of a text, and returns the columns then used. Those that fit in a line are
-/// written at once, except in lines of few columns.
+/// Writes the characters of a text, those of a line at once, and returns the columns then used.
 fn append_chars<S: Sink>(out: &mut S, used: usize, n: usize, text: &str) -> Result<usize, S::Error>
     requires { 0 < n }
     ensures used { IfOk result (λ column. column

@@ -2,7 +2,7 @@ use Rattle.std.proofs.Common.{arith, subst, sym, ◌∙◌}
 use Rattle.tabled_text.specs.Walk.{IsPiece}
 use Rattle.tabled_text.proofs.CutLemmas.{front_boundary, front_taken}
 use Rattle.tabled_text.proofs.Pieces.{Taken-more, Taken-start}
-use Rattle.tabled_text.proofs.wrap.split_piece.Goals as goal
+use Rattle.tabled_text.proofs.character.split_piece.Goals as goal
 
 pub chars-init : goal.chars-init
 chars-init c = Taken-start c.args.n c.args.text.now c.utf8.text

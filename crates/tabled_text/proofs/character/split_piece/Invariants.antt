@@ -1,6 +1,6 @@
 use Rattle.std.proofs.Common.{length}
 use Rattle.tabled_text.proofs.Pieces.{Taken}
-use Rattle.tabled_text.proofs.wrap.split_piece.Given as goal
+use Rattle.tabled_text.proofs.character.split_piece.Given as goal
 
 abbrev pub invariant-chars : goal.invariant-chars
 invariant-chars l = Taken l.n l.text l.columns l.rest
