@@ -1,4 +1,3 @@
-pub mod AtOnce
 pub mod BestPlace
 pub mod Between
 pub mod ByLevel
@@ -6,9 +5,10 @@ pub mod Gains
 pub mod Givers
 pub mod Leveled
 pub mod Optimal
+pub mod Passes
 pub mod Ramps
 pub mod Shares
 pub mod Spans
 pub mod Sums
-pub mod Underway
+pub mod Turns
 pub mod Visiting

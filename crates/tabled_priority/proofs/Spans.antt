@@ -1,15 +1,27 @@
 -- How many open columns stand from a place round the list to another.
-use Rattle.std.proofs.Common.{◌≡◌, ℕ, ◌+◌, ◌-◌, ◌<◌, ◌≤◌, ◌⊎◌, Bool, true, ◌&&◌, ap, arith, ⊎_elim, suc, nat_lt}
+use Rattle.std.proofs.Common.{◌≡◌, ℕ, ◌+◌, ◌-◌, ◌<◌, ◌≤◌, ◌⊎◌, Bool, true, ◌&&◌, ap, ◌∙◌, arith, ⊎_elim, zero, suc, nat_lt}
 use Rattle.std.proofs.lemmas.Bool.Decides.{nat_tests}
 use Rattle.std.proofs.lemmas.Bool.{cases_lt}
 use Rattle.tabled_priority.specs.Sums.{sum_below, one_if}
 use Rattle.tabled_priority.specs.Laws.Sums.{sum_below-same, sum_below-plus, sum_below-prefix}
 use Rattle.tabled_priority.specs.Shrunk.{is_met}
 use Rattle.tabled_priority.specs.Schedule.{is_open, open_count, IsSpan}
-use Rattle.tabled_priority.proofs.Givers.{sum-left}
+
+kept : (b : Bool) (i k : ℕ) → i < k → one_if (b && nat_lt i k) ≡ one_if b
+kept b i k h = grind (arith, nat_tests)
+
+gone : (b : Bool) (i k : ℕ) → k ≤ i → one_if (b && nat_lt i k) ≡ 0
+gone b i k h = grind (arith, nat_tests)
 
 count_below : (o : ℕ → Bool) (k n : ℕ) → k ≤ n → sum_below (λ i. one_if (o i && nat_lt i k)) n ≡ sum_below (λ i. one_if (o i)) k
-count_below o k n h = sum-left o (λ _. 1) k n h
+count_below o k zero h = let e : 0 ≡ k = omega arith in ap (sum_below (λ i. one_if (o i))) e
+count_below o k (suc n) h = ⊎_elim
+    (λ (less : k < suc n). let r = count_below o k n (omega arith) in let e = gone (o n) n k (omega arith) in omega arith)
+    (λ (all : suc n ≤ k).
+    let e : suc n ≡ k = omega arith in
+    sum_below-same (λ i. one_if (o i && nat_lt i k)) (λ i. one_if (o i)) (suc n) (λ i inside. kept (o i) i k (omega arith))
+    ∙ ap (sum_below (λ i. one_if (o i))) e)
+    (cases_lt k (suc n))
 
 straight : (b : Bool) (f l i : ℕ) → f ≤ l → one_if (b && is_met f l i) + one_if (b && nat_lt i f) ≡ one_if (b && nat_lt i (suc l))
 straight b f l i h = grind (arith, nat_tests)

@@ -1,43 +1,36 @@
 -- What columns give if the smallest give first.
-use Rattle.std.specs.Prelude.{◌≡◌, ℕ, ◌+◌, ◌<◌, ◌≤◌, Bool, List, length, nat_lt, nat_le, if◌then◌else◌, ◌&&◌, ◌==◌}
-use Rattle.tabled_priority.specs.Permitted.{at, spare}
-use Rattle.tabled_priority.specs.Shrunk.{comes_before}
+use Rattle.std.specs.Prelude.{◌≡◌, ℕ, ◌+◌, ◌<◌, ◌≤◌, ◌⊎◌, ◌&&◌, Bool, List, length, nat_le, nat_lt, if◌then◌else◌, sum}
+use Rattle.tabled_priority.specs.declared.schedule.Bracket.{Bracket}
+use Rattle.tabled_priority.specs.Permitted.{IsPermitted, at, low, spare}
+use Rattle.tabled_priority.specs.Shrunk.{IsBefore}
 use Rattle.tabled_priority.specs.Sums.{sum_below}
 
--- what a column can give if it passes a test
-abbrev pub spare_if : (ℕ → Bool) → List ℕ → List ℕ → ℕ → ℕ
-spare_if test values mins i = if test i then spare values mins i else 0
-
--- what all columns that pass a test can give
-abbrev pub spare_where : (ℕ → Bool) → List ℕ → List ℕ → ℕ
-spare_where test values mins = sum_below (spare_if test values mins) (length values)
-
--- a column is at most as wide as a size
-abbrev pub is_up_to : List ℕ → ℕ → ℕ → Bool
-is_up_to values size i = nat_le (at values i) size
+-- what a column can give if it is at most as wide as a size
+abbrev pub spare_if_up_to : List ℕ → List ℕ → ℕ → ℕ → ℕ
+spare_if_up_to values mins size i = if nat_le (at values i) size then spare values mins i else 0
 
 -- what the columns up to a size can give
 abbrev pub spare_up_to : List ℕ → List ℕ → ℕ → ℕ
-spare_up_to values mins size = spare_where (is_up_to values size) values mins
+spare_up_to values mins size = sum_below (spare_if_up_to values mins size) (length values)
 
--- a column has a size
-abbrev pub has_size : List ℕ → ℕ → ℕ → Bool
-has_size values size i = at values i == size
+-- a column has one of the sizes that give
+abbrev pub IsWithin : Bracket → List ℕ → ℕ → Type 0
+IsWithin sizes values i = (sizes.base < at values i) × (at values i ≤ sizes.ceiling)
 
--- a column has a size and is beside an index: after it if `right`, else before it
-abbrev pub stands_beside : Bool → List ℕ → ℕ → ℕ → ℕ → Bool
-stands_beside right values size place i = has_size values size i && (if right then nat_lt place i else nat_lt i place)
+-- what a column gives if it has one of the sizes
+abbrev pub spare_within : Bracket → List ℕ → List ℕ → ℕ → ℕ
+spare_within sizes values mins i =
+    if (nat_lt sizes.base (at values i) && nat_le (at values i) sizes.ceiling) then spare values mins i else 0
 
--- what a column gives if those before an index give all they can, and the one at the index an
--- amount
-abbrev pub given : Bool → List ℕ → List ℕ → ℕ → ℕ → ℕ → ℕ
-given right values mins place amount i =
-    if comes_before right values i place then spare values mins i else (if i == place then amount else 0)
-
--- exactly the wanted amount is given if the columns before an index give all they can, and the one
--- at the index an amount that it has
-pub record IsLastGiver (right : Bool) (values mins : List ℕ) (wanted place amount : ℕ) : Type 0 where
-  pub inside : place < length values
-  pub some : 0 < amount
-  pub fits : amount ≤ spare values mins place
-  pub total : spare_where (λ i. comes_before right values i place) values mins + amount ≡ wanted
+-- columns of some sizes gave all they can before an index, and nothing after it; if less than the
+-- amount was taken, all of them gave all they can
+pub record IsTakenInOrder (right : Bool) (sizes : Bracket) (old mins : List ℕ) (by : ℕ) (new : List ℕ) (taken : ℕ) : Type 0 where
+  pub permitted : IsPermitted old mins new
+  pub total : sum new + taken ≡ sum old
+  pub at_most : taken ≤ by
+  pub last : ℕ
+  pub above : 0 < taken → IsWithin sizes old last × (at mins last < at old last)
+  pub before : (i : ℕ) → IsBefore right i last → IsWithin sizes old i → at new i ≡ low old mins i
+  pub after : (i : ℕ) → IsBefore right last i → at new i ≡ at old i
+  pub all : taken < by → (i : ℕ) → IsWithin sizes old i → at new i ≡ low old mins i
+  pub others : (i : ℕ) → (at old i ≤ sizes.base) ⊎ (sizes.ceiling < at old i) → at new i ≡ at old i

@@ -3,7 +3,7 @@ use Rattle.std.proofs.lemmas.Bool.{cases_lt}
 use Rattle.std.proofs.lemmas.List.{get_or_past}
 use Rattle.tabled_priority.specs.Permitted.{at}
 use Rattle.tabled_priority.specs.Shrunk.{IsBefore}
-use Rattle.tabled_priority.proofs.AtOnce.{IsPassed, passed-none, passed-more, passed-before, passed-all}
+use Rattle.tabled_priority.proofs.Turns.{IsPassed, passed-none, passed-more, passed-before, passed-all}
 use Rattle.tabled_priority.proofs.choice.outermost.Goals as goal
 
 pub loop-turn-init : goal.loop-turn-init

@@ -1,7 +1,7 @@
 use Rattle.std.proofs.Common.{◌≡◌, ℕ, ◌≤◌, length}
 use Rattle.tabled_priority.specs.Permitted.{at}
 use Rattle.tabled_priority.specs.Visits.{counted}
-use Rattle.tabled_priority.proofs.AtOnce.{IsPassed}
+use Rattle.tabled_priority.proofs.Turns.{IsPassed}
 use Rattle.tabled_priority.proofs.choice.outermost.Given as goal
 
 abbrev pub invariant-loop-turn : goal.invariant-loop-turn
