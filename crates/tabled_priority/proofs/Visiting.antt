@@ -35,10 +35,6 @@ pub IsBounded-pass : (old new : List ℕ) (before after : ℕ) → counted befor
     → after ≤ counted before (length old) → IsBounded old new before after
 IsBounded-pass old new before after a b = IsBounded-from old new before after (length old) a b (let s = square-le (length old) in omega arith)
 
--- nothing changed
-pub IsBounded-same : (old : List ℕ) (before after : ℕ) → before ≤ after → after ≤ counted before (length old) → IsBounded old old before after
-IsBounded-same old before after a b = IsBounded-pass old old before after (let z = changed-self old in omega arith) b
-
 -- one column was found and changed
 pub IsBounded-one : (old : List ℕ) (i y before found after : ℕ) → counted before 0 ≤ found
     → found ≤ counted before (length old) → after ≡ counted found 1 → IsBounded old (set old i y) before after

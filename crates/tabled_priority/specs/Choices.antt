@@ -1,5 +1,5 @@
 -- The priorities that have no state: they choose an index by the values alone.
-use Rattle.std.specs.Prelude.{◌≡◌, ℕ, List, [], Option, MatchOption}
+use Rattle.std.specs.Prelude.{◌≡◌, ◌==◌, ◌&&◌, ◌||◌, ℕ, Bool, List, [], Option, MatchOption, nat_lt}
 use Rattle.tabled_priority.specs.declared.choice.Choice.{Choice}
 use Rattle.tabled_priority.specs.declared.choice.Choice.TheVariants.{Outermost, Greatest, Least}
 use Rattle.tabled_priority.specs.Grown.{IsGrownAt, IsMinGrown}
@@ -11,6 +11,12 @@ abbrev pub IsChosen : Choice → List ℕ → List ℕ → ℕ → Type 0
 IsChosen (Outermost right) = IsOutermost right
 IsChosen (Greatest right) = IsGreatest right
 IsChosen (Least right) = IsLeast right
+
+-- a value comes before another one that is further left
+abbrev pub is_ahead : Choice → ℕ → ℕ → Bool
+is_ahead (Outermost right) value other = right
+is_ahead (Greatest right) value other = nat_lt other value || (right && (other == value))
+is_ahead (Least right) value other = nat_lt value other || (right && (other == value))
 
 -- the list that shrank
 abbrev pub IsShrunkBy : Choice → List ℕ → List ℕ → ℕ → List ℕ → Type 0

@@ -1,7 +1,7 @@
 //! Which size comes first, and growing that one.
-ghost use Rattle.std.specs.Prelude.{◌≡◌, ◌+◌, ◌<◌, ◌≤◌, ◌^◌, IfSome, MatchOption, [], length, sum};
-ghost use Rattle.tabled_priority.specs.Peak.{NoneAbove, IsGreatest, IsLeast, IsOutermost, place_at};
-ghost use Rattle.tabled_priority.specs.Choices.{IsChosen};
+ghost use Rattle.std.specs.Prelude.{◌≡◌, ◌+◌, ◌<◌, ◌^◌, IfSome, MatchOption, [], length, sum};
+ghost use Rattle.tabled_priority.specs.Peak.{NoneAbove, place_at};
+ghost use Rattle.tabled_priority.specs.Choices.{IsChosen, is_ahead};
 ghost use Rattle.tabled_priority.specs.Grown.{IsGrownAt};
 ghost use Rattle.tabled_priority.specs.Changes.{Grows};
 ghost use Rattle.tabled_priority.specs.Visits.{counted};
@@ -29,72 +29,36 @@ pub(crate) fn place_at(right: bool, count: usize, turn: usize) -> usize
     if right { count - 1 - turn } else { turn }
 }
 
-fn outermost(right: bool, mins: &[usize], values: &[usize], steps: &mut Steps) -> Option<usize>
-    ensures answer { MatchOption result (NoneAbove values.now mins.now)
-        (IsOutermost right values.now mins.now) }
-    ensures fewest { steps.old.count ≤ steps.new.count }
-    ensures most { steps.new.count ≤ counted steps.old.count (length values.now) }
-{
-    for turn in 0..values.len() {
-        let place = place_at(right, values.len(), turn);
-        let column = visit(mins, values, place, steps);
-        if column.value > column.least {
-            return Some(place);
-        }
-    }
-    None
-}
-
-fn greatest(right: bool, mins: &[usize], values: &[usize], steps: &mut Steps) -> Option<usize>
-    ensures answer { MatchOption result (NoneAbove values.now mins.now)
-        (IsGreatest right values.now mins.now) }
-    ensures steps { steps.new.count ≡ counted steps.old.count (length values.now) }
-{
-    let mut best = None;
-    let mut most: usize = 0;
-    for place in 0..values.len() {
-        let column = visit(mins, values, place, steps);
-        let beats = most < column.value || (right && most == column.value);
-        if column.value > column.least && beats {
-            best = Some(place);
-            most = column.value;
-        }
-    }
-    best
-}
-
-fn least(right: bool, mins: &[usize], values: &[usize], steps: &mut Steps) -> Option<usize>
-    ensures answer { MatchOption result (NoneAbove values.now mins.now)
-        (IsLeast right values.now mins.now) }
-    ensures steps { steps.new.count ≡ counted steps.old.count (length values.now) }
-{
-    let mut best = None;
-    let mut fewest: usize = usize::MAX;
-    for place in 0..values.len() {
-        let column = visit(mins, values, place, steps);
-        let beats = column.value < fewest || best.is_none() || (right && column.value == fewest);
-        if column.value > column.least && beats {
-            best = Some(place);
-            fewest = column.value;
-        }
-    }
-    best
-}
-
 impl Choice {
+    /// Whether a size comes before another one that is further left.
+    fn is_ahead(self, size: usize, other: usize) -> bool
+        ensures { result ≡ is_ahead self size other }
+    {
+        match self {
+            Choice::Outermost(right) => right,
+            Choice::Greatest(right) => other < size || (right && other == size),
+            Choice::Least(right) => size < other || (right && other == size),
+        }
+    }
+
     /// Returns the index of the size above its minimum that comes first.
     fn chosen(self, mins: &[usize], values: &[usize], steps: &mut Steps) -> Option<usize>
         ensures answer { MatchOption result (NoneAbove values.now mins.now)
             (IsChosen self values.now mins.now) }
         ensures inside { IfSome result (λ i. i < length values.now) }
-        ensures fewest { steps.old.count ≤ steps.new.count }
-        ensures most { steps.new.count ≤ counted steps.old.count (length values.now) }
+        ensures steps { steps.new.count ≡ counted steps.old.count (length values.now) }
     {
-        match self {
-            Choice::Outermost(right) => outermost(right, mins, values, steps),
-            Choice::Greatest(right) => greatest(right, mins, values, steps),
-            Choice::Least(right) => least(right, mins, values, steps),
+        let mut best = None;
+        let mut size: usize = 0;
+        for place in 0..values.len() {
+            let column = visit(mins, values, place, steps);
+            let beats = best.is_none() || self.is_ahead(column.value, size);
+            if column.value > column.least && beats {
+                best = Some(place);
+                size = column.value;
+            }
         }
+        best
     }
 
     /// Returns that index without a count of the columns that are read.

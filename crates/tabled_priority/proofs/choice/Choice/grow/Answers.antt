@@ -1,4 +1,4 @@
-use Rattle.std.proofs.Common.{ℕ, ◌+◌, ◌<◌, ◌≤◌, List, [], slice_set, arith, sym, subst, ◌∙◌, ⊎_elim, length-set}
+use Rattle.std.proofs.Common.{ℕ, ◌+◌, ◌<◌, ◌≤◌, List, [], slice_set, arith, length, sym, subst, ◌∙◌, ⊎_elim, length-set}
 use Rattle.std.proofs.lemmas.Bool.{cases_eq}
 use Rattle.std.proofs.lemmas.List.{get_or-set_same, get_or-set_other}
 use Rattle.std.proofs.lemmas.List.Sums.{sum_by-set}
@@ -8,7 +8,7 @@ use Rattle.tabled_priority.specs.Grown.{IsGrownAt}
 use Rattle.tabled_priority.specs.Laws.Grown.{IsGrownAt-still, IsGrownFrom-still, added-none, added-some}
 use Rattle.tabled_priority.specs.Laws.Permitted.{in_range}
 use Rattle.tabled_priority.proofs.BestPlace.{IsChosen-above}
-use Rattle.tabled_priority.proofs.Visiting.{IsBounded-same, IsBounded-one, growing}
+use Rattle.tabled_priority.proofs.Visiting.{IsBounded-one, IsBounded-whole, growing}
 use Rattle.tabled_priority.proofs.choice.Choice.grow.Goals as goal
 
 grown_at : (P : List ℕ → ℕ → Type 0) (xs : List ℕ) (i by : ℕ) → 0 < at xs i → P xs i
@@ -44,7 +44,7 @@ returns-in_default-clause-growing c =
     let none = c.in_default.ensures.answer in
     growing xs c.args.by xs 0 c.args.steps.now c.chosen.new.steps (IsGrownFrom-still xs c.args.by (added-none xs c.args.by none))
     (sym (added-none xs c.args.by none))
-    (IsBounded-same xs c.args.steps.now.count c.chosen.new.steps.count c.in_default.ensures.fewest c.in_default.ensures.most)
+    (IsBounded-whole xs xs c.args.steps.now.count c.chosen.new.steps.count (length xs) (omega arith) c.in_default.ensures.steps (omega arith))
 
 pub returns-clause-grows : goal.returns-clause-grows
 returns-clause-grows c =
@@ -63,5 +63,5 @@ returns-clause-growing c =
     let g = returns-clause-grows c in
     growing xs c.args.by (slice_set xs place y) c.args.by c.args.steps.now c.visit-column.new.steps g.grows
     (sym (added-some xs c.args.by place (IsChosen-above c.args.self xs [] place c.in-Some.ensures.answer)))
-    (let f = c.in-Some.ensures.fewest in IsBounded-one xs place y c.args.steps.now.count c.chosen.new.steps.count
-    c.visit-column.new.steps.count (omega arith) c.in-Some.ensures.most c.visit-column.ensures.steps)
+    (let f = c.in-Some.ensures.steps in IsBounded-one xs place y c.args.steps.now.count c.chosen.new.steps.count
+    c.visit-column.new.steps.count (omega arith) (omega arith) c.visit-column.ensures.steps)
