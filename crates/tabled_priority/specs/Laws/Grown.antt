@@ -12,7 +12,7 @@ use Rattle.tabled_priority.specs.Peak.{IsOutermost, IsGreatest, IsLeast, IsNext}
 use Rattle.tabled_priority.specs.Grown.{added, IsNoneSmaller, IsGrownFrom, IsGrownAt, IsSideGrown, IsMaxGrown, IsMinGrown, IsRoundGrown}
 use Rattle.tabled_priority.specs.Laws.Permitted.{in_range}
 use Rattle.tabled_priority.specs.Laws.Shrunk.{sides, lt-sum, level-le-ceiling, at-le-sum, before, before-le}
-use Rattle.tabled_priority.specs.Laws.Round.{met_itself, start-le, start-place_after, met_all, unmet_last, met_first, met_same}
+use Rattle.tabled_priority.specs.Laws.Round.{start-le, start-place_after}
 
 pub record IsRaised (i : ℕ) (old new : List ℕ) : Type 0 where
   pub here : at new i ≡ at old i + 1
@@ -139,68 +139,47 @@ IsMinGrown-still right xs by z = record {
   raised = λ i h. let b = level-le-ceiling (not right) 0 0 i in omega (arith, b.1);
 }
 
-floor-here : (right : Bool) (height i j : ℕ) → (ceiling (not right) height (cond right i (i + 1)) i ≡ height + 1)
-    × (ceiling (not right) height (cond right i (i + 1)) j ≤ height + 1)
-    × (j ≢ i → (if right then nat_lt j i else nat_lt i j) ≡ true → ceiling (not right) height (cond right i (i + 1)) j ≡ height)
-floor-here right height i j = (grind (arith, nat_tests), grind (arith, nat_tests), λ ne side. grind (arith, nat_tests))
+-- a value with one more added at i first: where the floor raises i further, and where only i has gained one
+floor_above : (i j v w new c : ℕ) → (j ≡ i → (w ≡ v + 1) × (v < c)) → (j ≢ i → w ≡ v) → new ≡ max w c → new ≡ max v c
+floor_above i j v w new c own other h = grind arith
+
+floor_own : (right : Bool) (level p i j v w new height : ℕ) → (j ≡ i → (w ≡ v + 1) × (v ≡ height)) → (j ≢ i → w ≡ v)
+    → (j ≢ i → height ≤ v) → (j ≢ i → height ≡ v → (if right then nat_lt j i else nat_lt i j) ≡ true) → ceiling (not right) level p i ≤ height
+    → new ≡ max w (ceiling (not right) level p j) → new ≡ max v (ceiling (not right) height (if right then i else i + 1) j)
+floor_own true level p i j v w new height own other least side low h = grind (arith, nat_tests)
+floor_own false level p i j v w new height own other least side low h = grind (arith, nat_tests)
 
 -- an index after the smallest has a greater value, or is on its side
 least-side : (right : Bool) (x y i j : ℕ) → before right x y i j ≡ true → x ≡ y → (if right then nat_lt j i else nat_lt i j) ≡ true
 least-side right x y i j h e = grind (arith, nat_tests)
-
--- if the floor at i is at most its value, no other nonzero value is raised
-floor-side : (right : Bool) (level p i j : ℕ) → (if right then nat_lt j i else nat_lt i j) ≡ true
-    → ceiling (not right) level p j ≤ ceiling (not right) level p i
-floor-side right level p i j h = grind (arith, nat_tests)
-
-floor-other : (right : Bool) (level p i j : ℕ) (x height : ℕ) → ceiling (not right) level p i ≤ height → height ≤ x
-    → (height ≡ x → (if right then nat_lt j i else nat_lt i j) ≡ true) → ceiling (not right) level p j ≤ x
-floor-other right level p i j x height a b c = ⊎_elim
-    (λ e. let s = floor-side right level p i j (c (sym e)) in omega arith)
-    (λ ne. let f = level-le-ceiling (not right) level p i in let g = level-le-ceiling (not right) level p j in omega (arith, f.0, f.1, g.0, g.1))
-    (cases_eq x height)
 
 pub IsMinGrown-step : (right : Bool) (xs : List ℕ) (i by : ℕ) (new : List ℕ) → IsLeast right xs [] i
     → IsMinGrown right (raised xs i) by new → IsMinGrown right xs (by + 1) new
 IsMinGrown-step right xs i by new g s =
     let h : 0 < at xs i = g.above in
     let l = IsRaised-raised xs i 0 h in
-    let here = l.here in
-    let height = at xs i in
     let t = IsGrownFrom-step xs i by new h s.grows in
-    let own : at new i ≡ max (at (raised xs i) i) (ceiling (not right) s.level s.place i) = s.raised i (omega arith) in
-    let other : (j : ℕ) → j ≢ i → 0 < at xs j → at new j ≡ max (at xs j) (ceiling (not right) s.level s.place j) =
-    λ j ne pos. let e = l.there j ne in s.raised j (omega arith) ∙ ap (λ k. max k (ceiling (not right) s.level s.place j)) e in
+    let was : (j : ℕ) → 0 < at xs j → at new j ≡ max (at (raised xs i) j) (ceiling (not right) s.level s.place j) =
+    λ j pos. s.raised j (let m = le-raised i xs (raised xs i) l j in omega arith) in
     ⊎_elim
     (λ above. record {
       grows = t;
       level = s.level;
       place = s.place;
-      raised = λ j pos. ⊎_elim (λ e. subst (λ k. at new k ≡ max (at xs k) (ceiling (not right) s.level s.place k))
-          (sym e) (omega arith)) (λ ne. other j ne pos) (cases_eq j i);
+      raised = λ j pos. floor_above i j (at xs j) (at (raised xs i) j) (at new j) (ceiling (not right) s.level s.place j)
+          (λ e. subst (λ k. (at (raised xs i) k ≡ at xs k + 1) × (at xs k < ceiling (not right) s.level s.place k)) (sym e) (l.here, above))
+          (l.there j) (was j pos);
     })
-    (λ low.
-    let p = cond right i (i + 1) in
-    record {
+    (λ low. record {
       grows = t;
-      level = height;
-      place = p;
-      raised = λ j pos.
-          let now = floor-here right height i j in
-          ⊎_elim
-          (λ e. subst (λ k. at new k ≡ max (at xs k) (ceiling (not right) height p k)) (sym e) (let c = now.0 in omega arith))
-          (λ ne.
-          let order = g.first j ne pos in
-          let le = before-le right height (at xs j) i j order in
-          let kept = floor-other right s.level s.place i j (at xs j) height low le (λ e. least-side right height (at xs j) i j order e) in
-          let a = other j ne pos in
-          let b : ceiling (not right) height p j ≤ at xs j = ⊎_elim
-          (λ same. let c = now.2 ne (least-side right height (at xs j) i j order same) in omega arith)
-          (λ more. let c = now.1 in omega arith) (cases_eq height (at xs j)) in
-          omega arith)
-          (cases_eq j i);
+      level = at xs i;
+      place = if right then i else i + 1;
+      raised = λ j pos. floor_own right s.level s.place i j (at xs j) (at (raised xs i) j) (at new j) (at xs i)
+          (λ e. subst (λ k. (at (raised xs i) k ≡ at xs k + 1) × (at xs k ≡ at xs i)) (sym e) (l.here, refl))
+          (l.there j) (λ ne. before-le right (at xs i) (at xs j) i j (g.first j ne pos))
+          (λ ne e. least-side right (at xs i) (at xs j) i j (g.first j ne pos) e) low (was j pos);
     })
-    (cases_lt height (ceiling (not right) s.level s.place i))
+    (cases_lt (at xs i) (ceiling (not right) s.level s.place i))
 
 -- ---- round the list
 pub IsRoundGrown-still : (kept : ℕ) (xs : List ℕ) (by : ℕ) → added xs by ≡ 0 → IsRoundGrown kept xs by xs kept
@@ -219,72 +198,68 @@ IsRoundGrown-nothing kept xs = IsRoundGrown-still kept xs 0 (added-nothing xs)
 pub IsRoundGrown-none : (kept : ℕ) (xs : List ℕ) (by : ℕ) → ((i : ℕ) → at xs i ≤ 0) → IsRoundGrown kept xs by xs kept
 IsRoundGrown-none kept xs by h = IsRoundGrown-still kept xs by (added-none xs by h)
 
+-- the gains with one more added at i first
+gain_own : (n s i j r v w new : ℕ) → i < n → j < n → (j ≡ i → w ≡ v + 1) → (j ≢ i → w ≡ v) → (j ≢ i → is_met s i j ≡ true → v ≤ 0) → 0 < v
+    → new ≡ w + (if is_met (place_after n i) i j then r + 1 else r) → new ≡ v + (if is_met s i j then r + 1 + 1 else r + 1)
+gain_own n s i j r v w new a b own other idle pos h = grind (arith, nat_tests)
+
+gain_other : (n s i p j r v w new : ℕ) → s < n → i < n → p < n → j < n → p ≢ i → is_met s i p ≡ false → (j ≡ i → w ≡ v + 1)
+    → (j ≢ i → w ≡ v) → (j ≢ i → is_met s i j ≡ true → v ≤ 0) → 0 < v
+    → new ≡ w + (if is_met (place_after n i) p j then r + 1 else r) → new ≡ v + (if is_met s p j then r + 1 else r)
+gain_other n s i p j r v w new a b c d ne unmet own other idle pos h = grind (arith, nat_tests)
+
+gain_last : (s i j v new : ℕ) → (j ≡ i → new ≡ v + 1) → (j ≢ i → new ≡ v) → (j ≢ i → is_met s i j ≡ true → v ≤ 0) → 0 < v
+    → new ≡ v + (if is_met s i j then 1 else 0)
+gain_last s i j v new own other idle pos = grind (arith, nat_tests)
+
 pub IsRoundGrown-step : (kept : ℕ) (xs : List ℕ) (i by : ℕ) (new : List ℕ) (kept' : ℕ) → IsNext kept xs [] i
     → IsRoundGrown (place_after (length xs) i) (raised xs i) by new kept' → IsRoundGrown kept xs (by + 1) new kept'
 IsRoundGrown-step kept xs i by new kept' g s =
     let n = length xs in
     let h : 0 < at xs i = g.above in
     let l = IsRaised-raised xs i 0 h in
-    let here = l.here in
     let inside : i < n = in_range xs i 0 h in
     let s₀ = start kept n in
-    let s₁ = place_after n i in
     let s₀_in : s₀ < n = start-le kept n (omega arith) in
     let len = l.same_length in
-    let started : start s₁ (length (raised xs i)) ≡ s₁ = ap (start s₁) len ∙ start-place_after n i (omega arith) in
+    let started : start (place_after n i) (length (raised xs i)) ≡ place_after n i =
+    ap (start (place_after n i)) len ∙ start-place_after n i (omega arith) in
     let t = IsGrownFrom-step xs i by new h s.grows in
     let some_now = added-some xs (by + 1) i h in
-    let some_then = added-some (raised xs i) by i (omega arith) in
-    -- an index that is met before i has a zero
-    let unmet : (j : ℕ) → j < n → j ≢ i → 0 < at xs j → is_met s₀ i j ≡ false =
-    λ j in' ne pos. ⊎_elim (λ met. let z = g.passed j in' ne met in absurd (omega arith)) (λ no. no) (cases_Bool (is_met s₀ i j)) in
+    let some_then = added-some (raised xs i) by i (let e = l.here in omega arith) in
+    let own = λ (j : ℕ) (e : j ≡ i). subst (λ k. at (raised xs i) k ≡ at xs k + 1) (sym e) l.here in
+    let more = λ (j : ℕ). le-raised i xs (raised xs i) l j in
     ⊎_elim
     (λ some.
     let p = s.last in
     let moved = s.moves some in
     let moves : kept' ≡ place_after n p = moved.1 ∙ ap (λ k. place_after k p) len in
-    let gain : (j : ℕ) → j < n → 0 < at (raised xs i) j → at new j ≡ at (raised xs i) j + cond (is_met s₁ p j) (s.rounds + 1) s.rounds =
+    let gain : (j : ℕ) → j < n → 0 < at xs j → at new j ≡ at (raised xs i) j + cond (is_met (place_after n i) p j) (s.rounds + 1) s.rounds =
     λ j in' pos. subst (λ k. at new j ≡ at (raised xs i) j + cond (is_met k p j) (s.rounds + 1) s.rounds) started
-    (s.gains j (omega arith) some pos) in
+    (s.gains j (omega arith) some (let m = more j in omega arith)) in
     ⊎_elim
-    (λ own. record {
+    (λ here. record {
       grows = t;
       rounds = s.rounds + 1;
       last = i;
       stays = λ z. absurd (omega arith);
-      moves = λ _. (h, moves ∙ ap (place_after n) own);
-      gains = λ j in' _ pos. ⊎_elim
-          (λ is. subst (λ k. at new k ≡ at xs k + cond (is_met s₀ i k) (s.rounds + 1 + 1) (s.rounds + 1)) (sym is)
-          (subst (λ b. at new i ≡ at xs i + cond b (s.rounds + 1 + 1) (s.rounds + 1)) (sym (met_itself s₀ i))
-          (let a = subst (λ b. at new i ≡ at (raised xs i) i + cond b (s.rounds + 1) s.rounds)
-          (ap (λ k. is_met s₁ k i) own ∙ met_all n i i inside inside) (gain i inside (omega arith)) in omega arith)))
-          (λ ne. subst (λ b. at new j ≡ at xs j + cond b (s.rounds + 1 + 1) (s.rounds + 1)) (sym (unmet j in' ne pos))
-          (let e = l.there j ne in
-          let a = subst (λ b. at new j ≡ at (raised xs i) j + cond b (s.rounds + 1) s.rounds)
-          (ap (λ k. is_met s₁ k j) own ∙ met_all n i j inside in') (gain j in' (omega arith)) in omega arith))
-          (cases_eq j i);
+      moves = λ _. (h, moves ∙ ap (place_after n) here);
+      gains = λ j in' _ pos. gain_own n s₀ i j s.rounds (at xs j) (at (raised xs i) j) (at new j) inside in' (own j) (l.there j) (g.passed j in')
+          pos (subst (λ k. at new j ≡ at (raised xs i) j + cond (is_met (place_after n i) k j) (s.rounds + 1) s.rounds) here (gain j in' pos));
     })
     (λ other.
     let e_p = l.there p other in
     let p_pos : 0 < at xs p = let a = moved.0 in omega arith in
     let p_in : p < n = in_range xs p 0 p_pos in
-    let p_unmet = unmet p p_in other p_pos in
     record {
       grows = t;
       rounds = s.rounds;
       last = p;
       stays = λ z. absurd (omega arith);
       moves = λ _. (p_pos, moves);
-      gains = λ j in' _ pos. ⊎_elim
-          (λ is. subst (λ k. at new k ≡ at xs k + cond (is_met s₀ p k) (s.rounds + 1) s.rounds) (sym is)
-          (subst (λ b. at new i ≡ at xs i + cond b (s.rounds + 1) s.rounds) (sym (met_first n s₀ i p s₀_in inside p_in p_unmet))
-          (let a = subst (λ b. at new i ≡ at (raised xs i) i + cond b (s.rounds + 1) s.rounds)
-          (unmet_last n i p inside p_in other) (gain i inside (omega arith)) in omega arith)))
-          (λ ne.
-          let e = l.there j ne in
-          subst (λ b. at new j ≡ at xs j + cond b (s.rounds + 1) s.rounds) (met_same n s₀ i p j s₀_in inside p_in in' p_unmet (unmet j in' ne pos))
-          (gain j in' (omega arith) ∙ ap (λ x. x + cond (is_met s₁ p j) (s.rounds + 1) s.rounds) e))
-          (cases_eq j i);
+      gains = λ j in' _ pos. gain_other n s₀ i p j s.rounds (at xs j) (at (raised xs i) j) (at new j) s₀_in inside p_in in' other
+          (⊎_elim (λ met. let z = g.passed p p_in other met in absurd (omega arith)) (λ no. no) (cases_Bool (is_met s₀ i p)))
+          (own j) (l.there j) (g.passed j in') pos (gain j in' pos);
     })
     (cases_eq s.last i))
     (λ nothing.
@@ -295,10 +270,6 @@ IsRoundGrown-step kept xs i by new kept' g s =
       last = i;
       stays = λ z. absurd (omega arith);
       moves = λ _. (h, s.stays (omega arith));
-      gains = λ j in' _ pos. ⊎_elim
-          (λ is. subst (λ k. at new k ≡ at xs k + cond (is_met s₀ i k) 1 0) (sym is)
-          (subst (λ b. at new i ≡ at xs i + cond b 1 0) (sym (met_itself s₀ i)) (let a = same i in omega arith)))
-          (λ ne. subst (λ b. at new j ≡ at xs j + cond b 1 0) (sym (unmet j in' ne pos)) (let a = same j in let e = l.there j ne in omega arith))
-          (cases_eq j i);
+      gains = λ j in' _ pos. gain_last s₀ i j (at xs j) (at new j) (λ e. same j ∙ own j e) (λ ne. same j ∙ l.there j ne) (g.passed j in') pos;
     })
     (cases_lt 0 (added (raised xs i) by))

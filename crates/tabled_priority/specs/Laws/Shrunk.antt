@@ -1,5 +1,5 @@
 -- Shrunk lists, with one more step at the beginning.
-use Rattle.std.proofs.Common.{◌≡◌, ℕ, ◌+◌, ◌-◌, ◌<◌, ◌≤◌, Bool, true, false, cond, List, [], ◌∷◌}
+use Rattle.std.proofs.Common.{◌≡◌, ℕ, ◌+◌, ◌-◌, ◌<◌, ◌≤◌, Bool, true, false, List, [], ◌∷◌}
 use Rattle.std.proofs.Common.{length, sum, min, max, refl, sym, ap, ◌∙◌, subst, arith, ⊎_elim, ◌⊎◌}
 use Rattle.std.proofs.Common.{inl, inr, zero, suc, ◌≢◌, nat_lt, nat_le, ◌==◌, ◌||◌, ◌&&◌}
 use Rattle.std.proofs.Common.{if◌then◌else◌}
@@ -114,69 +114,41 @@ IsMaxShrunk-none right xs mins = IsMaxShrunk-still right xs mins 0 (taken-nothin
 pub IsMaxShrunk-done : (right : Bool) (xs mins : List ℕ) (by : ℕ) → ((i : ℕ) → at xs i ≤ at mins i) → IsMaxShrunk right xs mins by xs
 IsMaxShrunk-done right xs mins by h = IsMaxShrunk-still right xs mins by (taken-none xs mins by h)
 
--- the ceilings after one is taken from i, at the height of i
-ceiling-here : (right : Bool) (height i j : ℕ) → 0 < height → (ceiling right (height - 1) (cond right i (i + 1)) i + 1 ≡ height)
-    × (height ≤ ceiling right (height - 1) (cond right i (i + 1)) j + 1)
-    × ((j ≢ i → cond right (nat_le j i) (nat_le i j) ≡ true → ceiling right (height - 1) (cond right i (i + 1)) j ≡ height))
-ceiling-here right height i j h = (grind (arith, nat_tests), grind (arith, nat_tests), λ ne side. grind (arith, nat_tests))
+-- a value with one taken from i first: where the ceiling lowers i further, and where only i has lost one
+cut_below : (i j v w m new c : ℕ) → (j ≡ i → (w + 1 ≡ v) × (c < v)) → (j ≢ i → w ≡ v)
+    → new ≡ max (min v m) (min w c) → new ≡ max (min v m) (min v c)
+cut_below i j v w m new c own other h = grind arith
 
--- the ceiling doesn't rise on the given side
-pub ceiling-side : (right : Bool) (level p i j : ℕ) → cond right (nat_le j i) (nat_le i j) ≡ true → ceiling right level p i ≤ ceiling right level p j
-ceiling-side right level p i j h = grind (arith, nat_tests)
-
--- if the ceiling at i is at least its value, no other value above its minimum is lowered
-ceiling-other : (right : Bool) (level p i j : ℕ) (x height : ℕ) → height ≤ ceiling right level p i → x ≤ height
-    → (x ≡ height → cond right (nat_le j i) (nat_le i j) ≡ true) → x ≤ ceiling right level p j
-ceiling-other right level p i j x height a b c = ⊎_elim
-    (λ e. let s = ceiling-side right level p i j (c e) in omega arith)
-    (λ ne. let f = level-le-ceiling right level p i in let g = level-le-ceiling right level p j in omega (arith, f.0, f.1, g.0, g.1))
-    (cases_eq x height)
-
--- a value whose ceiling is at least the value stays
-keeps : (xs mins : List ℕ) (j c : ℕ) → (at mins j < at xs j → at xs j ≤ c) → max (low xs mins j) (min (at xs j) c) ≡ at xs j
-keeps xs mins j c h = ⊎_elim (λ above. let a = h above in omega arith) (λ none. omega arith) (cases_lt (at mins j) (at xs j))
+cut_own : (right : Bool) (level p i j v w m new height : ℕ) → (j ≡ i → (w + 1 ≡ v) × (v ≡ height)) → (j ≢ i → w ≡ v)
+    → (m < v → v ≤ height) → (m < v → v ≡ height → (if right then nat_le j i else nat_le i j) ≡ true)
+    → height ≤ ceiling right level p i → new ≡ max (min v m) (min w (ceiling right level p j))
+    → new ≡ max (min v m) (min v (ceiling right (height - 1) (if right then i else i + 1) j))
+cut_own right level p i j v w m new height own other most side high h = grind (arith, nat_tests)
 
 pub IsMaxShrunk-step : (right : Bool) (xs mins : List ℕ) (i by : ℕ) (new : List ℕ) → IsGreatest right xs mins i
     → IsMaxShrunk right (lowered xs i) mins by new → IsMaxShrunk right xs mins (by + 1) new
 IsMaxShrunk-step right xs mins i by new g s =
     let h = g.above in
     let l = IsLowered-lowered xs i (at mins i) h in
-    let lo = low-lowered xs mins (lowered xs i) i h l in
     let t = IsTakenFrom-step xs mins i by new h s.takes in
-    let here = l.here in
-    let other = λ (j : ℕ) (ne : j ≢ i). s.cut j ∙ ap
-    (λ k. max k (min (at (lowered xs i) j) (ceiling right s.level s.place j))) (lo j) ∙ ap
-    (λ k. max (low xs mins j) (min k (ceiling right s.level s.place j))) (l.there j ne) in
-    let own : at new i ≡ max (low xs mins i) (min (at (lowered xs i) i) (ceiling right s.level s.place i)) = s.cut i ∙
-    ap (λ k. max k (min (at (lowered xs i) i) (ceiling right s.level s.place i))) (lo i) in
+    let was = λ (j : ℕ). s.cut j ∙ ap (λ k. max k (min (at (lowered xs i) j) (ceiling right s.level s.place j)))
+    (low-lowered xs mins (lowered xs i) i h l j) in
     ⊎_elim
-    -- the ceiling lowers i further, and stays
     (λ below. record {
       takes = t;
       level = s.level;
       place = s.place;
-      cut = λ j. ⊎_elim (λ e. subst (λ k. at new k
-          ≡ max (low xs mins k) (min (at xs k) (ceiling right s.level s.place k))) (sym e) (omega arith)) (λ ne. other j ne) (cases_eq j i);
+      cut = λ j. cut_below i j (at xs j) (at (lowered xs i) j) (at mins j) (at new j) (ceiling right s.level s.place j)
+          (λ e. subst (λ k. (at (lowered xs i) k + 1 ≡ at xs k) × (ceiling right s.level s.place k < at xs k)) (sym e) (l.here, below))
+          (l.there j) (was j);
     })
-    -- otherwise only i has lost one
-    (λ high.
-    let height = at xs i in
-    let p = cond right i (i + 1) in
-    record {
+    (λ high. record {
       takes = t;
-      level = height - 1;
-      place = p;
-      cut = λ j.
-          let now = ceiling-here right height i j (omega arith) in
-          ⊎_elim
-          (λ e. subst (λ k. at new k ≡ max (low xs mins k) (min (at xs k) (ceiling right (height - 1) p k))) (sym e) (let c = now.0 in omega arith))
-          (λ ne.
-          let kept : at new j ≡ at xs j = other j ne ∙ keeps xs mins j (ceiling right s.level s.place j)
-          (λ above. ceiling-other right s.level s.place i j (at xs j) height high (g.most j above) (g.side j above)) in
-          kept ∙ sym (keeps xs mins j (ceiling right (height - 1) p j) (λ above. ⊎_elim
-          (λ same. let c = now.2 ne (g.side j above same) in omega arith)
-          (λ less. let m = g.most j above in let c = now.1 in omega arith) (cases_eq (at xs j) height))))
-          (cases_eq j i);
+      level = at xs i - 1;
+      place = if right then i else i + 1;
+      cut = λ j. cut_own right s.level s.place i j (at xs j) (at (lowered xs i) j) (at mins j) (at new j) (at xs i)
+          (λ e. subst (λ k. (at (lowered xs i) k + 1 ≡ at xs k) × (at xs k ≡ at xs i)) (sym e) (l.here, refl))
+          (l.there j) (g.most j) (g.side j) high (was j);
     })
     (cases_lt (ceiling right s.level s.place i) (at xs i))
 
