@@ -1,6 +1,7 @@
 -- One value more in a row of a map from rows and columns.
 use Rattle.std.proofs.Common.{◌≡◌, ◌==◌, ◌&&◌, ℕ, ◌+◌, ◌-◌, ◌<◌, zero, suc, true, false, if◌then◌else◌, List, [], ◌∷◌, length, Option, Some, None, Result, Ok, Err, OnOk, OnErr, refl, ap, sym, ◌∙◌, arith, inl, inr, nat_lt, get_or, slice_get, slice_set}
-use Rattle.std.proofs.lemmas.Bool.{cases_Bool, eqb-false, eqb-true, ltb-false, ltb-true}
+use Rattle.std.proofs.lemmas.Bool.{cases_Bool, cases_eq, eqb-true, ltb-true}
+use Rattle.std.proofs.lemmas.Bool.Decides.{nat_tests}
 use Rattle.std.proofs.lemmas.Option.{slice_get-get_or}
 use Rattle.std.specs.Option.{option_and_then, option_or}
 use Rattle.std.specs.Vec.{with_item}
@@ -23,39 +24,25 @@ set-other (y ∷ ys) zero (suc k) x apart = refl
 set-other (y ∷ ys) (suc i) zero x apart = refl
 set-other (y ∷ ys) (suc i) (suc k) x apart = set-other ys i k x (λ same. apart (ap suc same))
 
+item-same : {X : Type 0} (first index other : ℕ) (new old : Option X) → other - first ≡ index
+    → (if nat_lt other first then None else new) ≡ (if first + index == other then new else (if nat_lt other first then None else old))
+item-same first index other new old same = grind (arith, nat_tests)
+
+item-other : {X : Type 0} (first index other : ℕ) (new old : Option X) → (other - first ≡ index → ⊥)
+    → (if nat_lt other first then None else old) ≡ (if first + index == other then new else (if nat_lt other first then None else old))
+item-other first index other new old apart = grind (arith, nat_tests)
+
 -- one item of a run that begins at `first`
 item-set : {X : Type 0} (xs : List X) (first index other : ℕ) (x : X) → index < length xs
     → (if nat_lt other first then None else slice_get (slice_set xs index x) (other - first))
     ≡ (if first + index == other then Some x else (if nat_lt other first then None else slice_get xs (other - first)))
 item-set xs first index other x below =
-    let old = slice_get xs (other - first) in
-    let new = slice_get (slice_set xs index x) (other - first) in
-    elim (cases_Bool (nat_lt other first)) [
-      | inl less ↦
-          let under = ltb-true other first less in
-          elim (cases_Bool (first + index == other)) [
-            | inl same ↦ let is = eqb-true (first + index) other same in absurd (omega (arith, is, under))
-            | inr apart ↦
-                ap (λ t. if t then None else new) less
-                ∙ sym (ap (λ t. if t then Some x else (if nat_lt other first then None else old)) apart
-                ∙ ap (λ t. if t then None else old) less)
-          ]
-      | inr from ↦
-          let above = ltb-false other first from in
-          elim (cases_Bool (first + index == other)) [
-            | inl same ↦
-                let is = eqb-true (first + index) other same in
-                let at : other - first ≡ index = omega (arith, is) in
-                ap (λ t. if t then None else new) from
-                ∙ ap (slice_get (slice_set xs index x)) at
-                ∙ set-same xs index x below
-                ∙ sym (ap (λ t. if t then Some x else (if nat_lt other first then None else old)) same)
-            | inr apart ↦
-                ap (λ t. if t then None else new) from
-                ∙ set-other xs index (other - first) x (λ e. eqb-false (first + index) other apart (omega (arith, e, above)))
-                ∙ sym (ap (λ t. if t then Some x else (if nat_lt other first then None else old)) apart
-                ∙ ap (λ t. if t then None else old) from)
-          ]
+    let found : Option _ → Option _ = λ o. if nat_lt other first then None else o in
+    elim (cases_eq (other - first) index) [
+      | inl same ↦ ap found (ap (slice_get (slice_set xs index x)) same ∙ set-same xs index x below)
+          ∙ item-same first index other (Some x) (slice_get xs (other - first)) same
+      | inr apart ↦ ap found (set-other xs index (other - first) x apart)
+          ∙ item-other first index other (Some x) (slice_get xs (other - first)) apart
     ]
 
 module _ (old : RunMap (RunMap ℕ)) (index : ℕ) (within : index < length old.run.items) where
