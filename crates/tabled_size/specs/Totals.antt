@@ -1,11 +1,15 @@
 -- The total width and height of a table.
-use Rattle.std.specs.Prelude.{ℕ, ◌+◌, ◌-◌, ◌*◌, if◌then◌else◌, List, is_some, length}
+use Rattle.std.specs.Prelude.{◌≡◌, ℕ, ◌+◌, ◌-◌, ◌*◌, ◌^◌, ◌≤◌, if◌then◌else◌, List, MatchOption, Option, is_some, length}
 use Rattle.std.specs.List.{slice_index}
 use Rattle.tabled_base.specs.Cells.{columns}
 use Rattle.tabled_config.specs.declared.spanned.SpannedConfig.{SpannedConfig}
 use Rattle.tabled_config.specs.Settings.{frame, rule_at}
 use Rattle.tabled_priority.specs.Sums.{one_if, sum_below}
 use Rattle.tabled_size.specs.Sheet.{Sheet, is_empty}
+
+-- a total, or nothing if it exceeds the greatest `usize`
+abbrev pub IsTotal : ℕ → Option ℕ → Type 0
+IsTotal whole result = MatchOption result (2 ^ 64 ≤ whole) (λ n. n ≡ whole)
 
 -- the total width, given the sum of all widths: the sum, the vertical lines, and the margin on the
 -- left and right

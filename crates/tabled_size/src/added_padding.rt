@@ -11,9 +11,6 @@ use tabled_base::Position;
 use tabled_config::{Indent, Sides, SpannedConfig};
 use tabled_entity::RowValues;
 
-/// Padding is listed for at most this number of columns.
-const MOST_COLUMNS: usize = 65_536;
-
 /// A number of columns and lines: what padding adds to a cell, or what a cell needs.
 #[derive(Clone, Copy)]
 pub(crate) struct Extent {
@@ -139,8 +136,8 @@ impl ListedRow {
 
 impl KnownAdded {
     /// Computes what padding adds in a table with `rows` rows and `columns` columns. It is listed
-    /// only if there are at most `MOST_COLUMNS` columns and padding was set for a column. If an
-    /// allocation fails, nothing is listed, and each row looks up its paddings.
+    /// only if padding was set for a column. If an allocation fails, nothing is listed, and each
+    /// row looks up its paddings.
     pub(crate) fn new(
         alloc: Global,
         config: &SpannedConfig,
@@ -156,11 +153,7 @@ impl KnownAdded {
         }
         // If padding was set only for rows and cells, each row looks up its own. Hardly anything is
         // set for the row after the last one, so most rows have its padding.
-        if rows < 2
-            || columns > MOST_COLUMNS
-            || config.row_padding(rows).is_some()
-            || !config.are_padded_alike(rows, rows)
-        {
+        if rows < 2 || config.row_padding(rows).is_some() || !config.are_padded_alike(rows, rows) {
             return KnownAdded::Unlike(None);
         }
         KnownAdded::Unlike(list_row(alloc, config, rows, columns))

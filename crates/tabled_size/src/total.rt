@@ -15,7 +15,7 @@ ghost use Rattle.tabled_size.specs.Estimates.{estimated_heights, estimated_width
 ghost use Rattle.tabled_size.specs.Reached.{reached};
 ghost use Rattle.tabled_size.specs.Sheet.{is_empty, estimated};
 ghost use Rattle.tabled_size.specs.Stored.{heights_of, widths_of};
-ghost use Rattle.tabled_size.specs.Totals.{filled_height, filled_width, framed_height};
+ghost use Rattle.tabled_size.specs.Totals.{IsTotal, filled_height, filled_width, framed_height};
 ghost use Rattle.tabled_size.specs.Totals.{framed_width, part_height, total_height, total_width};
 
 use crate::complete_dimension::CompleteDimension;
@@ -84,8 +84,7 @@ fn one_if(there: bool) -> usize
 
 #[tactic(auto, unfolding(crate::specs::Totals::framed_width))]
 fn framed_width(config: &SpannedConfig, columns: usize, inside: usize) -> Option<usize>
-    ensures { let whole = framed_width config.now columns inside in
-        MatchOption result (2 ^ 64 ≤ whole) (λ n. n ≡ whole) }
+    ensures { IsTotal (framed_width config.now columns inside) result }
 {
     let frame = config.frame();
     let margin = frame.margin;
@@ -106,8 +105,7 @@ pub fn filled_width<D: Dimension>(
 ) -> Option<usize>
     requires { columns ≤ length (reached (D.width_at sizes.now) columns) }
     ensures { let widths = reached (D.width_at sizes.now) columns in
-        let whole = filled_width config.now columns widths in
-        MatchOption result (2 ^ 64 ≤ whole) (λ n. n ≡ whole) }
+        IsTotal (filled_width config.now columns widths) result }
 {
     let mut total: usize = 0;
     'columns: for column in 0..columns {
@@ -118,8 +116,7 @@ pub fn filled_width<D: Dimension>(
 
 #[tactic(auto, unfolding(crate::specs::Totals::framed_height))]
 fn framed_height(config: &SpannedConfig, rows: usize, inside: usize) -> Option<usize>
-    ensures { let whole = framed_height config.now rows inside in
-        MatchOption result (2 ^ 64 ≤ whole) (λ n. n ≡ whole) }
+    ensures { IsTotal (framed_height config.now rows inside) result }
 {
     let margin = config.frame().margin;
     let last = one_if(config.rule_at(rows, rows).is_some());
@@ -132,8 +129,8 @@ fn framed_height(config: &SpannedConfig, rows: usize, inside: usize) -> Option<u
 #[tactic(auto, unfolding(crate::specs::Totals::filled_height, crate::specs::Totals::framed_height, crate::specs::Totals::part_height), using(tabled_priority::proofs::Sums::sum_step, crate::proofs::Reaching::reached_is))]
 pub fn filled_height<D: Dimension>(config: &SpannedConfig, rows: usize, sizes: &D) -> Option<usize>
     requires { rows ≤ length (reached (D.height_at sizes.now) rows) }
-    ensures { let whole = filled_height config.now rows (reached (D.height_at sizes.now) rows) in
-        MatchOption result (2 ^ 64 ≤ whole) (λ n. n ≡ whole) }
+    ensures { let heights = reached (D.height_at sizes.now) rows in
+        IsTotal (filled_height config.now rows heights) result }
 {
     let mut total: usize = 0;
     'rows: for row in 0..rows {
@@ -276,8 +273,7 @@ pub fn estimated_total_width<R: PeekableRecords>(
     records: &R,
     config: &SpannedConfig,
 ) -> Option<usize>
-    ensures { let whole = total_width (estimated (R.cells records.now) config.now) in
-        MatchOption result (2 ^ 64 ≤ whole) (λ n. n ≡ whole) }
+    ensures { IsTotal (total_width (estimated (R.cells records.now) config.now)) result }
 {
     if is_empty(records) {
         return Some(0);
@@ -313,8 +309,7 @@ pub fn estimated_total_height<R: PeekableRecords>(
     records: &R,
     config: &SpannedConfig,
 ) -> Option<usize>
-    ensures { let whole = total_height (estimated (R.cells records.now) config.now) in
-        MatchOption result (2 ^ 64 ≤ whole) (λ n. n ≡ whole) }
+    ensures { IsTotal (total_height (estimated (R.cells records.now) config.now)) result }
 {
     if is_empty(records) {
         return Some(0);
