@@ -1,131 +1,40 @@
 //! The options `Margin` and `Padding`, the space around a table and around the text of a cell.
-ghost use Rattle.std.specs.Prelude.{◌≡◌, if◌then◌else◌};
+ghost use Rattle.std.specs.Prelude.{◌≡◌, if◌then◌else◌, OnErr, OnOk};
 ghost use Rattle.tabled_set.specs.Common.{Memory};
 ghost use Rattle.tabled_config.specs.Options.{Becomes, colored};
+ghost use Rattle.tabled_config.specs.declared.sides.Indent.{Indent};
+ghost use Rattle.tabled_config.specs.declared.sides.Sides.{Sides};
 ghost use Rattle.tabled_entity.specs.ChangeIndex.{IsPart};
 ghost use Rattle.tabled_entity.specs.Changes.{for_all, with_change};
 ghost use Rattle.tabled_set.specs.Sides.{filled, spaced};
 ghost use Rattle.tabled_set.specs.declared.spaces.PaddingExpand.TheVariants.{Horizontal, Vertical};
 
+use std::marker::PhantomData;
 use tabled_base::{CellOption, Entity, TableError, TableOption};
 use tabled_config::{ColoredConfig, CompactConfig, CompactMultilineConfig, Indent, Sides};
 
-/// Returns indents of spaces: columns at the left and right, lines at the top and bottom.
-fn spaced(left: usize, right: usize, top: usize, bottom: usize) -> Sides<Indent>
-    ensures { result ≡ spaced left right top bottom }
-{
-    Sides::new(
-        Indent::spaced(left),
-        Indent::spaced(right),
-        Indent::spaced(top),
-        Indent::spaced(bottom),
-    )
+/// The space on the four sides of a table or of the text of a cell.
+#[derive(Clone, Copy, Debug, PartialEq, Eq, PartialOrd, Ord)]
+pub struct Space<K> {
+    indent: Sides<Indent>,
+    around: PhantomData<K>,
 }
 
-/// Returns indents of the same sizes, filled with other characters.
-fn filled(sides: Sides<Indent>, left: char, right: char, top: char, bottom: char) -> Sides<Indent>
-    ensures { result ≡ filled sides left right top bottom }
-{
-    Sides::new(
-        Indent::new(sides.left.size, left),
-        Indent::new(sides.right.size, right),
-        Indent::new(sides.top.size, top),
-        Indent::new(sides.bottom.size, bottom),
-    )
-}
+/// The kind of space that is around a table.
+#[derive(Clone, Copy, Debug, PartialEq, Eq, PartialOrd, Ord)]
+pub struct AroundTable;
+
+/// The kind of space that is around the text of a cell.
+#[derive(Clone, Copy, Debug, PartialEq, Eq, PartialOrd, Ord)]
+pub struct AroundText;
 
 /// The space around a table, outside its frame. As an option it replaces the table's margin, and
 /// never fails.
-#[derive(Clone, Debug, Drop)]
-pub struct Margin {
-    indent: Sides<Indent>,
-}
-
-impl Margin {
-    /// Creates a margin of spaces: columns at the left and right, lines at the top and bottom.
-    pub fn new(left: usize, right: usize, top: usize, bottom: usize) -> Margin
-        ensures { result ≡ record { indent = spaced left right top bottom } }
-    {
-        let indent = spaced(left, right, top, bottom);
-        Margin { indent }
-    }
-
-    /// Fills the margin with other characters, one for each side.
-    pub fn fill(self, left: char, right: char, top: char, bottom: char) -> Margin
-        ensures { result ≡ record { indent = filled self.indent left right top bottom } }
-    {
-        let indent = filled(self.indent, left, right, top, bottom);
-        Margin { indent }
-    }
-}
-
-impl From<Margin> for Sides<Indent> {
-    ghost from_gives = { λ margin sides. sides ≡ margin.indent };
-
-    fn from(margin: Margin) -> Sides<Indent> {
-        margin.indent
-    }
-}
-
-impl From<Sides<Indent>> for Margin {
-    ghost from_gives = { λ sides margin. margin ≡ record { indent = sides } };
-
-    fn from(indent: Sides<Indent>) -> Margin {
-        Margin { indent }
-    }
-}
-
-impl<R, D> TableOption<R, ColoredConfig, D> for Margin {
-    ghost changes = { λ s r c d. Becomes (colored (record c.config { margin = s.indent })) r d };
-
-    fn change(self, _: &mut R, cfg: &mut ColoredConfig, _: &mut D) -> Result<(), TableError> {
-        cfg.as_mut().set_margin(self.indent);
-        Ok(())
-    }
-
-    fn hint_change(&self) -> Option<Entity> {
-        Some(Entity::Global)
-    }
-}
-
-impl<R, D> TableOption<R, CompactConfig, D> for Margin {
-    ghost changes = { λ s r c d. Becomes (record c { margin = s.indent }) r d };
-
-    fn change(self, _: &mut R, cfg: &mut CompactConfig, _: &mut D) -> Result<(), TableError> {
-        *cfg = cfg.set_margin(self.indent);
-        Ok(())
-    }
-
-    fn hint_change(&self) -> Option<Entity> {
-        Some(Entity::Global)
-    }
-}
-
-impl<R, D> TableOption<R, CompactMultilineConfig, D> for Margin {
-    ghost changes = { λ s r c d.
-        Becomes (record c { config = record c.config { margin = s.indent } }) r d };
-
-    fn change(
-        self,
-        _: &mut R,
-        cfg: &mut CompactMultilineConfig,
-        _: &mut D,
-    ) -> Result<(), TableError> {
-        cfg.set_margin(self.indent);
-        Ok(())
-    }
-
-    fn hint_change(&self) -> Option<Entity> {
-        Some(Entity::Global)
-    }
-}
+pub type Margin = Space<AroundTable>;
 
 /// The space around the text of a cell. As a table option it replaces the padding of all cells, as
 /// a cell option that of an entity's cells.
-#[derive(Clone, Copy, Debug, PartialEq, Eq, PartialOrd, Ord)]
-pub struct Padding {
-    indent: Sides<Indent>,
-}
+pub type Padding = Space<AroundText>;
 
 /// A direction in which padding expands.
 #[derive(Debug, Drop)]
@@ -136,28 +45,40 @@ pub enum PaddingExpand {
     Vertical,
 }
 
-impl Padding {
-    /// Creates a padding of spaces: columns at the left and right, lines at the top and bottom.
-    pub fn new(left: usize, right: usize, top: usize, bottom: usize) -> Padding
-        ensures { result ≡ record { indent = spaced left right top bottom } }
+impl<K: Copy> Space<K> {
+    /// Creates a space of space characters: columns at the left and right, lines at the top and
+    /// bottom.
+    pub fn new(left: usize, right: usize, top: usize, bottom: usize) -> Space<K>
+        ensures { result.indent ≡ spaced left right top bottom }
     {
-        let indent = spaced(left, right, top, bottom);
-        Padding { indent }
+        Space::from(Sides::new(
+            Indent::spaced(left),
+            Indent::spaced(right),
+            Indent::spaced(top),
+            Indent::spaced(bottom),
+        ))
     }
 
+    /// Fills the space with other characters, one for each side.
+    pub fn fill(self, left: char, right: char, top: char, bottom: char) -> Space<K>
+        ensures { result.indent ≡ filled self.indent left right top bottom }
+    {
+        let old = self.indent;
+        Space::from(Sides::new(
+            Indent::new(old.left.size, left),
+            Indent::new(old.right.size, right),
+            Indent::new(old.top.size, top),
+            Indent::new(old.bottom.size, bottom),
+        ))
+    }
+}
+
+impl Padding {
     /// Creates a padding of size 0 on all sides.
     pub fn zero() -> Padding
-        ensures { result ≡ record { indent = spaced 0 0 0 0 } }
+        ensures { result.indent ≡ spaced 0 0 0 0 }
     {
         Padding::new(0, 0, 0, 0)
-    }
-
-    /// Fills the padding with other characters, one for each side.
-    pub fn fill(self, left: char, right: char, top: char, bottom: char) -> Padding
-        ensures { result ≡ record { indent = filled self.indent left right top bottom } }
-    {
-        let indent = filled(self.indent, left, right, top, bottom);
-        Padding { indent }
     }
 
     /// Returns `Horizontal` if `horizontal` is true, else `Vertical`.
@@ -172,19 +93,96 @@ impl Padding {
     }
 }
 
-impl From<Padding> for Sides<Indent> {
-    ghost from_gives = { λ padding sides. sides ≡ padding.indent };
+impl<K: Copy> From<Space<K>> for Sides<Indent> {
+    ghost from_gives = { λ space sides. sides ≡ space.indent };
 
-    fn from(padding: Padding) -> Sides<Indent> {
-        padding.indent
+    fn from(space: Space<K>) -> Sides<Indent> {
+        space.indent
     }
 }
 
-impl From<Sides<Indent>> for Padding {
-    ghost from_gives = { λ sides padding. padding ≡ record { indent = sides } };
+impl<K: Copy> From<Sides<Indent>> for Space<K> {
+    ghost from_gives = { λ sides space. space.indent ≡ sides };
 
-    fn from(indent: Sides<Indent>) -> Padding {
-        Padding { indent }
+    fn from(indent: Sides<Indent>) -> Space<K> {
+        let around = PhantomData;
+        Space { indent, around }
+    }
+}
+
+/// A configuration with a space of kind `K`.
+pub trait HasSpace<K> {
+    // The configuration with another space.
+    ghost with_space: { Self → Sides Indent → Self };
+
+    /// Replaces the space. Never fails.
+    fn set_space(&mut self, indent: Sides<Indent>) -> Result<(), TableError>
+        ensures ok { OnOk result (self.new ≡ with_space self.old indent) }
+        ensures err { OnErr result ⊥ };
+}
+
+impl HasSpace<AroundTable> for ColoredConfig {
+    ghost with_space = { λ c indent. colored (record c.config { margin = indent }) };
+
+    fn set_space(&mut self, indent: Sides<Indent>) -> Result<(), TableError> {
+        self.as_mut().set_margin(indent);
+        Ok(())
+    }
+}
+
+impl HasSpace<AroundText> for ColoredConfig {
+    ghost with_space = { λ c indent. colored (record c.config { padding = for_all indent }) };
+
+    fn set_space(&mut self, indent: Sides<Indent>) -> Result<(), TableError> {
+        self.as_mut().set_padding(Entity::Global, indent)
+    }
+}
+
+impl HasSpace<AroundTable> for CompactConfig {
+    ghost with_space = { λ c indent. record c { margin = indent } };
+
+    fn set_space(&mut self, indent: Sides<Indent>) -> Result<(), TableError> {
+        *self = self.set_margin(indent);
+        Ok(())
+    }
+}
+
+impl HasSpace<AroundText> for CompactConfig {
+    ghost with_space = { λ c indent. record c { padding = indent } };
+
+    fn set_space(&mut self, indent: Sides<Indent>) -> Result<(), TableError> {
+        *self = self.set_padding(indent);
+        Ok(())
+    }
+}
+
+impl HasSpace<AroundTable> for CompactMultilineConfig {
+    ghost with_space = { λ c indent. record c { config = record c.config { margin = indent } } };
+
+    fn set_space(&mut self, indent: Sides<Indent>) -> Result<(), TableError> {
+        self.set_margin(indent);
+        Ok(())
+    }
+}
+
+impl HasSpace<AroundText> for CompactMultilineConfig {
+    ghost with_space = { λ c indent. record c { config = record c.config { padding = indent } } };
+
+    fn set_space(&mut self, indent: Sides<Indent>) -> Result<(), TableError> {
+        self.set_padding(indent);
+        Ok(())
+    }
+}
+
+impl<K: Copy, R, C: HasSpace<K>, D> TableOption<R, C, D> for Space<K> {
+    ghost changes = { λ s r c d. Becomes (C.with_space c s.indent) r d };
+
+    fn change(self, _: &mut R, cfg: &mut C, _: &mut D) -> Result<(), TableError> {
+        cfg.set_space(self.indent)
+    }
+
+    fn hint_change(&self) -> Option<Entity> {
+        Some(Entity::Global)
     }
 }
 
@@ -197,51 +195,6 @@ impl<R> CellOption<R, ColoredConfig> for Padding {
 
     fn change(&self, _: &mut R, cfg: &mut ColoredConfig, entity: Entity) -> Result<(), TableError> {
         cfg.as_mut().set_padding(entity, self.indent)
-    }
-
-    fn hint_change(&self) -> Option<Entity> {
-        Some(Entity::Global)
-    }
-}
-
-impl<R, D> TableOption<R, ColoredConfig, D> for Padding {
-    ghost changes = { λ s r c d.
-        Becomes (colored (record c.config { padding = for_all s.indent })) r d };
-
-    fn change(self, _: &mut R, cfg: &mut ColoredConfig, _: &mut D) -> Result<(), TableError> {
-        cfg.as_mut().set_padding(Entity::Global, self.indent)
-    }
-
-    fn hint_change(&self) -> Option<Entity> {
-        Some(Entity::Global)
-    }
-}
-
-impl<R, D> TableOption<R, CompactConfig, D> for Padding {
-    ghost changes = { λ s r c d. Becomes (record c { padding = s.indent }) r d };
-
-    fn change(self, _: &mut R, cfg: &mut CompactConfig, _: &mut D) -> Result<(), TableError> {
-        *cfg = cfg.set_padding(self.indent);
-        Ok(())
-    }
-
-    fn hint_change(&self) -> Option<Entity> {
-        Some(Entity::Global)
-    }
-}
-
-impl<R, D> TableOption<R, CompactMultilineConfig, D> for Padding {
-    ghost changes = { λ s r c d.
-        Becomes (record c { config = record c.config { padding = s.indent } }) r d };
-
-    fn change(
-        self,
-        _: &mut R,
-        cfg: &mut CompactMultilineConfig,
-        _: &mut D,
-    ) -> Result<(), TableError> {
-        cfg.set_padding(self.indent);
-        Ok(())
     }
 
     fn hint_change(&self) -> Option<Entity> {
