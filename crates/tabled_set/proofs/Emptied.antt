@@ -1,8 +1,8 @@
 -- Cells without a text: as many, and their columns are no wider than the padding asks for.
-use Rattle.std.proofs.Common.{◌≡◌, ℕ, ◌<◌, ◌≤◌, ◌==◌, ◌||◌, List, [], ◌∷◌, length, map, refl, ap, sym, ◌∙◌, arith, slice_index_or}
-use Rattle.std.proofs.Math.ListN.{get_or-map}
-use Rattle.std.proofs.lemmas.List.{get_or_default, length-map}
-use Rattle.tabled_set.specs.Common.{at, cell_at, columns, estimated_widths, is_empty, IsRectangular, SpannedConfig, text_columns}
+use Rattle.std.proofs.Common.{◌≡◌, ℕ, ◌<◌, ◌≤◌, ◌==◌, ◌||◌, List, [], ◌∷◌, length, replicate, refl, ap, ◌∙◌, arith}
+use Rattle.std.proofs.lemmas.List.{length-replicate}
+use Rattle.tabled_set.specs.Common.{at, cell_at, columns, estimated_widths, is_empty, SpannedConfig, text_columns}
+use Rattle.tabled_records.proofs.EmptyRuns.{cell_of_empty}
 use Rattle.tabled_size.specs.Estimates.{column_width, needed_width}
 use Rattle.tabled_size.proofs.Passing.{width_at, width_ge}
 use Rattle.tabled_size.proofs.ShrunkTotals.{estimated_widths-le}
@@ -11,22 +11,14 @@ use Rattle.tabled_text.proofs.StayLemmas.{StaysWithin-none, text_columns-stays}
 use Rattle.tabled_set.specs.Minimums.{emptied, minimums, side_padding}
 
 pub emptied-rows : (cells : List (List (List ℕ))) → length (emptied cells) ≡ length cells
-emptied-rows cells = length-map cells (map (λ text. []))
+emptied-rows cells = length-replicate (length cells) (replicate (columns cells) [])
 
 pub emptied-columns : (cells : List (List (List ℕ))) → columns (emptied cells) ≡ columns cells
 emptied-columns [] = refl
-emptied-columns (row ∷ rows) = length-map row (λ text. [])
+emptied-columns (row ∷ rows) = length-replicate (length row) []
 
 pub emptied-cell : (cells : List (List (List ℕ))) (row column : ℕ) → cell_at (emptied cells) row column ≡ []
-emptied-cell cells row column =
-    ap (λ r. slice_index_or r column []) (get_or-map (map (λ text. [])) cells row [])
-    ∙ get_or-map (λ text. []) (slice_index_or cells row []) column []
-
-pub emptied-rectangular : (cells : List (List (List ℕ))) → IsRectangular cells → IsRectangular (emptied cells)
-emptied-rectangular cells q =
-    λ k d l. let inside : k < length cells = omega (arith, emptied-rows cells) in
-    ap length (get_or_default (emptied cells) k d [] l ∙ get_or-map (map (λ text. [])) cells k [])
-    ∙ length-map (slice_index_or cells k []) (λ text. []) ∙ q k [] inside ∙ sym (emptied-columns cells)
+emptied-cell cells row column = cell_of_empty (length cells) (columns cells) row column
 
 pub emptied-empty : (cells : List (List (List ℕ))) → is_empty (emptied cells) ≡ is_empty cells
 emptied-empty cells = ap (λ n. (n == 0) || (columns (emptied cells) == 0)) (emptied-rows cells) ∙ ap (λ n. (length cells == 0) || (n == 0)) (emptied-columns cells)

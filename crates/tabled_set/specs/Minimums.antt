@@ -1,14 +1,14 @@
 -- The minimum widths of columns, which they have with empty cells.
-use Rattle.std.specs.Prelude.{ℕ, ◌+◌, List, [], map, Option, Some, None, is_some, if◌then◌else◌}
-use Rattle.tabled_set.specs.Common.{estimated_widths, SpannedConfig}
+use Rattle.std.specs.Prelude.{ℕ, ◌+◌, List, [], length, replicate, Option, Some, None, is_some, if◌then◌else◌}
+use Rattle.tabled_set.specs.Common.{columns, estimated_widths, SpannedConfig}
 use Rattle.tabled_config.specs.Settings.{style_at}
 use Rattle.tabled_entity.specs.Changes.{shared}
 use Rattle.tabled_config.specs.declared.sides.Indent.{Indent}
 use Rattle.tabled_config.specs.declared.sides.Sides.{Sides}
 
--- the same cells without text
+-- as many rows and columns of cells without text
 abbrev pub emptied : List (List (List ℕ)) → List (List (List ℕ))
-emptied cells = map (map (λ text. [])) cells
+emptied cells = replicate (length cells) (replicate (columns cells) [])
 
 -- the estimated widths of empty cells, which are padding only
 abbrev pub minimums : List (List (List ℕ)) → SpannedConfig → List ℕ

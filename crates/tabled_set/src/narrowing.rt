@@ -14,42 +14,10 @@ use crate::resize::{CellFilter, Change, ContentSizes, Resize, TextTransform};
 use crate::sizes::{shrunk, stored_columns};
 use crate::walk::{WalkOrder, change_cells};
 use std::alloc::{AllocError, Global};
-use tabled_base::{Entity, ExactRecords, PeekableRecords, Position, RecordsMut, TableError};
+use tabled_base::{Entity, ExactRecords, Position, RecordsMut, TableError};
 use tabled_config::{Indent, Sides, SpannedConfig};
+use tabled_records::EmptyRecords;
 use tabled_size::{CompleteDimension, Estimate, Peaker, estimate_widths, is_empty};
-use tabled_text::{count_lines, text_width};
-
-/// A view of records with all cells empty.
-#[derive(Drop)]
-struct EmptiedRecords<'a, R> {
-    records: &'a R,
-}
-
-impl<'a, R: ExactRecords> ExactRecords for EmptiedRecords<'a, R> {
-    ghost cells = { λ r. emptied (R.cells r.records.now) };
-
-    fn count_rows(&self) -> usize {
-        self.records.count_rows()
-    }
-
-    fn count_columns(&self) -> usize {
-        self.records.count_columns()
-    }
-}
-
-impl<'a, R: ExactRecords> PeekableRecords for EmptiedRecords<'a, R> {
-    fn get_text(&self, _at: Position) -> &str {
-        ""
-    }
-
-    fn get_width(&self, at: Position) -> usize {
-        text_width(self.get_text(at))
-    }
-
-    fn count_lines(&self, at: Position) -> usize {
-        count_lines(self.get_text(at))
-    }
-}
 
 /// Returns the widths to which the columns of a table shrink, with the content widths of its cells,
 /// or `None` if the total is at most n.
@@ -80,7 +48,11 @@ fn narrowed_widths<'a, P: Peaker + Drop, R: ExactRecords>(
         return Ok(None);
     }
     let alloc = sizes.allocator();
-    let mut mins = estimate_widths(alloc, &EmptiedRecords { records }, config)?;
+    let empty = EmptyRecords {
+        rows: records.count_rows(),
+        columns: records.count_columns(),
+    };
+    let mut mins = estimate_widths(alloc, &empty, config)?;
     mins.truncate(widths.len());
     let widths = shrunk(alloc, priority, widths, &mins, total - n)?;
     let content = content_widths(alloc, &widths, &mins, config.shared_padding())?;
