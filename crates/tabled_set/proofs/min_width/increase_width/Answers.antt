@@ -1,7 +1,7 @@
-use Rattle.std.proofs.Common.{◌≡◌, ◌⊎◌, ◌≤◌, ◌-◌, ◌^◌, ℕ, List, ap, arith, false, inl, inr, rules, subst, sum}
+use Rattle.std.proofs.Common.{◌≡◌, ◌≤◌, ◌-◌, ◌^◌, ℕ, List, ap, arith, false, inl, inr, rules, subst, sum}
 use Rattle.std.proofs.lemmas.Result.{err_from_is_err_and}
-use Rattle.tabled_set.specs.Common.{effective, is_empty, is_stored, Memory, Range, Sheet, total_width}
-use Rattle.tabled_set.specs.Increased.{IsGrownBy, StopsIncreasing, WidthOutOfRange}
+use Rattle.tabled_set.specs.Common.{effective, is_empty, is_stored, Sheet, total_width}
+use Rattle.tabled_set.specs.Increased.{IsGrownBy}
 use Rattle.tabled_set.proofs.PromisedSizes.{made-wider, wide-already, widths-fit}
 use Rattle.tabled_set.proofs.NarrowingTables.{effective-filled, fails-lacking, if-err}
 use Rattle.tabled_set.proofs.Stopping.{stops-measuring}
@@ -15,48 +15,36 @@ returns-in_err-n-clause-err g c =
 
 pub returns-in_err-estimate-clause-err : goal.returns-in_err-estimate-clause-err
 returns-in_err-estimate-clause-err g c =
-    let cells = g.R.ExactRecords.cells c.args.records.now in
-    let config = c.args.config.now in
     let old = c.args.sizes.now in
-    let some : is_empty cells ≡ false = search rules in
-    if-err
-    (λ e. (is_empty cells ≡ false) × StopsIncreasing (g.W.Measurement.measures c.args.option.size cells config) e cells config old c.estimate.new.self)
-    c.from_residual-in_err-estimate.result _ c.from_residual-in_err-estimate.ensures.1
+    let some : is_empty (g.R.ExactRecords.cells c.args.records.now) ≡ false = search rules in
+    if-err _ c.from_residual-in_err-estimate.result _ c.from_residual-in_err-estimate.ensures.1
     (some, inl (record { lacking = λ _. fails-lacking (is_stored old) c.estimate.result _ c.estimate.ensures.stored c.in_err-estimate.was; same = c.in_err-estimate.ensures.err }))
 
 pub returns-in_err-widths-clause-err : goal.returns-in_err-widths-clause-err
 returns-in_err-widths-clause-err g c =
-    let cells = g.R.ExactRecords.cells c.args.records.now in
-    let config = c.args.config.now in
-    let n = g.W.Measurement.measures c.args.option.size cells config in
-    let some : is_empty cells ≡ false = search rules in
+    let some : is_empty (g.R.ExactRecords.cells c.args.records.now) ≡ false = search rules in
     let range = c.in_err-widths.ensures.err.0 in
-    if-err (λ e. (is_empty cells ≡ false) × StopsIncreasing n e cells config c.args.sizes.now c.estimate.new.self)
-    c.from_residual-in_err-widths.result _ c.from_residual-in_err-widths.ensures.1
+    if-err _ c.from_residual-in_err-widths.result _ c.from_residual-in_err-widths.ensures.1
     (some, inr (record { narrower = λ m. cc (m, range); filled = c.in_ok-estimate.ensures.ok }))
 
 pub returns-in_err-widths-clause-only : goal.returns-in_err-widths-clause-only
 returns-in_err-widths-clause-only g c =
     let cells = g.R.ExactRecords.cells c.args.records.now in
     let config = c.args.config.now in
-    let over = g.W.Measurement.out_of_range c.args.option.size cells config in
     let some : is_empty cells ≡ false = search rules in
     let same = effective-filled cells config c.args.sizes.now c.estimate.new.self c.in_ok-estimate.ensures.ok in
     let wide = subst (λ (t : Sheet). 2 ^ 64 ≤ total_width t) same c.in_err-widths.ensures.err.1 in
-    if-err (λ e. (e ≡ Memory) ⊎ ((e ≡ Range) × WidthOutOfRange over cells config c.args.sizes.now))
-    c.from_residual-in_err-widths.result _ c.from_residual-in_err-widths.ensures.1
+    if-err _ c.from_residual-in_err-widths.result _ c.from_residual-in_err-widths.ensures.1
     (inr (c.in_err-widths.ensures.err.0, (some, inr (inr wide))))
 
 pub returns-in_err-widths-2-clause-err : goal.returns-in_err-widths-2-clause-err
 returns-in_err-widths-2-clause-err g c =
     let cells = g.R.ExactRecords.cells c.args.records.now in
     let config = c.args.config.now in
-    let n = g.W.Measurement.measures c.args.option.size cells config in
     let some : is_empty cells ≡ false = search rules in
     let same = ap total_width (effective-filled cells config c.args.sizes.now c.estimate.new.self c.in_ok-estimate.ensures.ok) in
     let total = c.in_ok-widths.ensures.total in
-    if-err (λ e. (is_empty cells ≡ false) × StopsIncreasing n e cells config c.args.sizes.now c.estimate.new.self)
-    c.from_residual-in_err-widths-2.result _ c.from_residual-in_err-widths-2.ensures.1 (
+    if-err _ c.from_residual-in_err-widths-2.result _ c.from_residual-in_err-widths-2.ensures.1 (
       some,
       inr (record { narrower = λ _. omega (arith, same, total, c.in_ok-n.ensures.ok, c.if-n-total.false); filled = c.in_ok-estimate.ensures.ok }),
     )

@@ -2,7 +2,7 @@ use Rattle.std.proofs.Common.{◌≡◌, ℕ, ◌≤◌, ◌<◌, ◌⊎◌, ◌
 use Rattle.std.proofs.lemmas.Result.{err_from_is_err_and}
 use Rattle.tabled_set.specs.Common.{effective, is_empty, is_stored, Memory, Range, Sheet, total_width}
 use Rattle.tabled_set.specs.CellChanges.{if_taken}
-use Rattle.tabled_set.specs.Narrowed.{content_width, less_padding, NarrowingOutOfRange, StopsNarrowing, IsFound}
+use Rattle.tabled_set.specs.Narrowed.{content_width, less_padding, NarrowingOutOfRange, IsFound}
 use Rattle.tabled_set.specs.Minimums.{own_padding}
 use Rattle.tabled_set.specs.declared.narrowing.ColumnWidths.{ColumnWidths}
 use Rattle.tabled_set.proofs.NarrowingTables.{sized-before, sized-made}
@@ -19,16 +19,9 @@ returns-in_err-n-clause-err g c =
 
 pub returns-in_err-estimate-clause-err : goal.returns-in_err-estimate-clause-err
 returns-in_err-estimate-clause-err g c =
-    let by = c.args.option in
-    let cells = g.R.ExactRecords.cells c.args.records.now in
-    let config = c.args.config.now in
     let old = c.args.sizes.now in
-    let some : is_empty cells ≡ false = search rules in
-    if-err
-    (λ e. (is_empty cells ≡ false) × StopsNarrowing g.P.Peaker.shrinks by.priority c.args.cell_filter
-    (g.T.TextTransform.shortens by.transform) (g.T.TextTransform.makes by.transform)
-    (g.W.Measurement.measures by.size cells config) e cells config old cells c.estimate.new.self)
-    c.from_residual-in_err-estimate.result _ c.from_residual-in_err-estimate.ensures.1
+    let some : is_empty (g.R.ExactRecords.cells c.args.records.now) ≡ false = search rules in
+    if-err _ c.from_residual-in_err-estimate.result _ c.from_residual-in_err-estimate.ensures.1
     (some, inl (refl, record { lacking = λ _. fails-lacking (is_stored old) c.estimate.result _ c.estimate.ensures.stored c.in_err-estimate.was; same = c.in_err-estimate.ensures.err }))
 
 pub returns-in_err-found-clause-only : goal.returns-in_err-found-clause-only
@@ -41,9 +34,7 @@ returns-in_err-found-clause-only g c =
     let some : is_empty cells ≡ false = search rules in
     let error = c.from_residual-in_err-found.result in
     subst (λ (n : ℕ). IfErr error (λ e. (e ≡ Memory) ⊎ ((e ≡ Range) × NarrowingOutOfRange over n cells config old))) c.in_ok-n.ensures.ok
-    (if-err
-    (λ e. (e ≡ Memory) ⊎ ((e ≡ Range) × NarrowingOutOfRange over c.in_ok-n.n cells config old))
-    error _ c.from_residual-in_err-found.ensures.1
+    (if-err _ error _ c.from_residual-in_err-found.ensures.1
     (passes-before over c.in_ok-n.n cells config old c.estimate.new.self _ some c.in_ok-estimate.ensures.ok c.in_err-found.ensures.err))
 
 pub returns-in_err-found-clause-err : goal.returns-in_err-found-clause-err
@@ -56,9 +47,7 @@ returns-in_err-found-clause-err g c =
     let in_place = g.T.TextTransform.shortens by.transform in
     let t = effective cells config c.estimate.new.self in
     let some : is_empty cells ≡ false = search rules in
-    if-err
-    (λ e. (is_empty cells ≡ false) × StopsNarrowing g.P.Peaker.shrinks by.priority c.args.cell_filter in_place makes n e cells config c.args.sizes.now cells c.estimate.new.self)
-    c.from_residual-in_err-found.result _ c.from_residual-in_err-found.ensures.1 (
+    if-err _ c.from_residual-in_err-found.result _ c.from_residual-in_err-found.ensures.1 (
       some,
       stops-wider g.P.Peaker.shrinks by.priority n makes cells config c.args.sizes.now c.estimate.new.self some c.in_ok-estimate.ensures.ok
           c.args.cell_filter in_place _ (subst (λ (k : ℕ). k < total_width t) c.in_ok-n.ensures.ok c.in_err-found.ensures.wider),
@@ -105,9 +94,7 @@ returns-in_err-change_cells-clause-err g c =
     let in_place = g.T.TextTransform.shortens by.transform in
     let after = g.R.ExactRecords.cells c.change_cells.new.records in
     let some : is_empty cells ≡ false = search rules in
-    if-err
-    (λ e. (is_empty cells ≡ false) × StopsNarrowing g.P.Peaker.shrinks by.priority c.args.cell_filter in_place makes n e cells config c.args.sizes.now after c.estimate.new.self)
-    c.from_residual-in_err-change_cells.result _ c.from_residual-in_err-change_cells.ensures.1 (
+    if-err _ c.from_residual-in_err-change_cells.result _ c.from_residual-in_err-change_cells.ensures.1 (
       some,
       stops-some g.P.Peaker.shrinks by.priority n makes cells config
           c.args.sizes.now c.estimate.new.self some c.in_ok-estimate.ensures.ok c.args.cell_filter in_place
