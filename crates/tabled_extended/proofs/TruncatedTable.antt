@@ -1,14 +1,10 @@
 -- Tables that are truncated: a row that has a room, or none, and the records.
 use Rattle.std.proofs.Common.{◌≡◌, ℕ, List, [], ◌∷◌, Option, Some, None, Ok, Err, Result, refl, sym, subst}
-use Rattle.std.specs.Prelude.{OnErr, OnOk}
+use Rattle.std.specs.Prelude.{OnOk}
 use Rattle.std.specs.List.{AllZip}
 use Rattle.tabled_set.specs.CellChanges.{in_room}
 use Rattle.tabled_extended.specs.Truncated.{AreTruncated, IsTruncated}
 use Rattle.tabled_extended.specs.declared.truncating.TextWidths.{TextWidths}
-
-pub on_err : {T E P Q : Type 0} (r : Result T E) → (P → Q) → OnErr r P → OnErr r Q
-on_err (Ok x) f h = h
-on_err (Err e) f h = f h
 
 pub ok_both : {T E : Type 0} (r : Result T E) (suffix : List ℕ) (text_widths : TextWidths) (fields : List (List ℕ)) (records : List (List (List ℕ)))
     (fields' : List (List ℕ)) (records' : List (List (List ℕ))) → AllZip (in_room (IsTruncated suffix) text_widths.fields) fields fields'

@@ -11,41 +11,29 @@ rows-init c = so_far-none (AllZip (IsTruncated c.args.suffix.now c.args.width_li
 
 pub rows-preserved : goal.rows-preserved
 rows-preserved c =
-    let change = AllZip (IsTruncated c.args.suffix.now c.args.width_limit) in
-    let old = row_texts c.args.rows.now.items in
     let rows = c.rows.rows.items in
-    let new = row_texts rows in
-    let long = so_far-long change c.rows.index old new c.rows.invariant in
+    let long = so_far-long c.rows.invariant in
     let many = row_texts-long rows in
     let was = row_texts-long c.args.rows.now.items in
-    let there : c.rows.index < length new = omega (arith, long, was) in
-    so_far-more change c.rows.index old new _ c.index_mut.result.now.items c.truncate_row.new.row.items c.rows.invariant there
-    (row_texts-read rows c.rows.index c.index_mut.result.now (omega (arith, there, many)) c.index_mut.ensures.value)
+    let there : c.rows.index < length rows = omega (arith, long, many, was) in
+    so_far-more c.rows.invariant (omega (arith, there, many)) (row_texts-read rows c.rows.index c.index_mut.result.now there c.index_mut.ensures.value)
     c.in_ok-truncate_row.ensures.ok (row_texts-set rows c.rows.index c.truncate_row.new.row)
 
 pub returns-in_err-truncate_row-clause-err : goal.returns-in_err-truncate_row-clause-err
 returns-in_err-truncate_row-clause-err c =
-    let change = AllZip (IsTruncated c.args.suffix.now c.args.width_limit) in
-    let old = row_texts c.args.rows.now.items in
     let rows = c.rows.rows.items in
-    let new = row_texts rows in
-    let long = so_far-long change c.rows.index old new c.rows.invariant in
+    let long = so_far-long c.rows.invariant in
     let many = row_texts-long rows in
     let was = row_texts-long c.args.rows.now.items in
-    let there : c.rows.index < length new = omega (arith, long, was) in
-    let stop = so_far-stopped change
-    (StopsInRecord c.args.suffix.now c.args.width_limit) c.rows.index old new _ c.index_mut.result.now.items c.truncate_row.new.row.items
-    c.rows.invariant there (row_texts-read rows c.rows.index c.index_mut.result.now (omega (arith, there, many)) c.index_mut.ensures.value)
+    let there : c.rows.index < length rows = omega (arith, long, many, was) in
+    let stop = so_far-stopped (StopsInRecord c.args.suffix.now c.args.width_limit) c.rows.invariant (omega (arith, there, many))
+    (row_texts-read rows c.rows.index c.index_mut.result.now there c.index_mut.ensures.value)
     c.in_err-truncate_row.ensures.err (row_texts-set rows c.rows.index c.truncate_row.new.row) in
     err-with _ stop c.from_residual.ensures.0
 
 pub returns-clause-ok : goal.returns-clause-ok
 returns-clause-ok c =
-    let change = AllZip (IsTruncated c.args.suffix.now c.args.width_limit) in
-    let old = row_texts c.args.rows.now.items in
-    let rows = c.rows.rows.items in
-    let new = row_texts rows in
-    let long = so_far-long change c.rows.index old new c.rows.invariant in
-    let many = row_texts-long rows in
+    let long = so_far-long c.rows.invariant in
+    let many = row_texts-long c.rows.rows.items in
     let was = row_texts-long c.args.rows.now.items in
-    so_far-all change c.rows.index old new c.rows.invariant (omega (arith, long, many, was))
+    so_far-all c.rows.invariant (omega (arith, long, many, was))

@@ -3,15 +3,16 @@ use Rattle.std.specs.Prelude.{OnErr, OnOk}
 use Rattle.std.specs.List.{AllZip}
 use Rattle.std.specs.declared.alloc.Global.{Global}
 use Rattle.std.specs.declared.vec.Vec.{Vec}
+use Rattle.std.proofs.lemmas.Result.{on_err_weaker}
 use Rattle.tabled_base.specs.Cells.{row_texts}
 use Rattle.tabled_set.specs.CellChanges.{in_room}
 use Rattle.tabled_extended.specs.Truncated.{IsTruncated, StopsInRecords}
-use Rattle.tabled_extended.proofs.TruncatedTable.{in_none, in_some, ok_both, on_err}
+use Rattle.tabled_extended.proofs.TruncatedTable.{in_none, in_some, ok_both}
 use Rattle.tabled_extended.proofs.extended_table.ExtendedTable.truncate_to.Goals.{in-Some+in_ok-truncate_row, in_default}
 use Rattle.tabled_extended.proofs.extended_table.ExtendedTable.truncate_to.Goals as goal
 
-pub returns-clause-ok : goal.returns-clause-ok
-returns-clause-ok g c =
+pub returns : goal.returns
+returns g c =
     let old = c.args.self.now in
     let widths = c.args.text_widths in
     let change = IsTruncated c.args.suffix.now in
@@ -26,26 +27,15 @@ returns-clause-ok g c =
       | in-Some+in_ok-truncate_row w ↦ rw w.self-is refl
       | in_default w ↦ rw w.self-is refl
     ] in
-    ok_both _ c.args.suffix.now widths old.fields.items (row_texts old.records.items) then.fields.items (row_texts rows) fields
-    (subst (λ (records : List (Vec (List ℕ) Global)). OnOk c.truncate_rows.result (AllZip (AllZip (change widths.values)) (row_texts records) (row_texts rows)))
-    same c.truncate_rows.ensures.ok)
-
-pub returns-clause-err : goal.returns-clause-err
-returns-clause-err g c =
-    let old = c.args.self.now in
-    let widths = c.args.text_widths in
-    let change = IsTruncated c.args.suffix.now in
-    let then = c.match-text_widths.self in
-    let rows = c.truncate_rows.new.rows.items in
-    let fields : AllZip (in_room change widths.fields) old.fields.items then.fields.items = elim c.match-text_widths.branch [
-      | in-Some+in_ok-truncate_row w ↦ rw w.self-is
-          (in_some change widths.fields w.in-Some.columns w.in-Some.is old.fields.items w.truncate_row.new.row.items w.in_ok-truncate_row.ensures.ok)
-      | in_default w ↦ rw w.self-is (in_none change widths.fields w.in_default.not-Some old.fields.items)
-    ] in
-    let same : then.records.items ≡ old.records.items = elim c.match-text_widths.branch [
-      | in-Some+in_ok-truncate_row w ↦ rw w.self-is refl
-      | in_default w ↦ rw w.self-is refl
-    ] in
-    on_err _ (λ h. inr (fields, h))
-    (subst (λ (records : List (Vec (List ℕ) Global)). OnErr c.truncate_rows.result
-    (StopsInRecords c.args.suffix.now widths.values (row_texts records) (row_texts rows))) same c.truncate_rows.ensures.err)
+    record {
+      ok = ok_both _ c.args.suffix.now widths old.fields.items (row_texts old.records.items) then.fields.items (row_texts rows) fields
+          (subst (λ (records : List (Vec (List ℕ) Global)). OnOk c.truncate_rows.result (AllZip (AllZip (change widths.values)) (row_texts records) (row_texts rows)))
+          same c.truncate_rows.ensures.ok);
+      err = on_err_weaker _ (λ h. inr (fields, h))
+          (subst (λ (records : List (Vec (List ℕ) Global)). OnErr c.truncate_rows.result
+          (StopsInRecords c.args.suffix.now widths.values (row_texts records) (row_texts rows))) same c.truncate_rows.ensures.err);
+      template = elim c.match-text_widths.branch [
+        | in-Some+in_ok-truncate_row w ↦ rw w.self-is refl
+        | in_default w ↦ rw w.self-is refl
+      ];
+    }
