@@ -1,7 +1,6 @@
 use Rattle.std.proofs.Common.{◌≡◌, ℕ, ◌≤◌, ◌<◌, ◌⊎◌, ◌∙◌, IfErr, IfSome, MatchOption, None, Option, Some, false, inl, refl, rules, slice_index_or, subst}
 use Rattle.std.proofs.lemmas.Result.{err_from_is_err_and}
 use Rattle.tabled_set.specs.Common.{effective, is_empty, is_stored, Memory, Range, Sheet, total_width}
-use Rattle.tabled_set.specs.CellChanges.{if_taken}
 use Rattle.tabled_set.specs.Narrowed.{content_width, less_padding, NarrowingOutOfRange, IsFound}
 use Rattle.tabled_set.specs.Minimums.{own_padding}
 use Rattle.tabled_set.specs.declared.narrowing.ColumnWidths.{ColumnWidths}
@@ -39,31 +38,23 @@ returns-in_err-found-clause-only g c =
 
 pub returns-in_err-found-clause-err : goal.returns-in_err-found-clause-err
 returns-in_err-found-clause-err g c =
-    let by = c.args.option in
     let cells = g.R.ExactRecords.cells c.args.records.now in
-    let config = c.args.config.now in
-    let n = g.W.Measurement.measures by.size cells config in
-    let makes = g.T.TextTransform.makes by.transform in
-    let in_place = g.T.TextTransform.shortens by.transform in
-    let t = effective cells config c.estimate.new.self in
+    let t = effective cells c.args.config.now c.estimate.new.self in
     let some : is_empty cells ≡ false = search rules in
     if-err _ c.from_residual-in_err-found.result _ c.from_residual-in_err-found.ensures.1 (
       some,
-      stops-wider g.P.Peaker.shrinks by.priority n makes cells config c.args.sizes.now c.estimate.new.self some c.in_ok-estimate.ensures.ok
-          c.args.cell_filter in_place _ (subst (λ (k : ℕ). k < total_width t) c.in_ok-n.ensures.ok c.in_err-found.ensures.wider),
+      stops-wider _ _ _ _ _ _ _ _ some c.in_ok-estimate.ensures.ok _ _ _
+          (subst (λ (k : ℕ). k < total_width t) c.in_ok-n.ensures.ok c.in_err-found.ensures.wider),
     )
 
 pub returns-in_default-clause-ok : goal.returns-in_default-clause-ok
 returns-in_default-clause-ok g c =
     let by = c.args.option in
     let cells = g.R.ExactRecords.cells c.args.records.now in
-    let config = c.args.config.now in
-    let n = g.W.Measurement.measures by.size cells config in
-    let t = effective cells config c.estimate.new.self in
+    let t = effective cells c.args.config.now c.estimate.new.self in
     let some : is_empty cells ≡ false = search rules in
     let none : c.in_ok-found.field-0 ≡ None = c.in_default.is in
-    narrows-none g.P.Peaker.shrinks by.priority n (if_taken c.args.cell_filter (g.T.TextTransform.makes by.transform)) cells config
-    c.args.sizes.now c.estimate.new.self some c.in_ok-estimate.ensures.ok
+    narrows-none _ _ _ _ _ _ _ _ some c.in_ok-estimate.ensures.ok
     (subst (λ (k : ℕ). total_width t ≤ k) c.in_ok-n.ensures.ok
     (subst (λ (o : Option ColumnWidths). MatchOption o (total_width t ≤ c.in_ok-n.n) (λ found. IsFound g.P.Peaker.shrinks by.priority c.in_ok-n.n t found.widths.items)) none c.in_ok-found.ensures.ok))
 
@@ -85,38 +76,24 @@ found-sizes t o found is h = subst (λ (p : Option ColumnWidths). IfSome p (AreS
 
 pub returns-in_err-change_cells-clause-err : goal.returns-in_err-change_cells-clause-err
 returns-in_err-change_cells-clause-err g c =
-    let by = c.args.option in
     let cells = g.R.ExactRecords.cells c.args.records.now in
-    let config = c.args.config.now in
-    let n = g.W.Measurement.measures by.size cells config in
-    let t = effective cells config c.estimate.new.self in
-    let makes = g.T.TextTransform.makes by.transform in
-    let in_place = g.T.TextTransform.shortens by.transform in
-    let after = g.R.ExactRecords.cells c.change_cells.new.records in
+    let t = effective cells c.args.config.now c.estimate.new.self in
+    let found = c.in-Some.found in
     let some : is_empty cells ≡ false = search rules in
     if-err _ c.from_residual-in_err-change_cells.result _ c.from_residual-in_err-change_cells.ensures.1 (
       some,
-      stops-some g.P.Peaker.shrinks by.priority n makes cells config
-          c.args.sizes.now c.estimate.new.self some c.in_ok-estimate.ensures.ok c.args.cell_filter in_place
-          after _ c.in-Some.found.widths.items
-          c.in_err-change_cells.ensures.only
-          (found-widths g.P.Peaker.shrinks by.priority n c.in_ok-n.n t _ c.in-Some.found c.in_ok-n.ensures.ok c.in-Some.is c.in_ok-found.ensures.ok)
-          (sized-before t c.in-Some.found.widths.items (found-sizes t _ c.in-Some.found c.in-Some.is c.in_ok-found.ensures.sized) c.args.cell_filter in_place makes c.in_err-change_cells.ensures.err),
+      stops-some _ _ _ _ _ _ _ _ some c.in_ok-estimate.ensures.ok _ _ _ _ found.widths.items c.in_err-change_cells.ensures.only
+          (found-widths _ _ _ _ t _ found c.in_ok-n.ensures.ok c.in-Some.is c.in_ok-found.ensures.ok)
+          (sized-before t found.widths.items (found-sizes t _ found c.in-Some.is c.in_ok-found.ensures.sized) _ _ _ c.in_err-change_cells.ensures.err),
     )
 
 pub returns-clause-ok : goal.returns-clause-ok
 returns-clause-ok g c =
-    let by = c.args.option in
     let cells = g.R.ExactRecords.cells c.args.records.now in
-    let config = c.args.config.now in
-    let n = g.W.Measurement.measures by.size cells config in
-    let t = effective cells config c.estimate.new.self in
+    let t = effective cells c.args.config.now c.estimate.new.self in
+    let found = c.in-Some.found in
     let some : is_empty cells ≡ false = search rules in
-    narrows-some g.P.Peaker.shrinks by.priority n (if_taken c.args.cell_filter (g.T.TextTransform.makes by.transform)) cells config
-    c.args.sizes.now c.estimate.new.self some c.in_ok-estimate.ensures.ok
-    (g.R.ExactRecords.cells c.change_cells.new.records) c.clear_height.new.self
-    c.in-Some.found.widths.items
-    (found-widths g.P.Peaker.shrinks by.priority n c.in_ok-n.n t _ c.in-Some.found c.in_ok-n.ensures.ok c.in-Some.is c.in_ok-found.ensures.ok)
-    (sized-made t c.in-Some.found.widths.items (found-sizes t _ c.in-Some.found c.in-Some.is c.in_ok-found.ensures.sized)
-    (if_taken c.args.cell_filter (g.T.TextTransform.makes by.transform)) c.in_ok-change_cells.ensures.ok)
+    narrows-some _ _ _ _ _ _ _ _ some c.in_ok-estimate.ensures.ok _ c.clear_height.new.self found.widths.items
+    (found-widths _ _ _ _ t _ found c.in_ok-n.ensures.ok c.in-Some.is c.in_ok-found.ensures.ok)
+    (sized-made t found.widths.items (found-sizes t _ found c.in-Some.is c.in_ok-found.ensures.sized) _ c.in_ok-change_cells.ensures.ok)
     (c.clear_height.ensures.widths ∙ c.set_widths.ensures.widths) c.clear_height.ensures.heights
