@@ -29,5 +29,4 @@ pub record IsTableOf {A : Type 0} (cells : A → List (List (List ℕ))) (column
   pub widths : table.dimension.width ≡ Listed (fitting_widths columns (cells rows))
   pub height : table.dimension.height ≡ Value 1
   pub shown_columns : table.columns ≡ columns
-  pub limit : table.limit ≡ Some count
-  pub skip : table.skip ≡ 0
+  pub window : table.window ≡ record { skip = 0; limit = Some count }

@@ -5,7 +5,6 @@ ghost use Rattle.tabled_base.specs.declared.error.TableError.TheVariants.{Memory
 ghost use Rattle.tabled_config.specs.declared.compact.CompactConfig.{CompactConfig};
 ghost use Rattle.tabled_line.specs.Sent.{Sent};
 ghost use Rattle.tabled_compact.specs.Tables.{IsNewTable, IsResized, no_records, sheet_of};
-ghost use Rattle.tabled_compact.specs.Tables.{window_of};
 ghost use Rattle.tabled_compact.specs.Shown.{Came};
 ghost use Rattle.tabled_records.specs.declared.empty.EmptyRecords.{EmptyRecords};
 ghost use Rattle.tabled_size.specs.declared.const_dimension.ConstSize.TheVariants.{Value};
@@ -36,8 +35,7 @@ pub struct CompactTable<I, D> {
     pub(crate) config: CompactConfig,
     pub(crate) dimension: D,
     pub(crate) columns: usize,
-    pub(crate) limit: Option<usize>,
-    pub(crate) skip: usize,
+    pub(crate) window: Window,
 }
 
 impl<I> CompactTable<I, ConstDimension<0, 0>> {
@@ -74,8 +72,7 @@ impl<I, D> CompactTable<I, D> {
             config: self.config,
             dimension: self.dimension.set_height(height),
             columns: self.columns,
-            limit: self.limit,
-            skip: self.skip,
+            window: self.window,
         }
     }
 
@@ -96,8 +93,7 @@ impl<I, D> CompactTable<I, D> {
             config: self.config,
             dimension: self.dimension.set_width(width),
             columns: self.columns,
-            limit: self.limit,
-            skip: self.skip,
+            window: self.window,
         }
     }
 
@@ -114,16 +110,22 @@ impl<I, D> CompactTable<I, D> {
             config: new_compact_config(),
             dimension,
             columns: 0,
-            limit: None,
-            skip: 0,
+            window: Window {
+                skip: 0,
+                limit: None,
+            },
         }
     }
 
     /// Sets how many rows are shown at most, not counting those that are skipped.
     pub fn rows(mut self, count: usize) -> Self
-        ensures { result ≡ record self { limit = Some count } }
+        ensures { result
+            ≡ record self { window = record self.window { limit = Some count } } }
     {
-        self.limit = Some(count);
+        self.window = Window {
+            limit: Some(count),
+            ..self.window
+        };
         self
     }
 
@@ -137,9 +139,9 @@ impl<I, D> CompactTable<I, D> {
 
     /// Sets how many rows are skipped before the first that is shown.
     pub fn skip(mut self, count: usize) -> Self
-        ensures { result ≡ record self { skip = count } }
+        ensures { result ≡ record self { window = record self.window { skip = count } } }
     {
-        self.skip = count;
+        self.window.skip = count;
         self
     }
 
@@ -174,8 +176,10 @@ impl<A: CellRows<COLUMNS, ROWS>, const COLUMNS: usize, const ROWS: usize> From<A
             config: new_compact_config(),
             dimension: ConstDimension::new(ConstSize::List(widths), ConstSize::Value(1)),
             columns: COLUMNS,
-            limit: Some(ROWS),
-            skip: 0,
+            window: Window {
+                skip: 0,
+                limit: Some(ROWS),
+            },
         }
     }
 }
@@ -235,13 +239,9 @@ where
     /// Every later error is the sink's.
     pub fn fmt<S: TextSink>(self, sink: &mut S) -> Result<(), TableError>
         requires { I.ends self.records }
-        ensures { PrintsCompact (sheet_of D.width_at self) (window_of self)
+        ensures { PrintsCompact (sheet_of D.width_at self) self.window
             (Came (I.begins self.records) I.Cell.text) (S.sent sink.old) result (S.sent sink.new) }
     {
-        let window = Window {
-            skip: self.skip,
-            limit: self.limit,
-        };
         let (config, dimension) = (self.config, self.dimension);
         print_compact(
             sink,
@@ -249,7 +249,7 @@ where
             &config,
             &dimension,
             self.columns,
-            window,
+            self.window,
         )
     }
 
@@ -261,7 +261,7 @@ where
     /// Nothing is written after that.
     pub fn build<W: Write>(self, writer: &mut W) -> Result<(), TableError>
         requires { I.ends self.records }
-        ensures { BuildsCompact (sheet_of D.width_at self) (window_of self)
+        ensures { BuildsCompact (sheet_of D.width_at self) self.window
             (Came (I.begins self.records) I.Cell.text)
             (W.contents writer.old) result (W.contents writer.new) }
     {
@@ -277,12 +277,12 @@ where
     /// `Memory`.
     pub fn to_string(self, alloc: Global) -> Result<String, TableError>
         requires { I.ends self.records }
-        ensures ok { IfOk result (λ text. IsPrinted (sheet_of D.width_at self) (window_of self)
+        ensures ok { IfOk result (λ text. IsPrinted (sheet_of D.width_at self) self.window
             (Came (I.begins self.records) I.Cell.text)
             (record { bytes = Some []; failures = 0; grows = true })
             (record { bytes = Some (string_bytes text); failures = 0; grows = true })) }
         ensures err { IfErr result (λ e. (new : Sent)
-            × IsEnded (sheet_of D.width_at self) (window_of self)
+            × IsEnded (sheet_of D.width_at self) self.window
             (Came (I.begins self.records) I.Cell.text)
             (record { bytes = Some []; failures = 0; grows = true }) e new × (new.failures ≡ 0)) }
     {
