@@ -1,5 +1,5 @@
 -- Widths that are alike: what a dimension tells of them, and what they are in all.
-use Rattle.std.proofs.Common.{◌≡◌, ℕ, zero, suc, ◌+◌, ◌*◌, ◌<◌, ◌≤◌, ◌^◌, length, Option, Some, None, IfSome, MatchOption, unwrap_or, ap, sym, ◌∙◌, arith}
+use Rattle.std.proofs.Common.{◌≡◌, ℕ, zero, suc, ◌+◌, ◌*◌, ◌<◌, ◌≤◌, length, Option, Some, None, IfSome, unwrap_or, ap, sym, ◌∙◌, arith}
 use Rattle.std.specs.List.{slice_index}
 use Rattle.tabled_priority.specs.Sums.{sum_below}
 use Rattle.tabled_size.specs.Reached.{reached}
@@ -27,7 +27,3 @@ alike-or f count (Some from) r sized alike e column l m =
     let there = reached_at f count column (omega arith) in
     let first = reached_at f count from (omega arith) in
     same-some (sym there ∙ alike column (omega arith) ∙ first) ∙ ap (slice_index (reached f count)) (sym h)
-
-pub none-of : (o : Option ℕ) (n : ℕ) → o ≡ None → 2 ^ 64 ≤ n → MatchOption o (2 ^ 64 ≤ n) (λ k. k ≡ n)
-none-of None n e h = h
-none-of (Some k) n e h = absurd (cc)

@@ -1,8 +1,7 @@
 //! The total width of a compact table.
-ghost use Rattle.std.specs.Prelude.{◌≡◌, ◌+◌, ◌*◌, ◌≤◌, ◌<◌, ◌^◌, ℕ, MatchOption};
+ghost use Rattle.std.specs.Prelude.{◌≡◌, ◌+◌, ◌*◌, ◌≤◌, ◌<◌, ◌^◌, MatchOption};
 ghost use Rattle.tabled_priority.specs.Sums.{one_if, sum_below};
 ghost use Rattle.tabled_line.specs.Apart.{line_total};
-ghost use Rattle.tabled_line.specs.Row.{ColumnSheet};
 
 use tabled_line::TableColumns;
 
@@ -10,19 +9,6 @@ fn one_if(there: bool) -> usize
     ensures { result ≡ one_if there }
 {
     if there { 1 } else { 0 }
-}
-
-#[tactic(auto, using(tabled_priority::proofs::Sums::sum_step))]
-fn known_widths<C: TableColumns>(columns: &C, known: usize) -> Option<usize>
-    requires { known ≤ (C.sheet columns.now).count }
-    ensures { let width = (C.sheet columns.now).width in
-        MatchOption result (2 ^ 64 ≤ sum_below width known) (λ n. n ≡ sum_below width known) }
-{
-    let mut total: usize = 0;
-    'columns: for column in 0..known {
-        total = total.checked_add(columns.width(column))?;
-    }
-    Some(total)
 }
 
 /// Returns `sum + times * each`; `None` if it exceeds `usize::MAX`.
@@ -33,30 +19,24 @@ fn add_times(sum: usize, times: usize, each: usize) -> Option<usize>
     sum.checked_add(times.checked_mul(each)?)
 }
 
-fn add_alike<C: TableColumns>(columns: &C, sum: usize, from: usize) -> Option<usize>
-    requires within { from ≤ (C.sheet columns.now).count }
-    requires summed { sum ≡ sum_below (C.sheet columns.now).width from }
-    requires alike { (column : ℕ) → from ≤ column → column < (C.sheet columns.now).count
-        → (C.sheet columns.now).width column ≡ (C.sheet columns.now).width from }
-    ensures { let sheet = C.sheet columns.now in let sum = sum_below sheet.width sheet.count in
-        MatchOption result (2 ^ 64 ≤ sum) (λ n. n ≡ sum) }
-{
-    let times = columns.count_columns() - from;
-    if times == 0 {
-        return Some(sum);
-    }
-    add_times(sum, times, columns.width(from))
-}
-
 /// Returns the sum of all widths; `None` if it exceeds `usize::MAX`. The equal widths at the end
 /// are multiplied.
+#[tactic(auto, using(tabled_priority::proofs::Sums::sum_step))]
 fn sum_widths<C: TableColumns>(columns: &C) -> Option<usize>
     ensures { let sheet = C.sheet columns.now in let sum = sum_below sheet.width sheet.count in
         MatchOption result (2 ^ 64 ≤ sum) (λ n. n ≡ sum) }
 {
-    let known = columns.alike_from().min(columns.count_columns());
-    let sum = known_widths(columns, known)?;
-    add_alike(columns, sum, known)
+    let count = columns.count_columns();
+    let known = columns.alike_from().min(count);
+    let mut total: usize = 0;
+    'columns: for column in 0..known {
+        total = total.checked_add(columns.width(column))?;
+    }
+    if known == count {
+        return Some(total);
+    }
+    let last = columns.width(known);
+    add_times(total, count - known, last)
 }
 
 /// Returns the columns of each line: all widths, the vertical lines and the side margins. `None` if
