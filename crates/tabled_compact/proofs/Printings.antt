@@ -2,6 +2,7 @@
 use Rattle.std.proofs.Common.{◌≡◌, ◌⊎◌, ℕ, ◌+◌, ◌≤◌, ◌==◌, if◌then◌else◌, Bool, true, false, List, [], ◌∷◌, ◌++◌, length, Option, Some, IfSome, MatchResult, OnErr, Result, Ok, Err, refl, sym, ◌∙◌, ap, subst, inl, inr, ⊎_elim, arith}
 use Rattle.std.specs.Result.{IsErrAnd}
 use Rattle.std.proofs.lemmas.Bool.Decides.{nat_tests}
+use Rattle.std.proofs.lemmas.Result.{on_err_weaker}
 use Rattle.tabled_base.specs.declared.error.TableError.{TableError}
 use Rattle.tabled_line.specs.Leading.{WritesLines}
 use Rattle.tabled_line.specs.Sent.{Sent, Sends, Stops, Writes}
@@ -54,10 +55,6 @@ lines-split : (t : CompactSheet) (rows : List (List (List ℕ))) → compact_lin
 unfolding compact_lines rows_lines
 lines-split t [] = refl
 lines-split t (row ∷ rows) = refl
-
-on-err-as : {T : Type 0} (r : Result T TableError) (P Q : Type 0) → (P → Q) → OnErr r P → OnErr r Q
-on-err-as (Ok x) P Q f h = tt
-on-err-as (Err e) P Q f h = f h
 
 -- a table with a column
 module _ (t : CompactSheet) (w : Window) (comes : List (List (List ℕ)) → Bool → Type 0) (old : Sent) (some : t.count ≡ 0 → ⊥)
@@ -121,7 +118,7 @@ module _ (t : CompactSheet) (w : Window) (comes : List (List (List ℕ)) → Boo
   prints-ended r x mid m new n fine put ends failed =
       let shown = in_window w rows in
       let any : m ≡ has_rows shown = put.lines.after ∙ begun-rows t shown in
-      ended r new fine put.taken put.enough (on-err-as r _ _ (λ h. sym any ∙ h) failed)
+      ended r new fine put.taken put.enough (on_err_weaker r (λ h. sym any ∙ h) failed)
       (lines-text old new n r (compact_lines t shown)
       (lines-finished new n (if m then tail_lines t else []) (compact_lines t shown) r put.lines ends
       (lines-split t shown ∙ ap (λ b. rows_lines t shown ++ (if b then tail_lines t else [])) (sym any))))
@@ -153,24 +150,3 @@ module _ (t : CompactSheet) (w : Window) (comes : List (List (List ℕ)) → Boo
         filled = ap has_rows all-shown ∙ window-one w rows still found.0;
         ends = inl (record { first = found.0; cause = subst R (sym found.1) cause; same = refl });
       }
-
--- what is said of rows that come in one way, and so in another
-pub prints-as : {T : Type 0} (t : CompactSheet) (w : Window) (comes comes' : List (List (List ℕ)) → Bool → Type 0) (a b : Sent) (r : Result T TableError)
-    → ((rows : List (List (List ℕ))) (whole : Bool) → comes rows whole → comes' rows whole) → PrintsCompact t w comes a r b → PrintsCompact t w comes' a r b
-prints-as t w comes comes' a b (Ok x) so p = record {
-  rows = p.rows;
-  whole = p.whole;
-  came = so p.rows p.whole p.came;
-  taken = p.taken;
-  enough = p.enough;
-  printable = p.printable;
-  sends = p.sends;
-}
-prints-as t w comes comes' a b (Err e) so p = record {
-  rows = p.rows;
-  whole = p.whole;
-  came = so p.rows p.whole p.came;
-  taken = p.taken;
-  filled = p.filled;
-  ends = p.ends;
-}

@@ -48,7 +48,7 @@ have-none t w old begun e =
       after = sym (window-start w);
     }
 
-module _ (t : CompactSheet) (w : Window) (old mid : Sent) (m : Bool) (left : Window) (rows : List (List (List ℕ)))
+module _ {t : CompactSheet} {w : Window} {old mid : Sent} {m : Bool} {left : Window} {rows : List (List (List ℕ))}
     (put : HavePut t w old mid m left rows) (still : IsSpent left → ⊥) where
   -- which rows are shown once one more came
   shown-more : (row : List (List ℕ)) → in_window w (rows ++ row ∷ []) ≡ in_window w rows ++ (if left.skip == 0 then row ∷ [] else [])

@@ -4,7 +4,7 @@ use Rattle.std.specs.List.{flat_map, range_with_len, slice_index}
 use Rattle.std.specs.Result.{IsErrAnd}
 use Rattle.std.proofs.lemmas.Bool.{cases_lt}
 use Rattle.std.proofs.lemmas.Bool.Decides.{nat_tests}
-use Rattle.std.proofs.lemmas.List.{get_or_append_left, length-append, length-map, map-append}
+use Rattle.std.proofs.lemmas.List.{get_or_append_left, get_or_past, get_or_push, length-append, length-map, map-append}
 use Rattle.tabled_compact.specs.CompactCells.{CompactSheet, columns_of, compact_cell, compact_piece, compact_row, pieces, row_front}
 use Rattle.tabled_compact.specs.CompactLines.{above, part_front, row_part}
 use Rattle.tabled_config.specs.declared.alignment.AlignmentHorizontal.{AlignmentHorizontal}
@@ -19,15 +19,6 @@ use Rattle.tabled_line.specs.Sent.{Sent, Stops, Writes}
 use Rattle.tabled_line.proofs.Each.{each-first, each-more, each-rest}
 use Rattle.tabled_line.proofs.Leading.{lines_after-append}
 use Rattle.tabled_line.proofs.Sending.{finished, stopped-first}
-
-at-end : (row : List (List ℕ)) (text : List ℕ) → slice_index_or (row ++ text ∷ []) (length row) [] ≡ text
-at-end [] text = refl
-at-end (x ∷ row) text = at-end row text
-
-behind : (row : List (List ℕ)) (i : ℕ) → length row ≤ i → slice_index_or row i [] ≡ []
-behind [] i h = refl
-behind (x ∷ row) zero h = absurd (omega arith)
-behind (x ∷ row) (suc i) h = behind row i (omega arith)
 
 -- cells that come later don't change the columns before them
 pieces-before : (t : CompactSheet) (row more : List (List ℕ)) (n : ℕ) → n ≤ length row → pieces t (row ++ more) n ≡ pieces t row n
@@ -48,7 +39,7 @@ one-more t row text =
     let f : ℕ → List ℕ = λ i. compact_piece t i (slice_index_or (row ++ text ∷ []) i []) in
     each-more f (length row)
     ∙ ap (λ u. u ++ f (length row)) (pieces-before t row (text ∷ []) (length row) (omega arith))
-    ∙ ap (λ u. pieces t row (length row) ++ compact_piece t (length row) u) (at-end row text)
+    ∙ ap (λ u. pieces t row (length row) ++ compact_piece t (length row) u) (get_or_push row text [] (length row) refl)
 
 -- a cell that came: it stands in the next column, if there is one
 pieces-more : (t : CompactSheet) (row : List (List ℕ)) (text : List ℕ) (n : ℕ)
@@ -97,7 +88,7 @@ front-more t b row n = longer t b row row n (n + 1) _ (each-more (λ i. compact_
 pub front-missing : (t : CompactSheet) (b : Bool) (row : List (List ℕ)) (from n : ℕ) → from ≡ min (length row) t.count → from ≤ n → n < t.count
     → part_front t b row (n + 1) ≡ part_front t b row n ++ compact_piece t n []
 front-missing t b row from n e l m =
-    front-more t b row n ∙ ap (λ u. part_front t b row n ++ compact_piece t n u) (behind row n (omega arith))
+    front-more t b row n ∙ ap (λ u. part_front t b row n ++ compact_piece t n u) (get_or_past row n [] (omega arith))
 
 -- one cell more
 pub front-given : {A : Type 0} (t : CompactSheet) (b : Bool) (text : A → List ℕ) (cells : List A) (cell : A)
@@ -112,7 +103,7 @@ pub front-drawn : (t : CompactSheet) (b : Bool) (row : List (List ℕ)) (from n 
 front-drawn t b row from n e l m none =
     let f : ℕ → List ℕ = λ i. compact_piece t i (slice_index_or row i []) in
     let same : pieces t row t.count ≡ pieces t row n =
-    each-first f n t.count m (λ k p q. ap (compact_piece t k) (behind row k (omega arith)) ∙ none k p q) in
+    each-first f n t.count m (λ k p q. ap (compact_piece t k) (get_or_past row k [] (omega arith)) ∙ none k p q) in
     longer t b row row n t.count [] (same ∙ sym (append-nil (pieces t row n))) ∙ append-nil (part_front t b row n)
 
 -- the text of a row with the lines above it: its beginning with all columns, and the right edge

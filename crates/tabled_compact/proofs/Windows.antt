@@ -1,6 +1,6 @@
 -- The rows in a window, where they come one by one.
 use Rattle.std.proofs.Common.{◌≡◌, ℕ, zero, suc, ◌+◌, ◌-◌, ◌<◌, ◌≤◌, ◌==◌, if◌then◌else◌, List, [], ◌∷◌, ◌++◌, length, drop, take, Option, Some, None, IfSome, true, refl, sym, ◌∙◌, ap, append-nil, arith}
-use Rattle.std.proofs.lemmas.List.{length-append}
+use Rattle.std.proofs.lemmas.List.{length-append, length-drop, take_all}
 use Rattle.tabled_compact.proofs.RowLines.{not-zero}
 use Rattle.tabled_compact.specs.declared.window.Window.{Window}
 use Rattle.tabled_compact.specs.Shown.{IsSpent, first_rows, has_rows, in_window, limit_left, spanned, window_after}
@@ -15,21 +15,10 @@ dropped-more (suc zero) [] row (suc k) h = rw (not-zero k) refl
 dropped-more (suc (suc n)) [] row (suc k) h = rw (not-zero k) refl
 dropped-more (suc n) (x ∷ rows) row k h = dropped-more n rows row k (omega arith)
 
-dropped-long : {A : Type 0} (n : ℕ) (rows : List A) → length (drop n rows) ≡ length rows - n
-dropped-long zero rows = omega arith
-dropped-long (suc n) [] = omega arith
-dropped-long (suc n) (x ∷ rows) = let e = dropped-long n rows in omega arith
-
-taken-all : {A : Type 0} (n : ℕ) (rows : List A) → length rows ≤ n → take n rows ≡ rows
-taken-all zero [] h = refl
-taken-all (suc n) [] h = refl
-taken-all zero (x ∷ rows) h = absurd (omega arith)
-taken-all (suc n) (x ∷ rows) h = ap (λ u. x ∷ u) (taken-all n rows (omega arith))
-
 taken-more : {A : Type 0} (n : ℕ) (rows : List A) (row : A) → length rows < n → take n (rows ++ row ∷ []) ≡ take n rows ++ row ∷ []
 taken-more n rows row h =
     let long = length-append rows (row ∷ []) in
-    taken-all n (rows ++ row ∷ []) (omega (arith, long)) ∙ ap (λ u. u ++ row ∷ []) (sym (taken-all n rows (omega arith)))
+    take_all n (rows ++ row ∷ []) (omega (arith, long)) ∙ ap (λ u. u ++ row ∷ []) (sym (take_all n rows (omega arith)))
 
 -- the window is not at its end after so many rows
 abbrev pub IsOpen : Window → ℕ → Type 0
@@ -39,15 +28,12 @@ not-spent : (m : ℕ) → (Some m ≡ Some 0 → ⊥) → 0 < m
 not-spent zero f = absurd (f refl)
 not-spent (suc m) f = omega arith
 
-same-some : (m n : ℕ) → Some m ≡ Some n → m ≡ n
-same-some m n h = cc
-
 first-more : {A : Type 0} (limit : Option ℕ) (skip : ℕ) (rows : List A) (row : A) (k : ℕ) → k ≡ skip - length rows
     → (limit_left limit (length rows - skip) ≡ Some 0 → ⊥)
     → first_rows limit (drop skip (rows ++ row ∷ [])) ≡ first_rows limit (drop skip rows) ++ (if k == 0 then row ∷ [] else [])
 first-more None skip rows row k h open' = dropped-more skip rows row k h
 first-more (Some l) skip rows row zero h open' =
-    let long = dropped-long skip rows in
+    let long = length-drop skip rows in
     let left = not-spent (l - (length rows - skip)) open' in
     ap (take l) (dropped-more skip rows row 0 h) ∙ taken-more l (drop skip rows) row (omega (arith, long, left))
 first-more (Some l) skip rows row (suc k) h open' =
@@ -75,7 +61,7 @@ spent None skip n some still now = absurd (cc)
 spent (Some zero) skip n some still now = absurd (some refl)
 spent (Some (suc l)) skip n some still now =
     let left = not-spent (suc l - (n - skip)) still in
-    let none = same-some (suc l - (n + 1 - skip)) 0 now in
+    let none : suc l - (n + 1 - skip) ≡ 0 = cc in
     ap Some (omega (arith, left, none))
 
 -- where the window is at its end, as many came as are wanted
@@ -108,7 +94,7 @@ window-start w =
 -- ---- what is shown of few rows
 
 pub window-none : {A : Type 0} (w : Window) (rows : List A) → length rows ≤ w.skip → in_window w rows ≡ []
-window-none w rows h = first-none w.limit (drop w.skip rows) (omega (arith, dropped-long w.skip rows))
+window-none w rows h = first-none w.limit (drop w.skip rows) (omega (arith, length-drop w.skip rows))
   where
     first-none : {B : Type 0} (limit : Option ℕ) (xs : List B) → length xs ≡ 0 → first_rows limit xs ≡ []
     first-none None [] e = refl
@@ -117,7 +103,7 @@ window-none w rows h = first-none w.limit (drop w.skip rows) (omega (arith, drop
     first-none limit (x ∷ xs) e = absurd (omega arith)
 
 pub window-one : {A : Type 0} (w : Window) (rows : List A) → (IsSpent w → ⊥) → length rows ≡ w.skip + 1 → has_rows (in_window w rows) ≡ true
-window-one w rows some h = first-one w.limit (drop w.skip rows) some (omega (arith, dropped-long w.skip rows))
+window-one w rows some h = first-one w.limit (drop w.skip rows) some (omega (arith, length-drop w.skip rows))
   where
     first-one : {B : Type 0} (limit : Option ℕ) (xs : List B) → (limit ≡ Some 0 → ⊥) → length xs ≡ 1 → has_rows (first_rows limit xs) ≡ true
     first-one limit [] f e = absurd (omega arith)

@@ -1,6 +1,5 @@
 //! Prints a compact table, and checks its columns before the first byte.
 ghost use Rattle.std.specs.Prelude.{◌≡◌, ◌≤◌, ◌+◌, ℕ, Bool, List, length, true, MatchResult};
-ghost use Rattle.tabled_base.specs.RowsGiven.{RowsBegin, RowsEnd};
 ghost use Rattle.tabled_line.specs.Sent.{Sent};
 ghost use Rattle.tabled_compact.specs.Shown.{Came};
 ghost use Rattle.tabled_compact.specs.CompactCells.{sheet_by};
@@ -14,21 +13,17 @@ use tabled_line::TextSink;
 use tabled_size::Dimension;
 
 /// Fails with `error` if there is a row after those that are skipped; no further row is read then.
-fn refuse<R, C>(rows: R, skip: usize, error: TableError) -> Result<(), TableError>
+fn refuse<I: IntoRecords>(records: I, skip: usize, error: TableError) -> Result<(), TableError>
 where
-    R: IntoIterator<Item = C>,
-    C: IntoIterator,
-    C::Item: CellText + Drop,
-    requires { RowsEnd R.into_iter_gives R.IntoIter.can_next R.IntoIter.next_gives
-        R.IntoIter.remaining C.into_iter_gives C.IntoIter.can_next C.IntoIter.remaining rows }
+    I::Cell: CellText + Drop,
+    requires { I.ends records }
     ensures { (read : List (List (List ℕ))) × (whole : Bool)
-        × Came (RowsBegin R.into_iter_gives R.IntoIter.next_gives C.into_iter_gives
-        C.IntoIter.next_gives rows) C.Item.text read whole
+        × Came (I.begins records) I.Cell.text read whole
         × MatchResult result (λ _. (length read ≤ skip) × (whole ≡ true))
         (λ e. (length read ≡ skip + 1) × (e ≡ error)) }
 {
     let mut left = skip;
-    'rows: for row in rows {
+    'rows: for row in records.iter_rows() {
         walk(row);
         if left == 0 {
             return Err(error);
@@ -65,14 +60,13 @@ where
     ensures { PrintsCompact (sheet_by config.now (D.width_at dimension.now) columns) window
         (Came (I.begins records) I.Cell.text) (S.sent sink.old) result (S.sent sink.new) }
 {
-    let rows = records.iter_rows();
     if columns == 0 || window.is_spent() {
         // Makes the iterator, and reads no row.
-        let _rows = rows.into_iter();
+        let _rows = records.iter_rows().into_iter();
         return Ok(());
     }
     match RowPrinter::new(config, dimension, columns) {
-        Ok(mut printer) => printer.print_table(sink, rows, window),
-        Err(error) => refuse(rows, window.skip, error),
+        Ok(mut printer) => printer.print_table(sink, records, window),
+        Err(error) => refuse(records, window.skip, error),
     }
 }

@@ -4,7 +4,6 @@ ghost use Rattle.std.specs.Prelude.{if◌then◌else◌, IfErr, IfOk, OnErr, OnO
 ghost use Rattle.std.specs.Iterator.{IsFiniteIterable};
 ghost use Rattle.std.proofs.Props.{props};
 ghost use Rattle.tabled_base.specs.Given.{Given};
-ghost use Rattle.tabled_base.specs.RowsGiven.{RowsBegin, RowsEnd};
 ghost use Rattle.tabled_line.specs.Leading.{WritesLines};
 ghost use Rattle.tabled_line.specs.LineCache.{IsCacheOf};
 ghost use Rattle.tabled_line.specs.Sent.{Sent, Writes};
@@ -18,7 +17,7 @@ ghost use Rattle.tabled_compact.specs.Shown.{Came, IsSpent, window_after};
 use crate::columns::CompactColumns;
 use crate::total::line_total;
 use crate::window::Window;
-use tabled_base::{CellText, TableError};
+use tabled_base::{CellText, IntoRecords, TableError};
 use tabled_config::{Borders, CompactConfig, HorizontalLine};
 use tabled_line::{LinePrinter, TableColumns, TextSink, write_left_edge};
 use tabled_size::Dimension;
@@ -192,29 +191,25 @@ impl<'a, D: Dimension> RowPrinter<'a, D> {
     }
 
     /// Prints all rows in a window, which shows at least one. No row past it is read.
-    fn print_wanted_rows<R, C, S: TextSink>(
+    fn print_wanted_rows<I: IntoRecords, S: TextSink>(
         &mut self,
         sink: &mut S,
-        rows: R,
+        records: I,
         window: Window,
     ) -> Result<(), TableError>
     where
-        R: IntoIterator<Item = C>,
-        C: IntoIterator,
-        C::Item: CellText + Drop,
-        requires ends { RowsEnd R.into_iter_gives R.IntoIter.can_next R.IntoIter.next_gives
-            R.IntoIter.remaining C.into_iter_gives C.IntoIter.can_next C.IntoIter.remaining rows }
+        I::Cell: CellText + Drop,
+        requires ends { I.ends records }
         requires wanted { IsSpent window → ⊥ }
         requires begun { self.old.lines.begun ≡ false }
         ensures put { (read : List (List (List ℕ))) × (whole : Bool)
-            × Came (RowsBegin R.into_iter_gives R.IntoIter.next_gives C.into_iter_gives
-            C.IntoIter.next_gives rows) C.Item.text read whole
+            × Came (I.begins records) I.Cell.text read whole
             × PutsRows self.old.lines.columns window (S.sent sink.old) result (S.sent sink.new)
             self.new.lines.begun read whole }
         ensures same { self.new.lines.columns ≡ self.old.lines.columns }
     {
         let mut left = window;
-        'rows: for row in rows {
+        'rows: for row in records.iter_rows() {
             self.print_next_row(sink, &mut left, row)?;
             if left.is_spent() {
                 return Ok(());
@@ -241,27 +236,23 @@ impl<'a, D: Dimension> RowPrinter<'a, D> {
 
     /// Prints the table of the rows in a window, which shows at least one if there is one. Prints
     /// nothing if there is none.
-    pub fn print_table<R, C, S: TextSink>(
+    pub fn print_table<I: IntoRecords, S: TextSink>(
         &mut self,
         sink: &mut S,
-        rows: R,
+        records: I,
         window: Window,
     ) -> Result<(), TableError>
     where
-        R: IntoIterator<Item = C>,
-        C: IntoIterator,
-        C::Item: CellText + Drop,
-        requires ends { RowsEnd R.into_iter_gives R.IntoIter.can_next R.IntoIter.next_gives
-            R.IntoIter.remaining C.into_iter_gives C.IntoIter.can_next C.IntoIter.remaining rows }
+        I::Cell: CellText + Drop,
+        requires ends { I.ends records }
         requires wanted { IsSpent window → ⊥ }
         requires begun { self.old.lines.begun ≡ false }
         requires columns { self.old.lines.columns.count ≡ 0 → ⊥ }
         requires printable { IsPrintable self.old.lines.columns }
         ensures { PrintsCompact self.old.lines.columns window
-            (Came (RowsBegin R.into_iter_gives R.IntoIter.next_gives C.into_iter_gives
-            C.IntoIter.next_gives rows) C.Item.text) (S.sent sink.old) result (S.sent sink.new) }
+            (Came (I.begins records) I.Cell.text) (S.sent sink.old) result (S.sent sink.new) }
     {
-        self.print_wanted_rows(sink, rows, window)?;
+        self.print_wanted_rows(sink, records, window)?;
         self.write_tail(sink)
     }
 }

@@ -1,7 +1,7 @@
 use Rattle.std.proofs.Common.{◌≡◌, ◌⊎◌, [], false, true, refl, inl, inr, arith}
 use Rattle.tabled_compact.specs.CompactCells.{sheet_by}
 use Rattle.tabled_compact.specs.Shown.{IsSpent}
-use Rattle.tabled_compact.proofs.Printings.{prints-as, prints-nothing, prints-refused}
+use Rattle.tabled_compact.proofs.Printings.{prints-nothing, prints-refused}
 use Rattle.tabled_compact.proofs.print.print_compact.Goals.{then-columns-eq0-via-then-columns-eq0, then-columns-eq0-via-else-columns-eq0+then-is_spent}
 use Rattle.tabled_compact.proofs.print.print_compact.Goals as goal
 
@@ -16,7 +16,7 @@ returns-then-columns-eq0 g c =
     let it = c.into_iter-rows in
     prints-nothing t c.args.window _ _ (
       [],
-      c.iter_rows-rows.ensures.begins [] false
+      c.iter_rows.ensures.begins [] false
           (record {
             lists = [];
             iterator = it.result;
@@ -30,11 +30,7 @@ returns-then-columns-eq0 g c =
     ) why
 
 pub returns-in-Ok : goal.returns-in-Ok
-returns-in-Ok g c =
-    let t = sheet_by c.args.config.now (g.D.Dimension.width_at c.args.dimension.now) c.args.columns in
-    let put = rw c.in-Ok.ensures.ok at c.print_table.ensures in
-    prints-as t c.args.window _ _ _ _ c.print_table.result
-    (λ rows whole came. (came.0, c.iter_rows-rows.ensures.begins came.0 whole came.1, came.2)) put
+returns-in-Ok g c = rw c.in-Ok.ensures.ok at c.print_table.ensures
 
 pub returns-in-Err : goal.returns-in-Err
 returns-in-Err g c =
@@ -42,5 +38,5 @@ returns-in-Err g c =
     let found = c.refuse.ensures in
     let some = c.if-columns-eq0.false in
     prints-refused t c.args.window _ _ (λ e. omega (arith, some, e)) found.0 found.1
-    (found.2.0, c.iter_rows-rows.ensures.begins found.2.0 found.1 found.2.1, found.2.2) c.in-Err.error c.refuse.result found.3
+    found.2 c.in-Err.error c.refuse.result found.3
     (λ h. let no : false ≡ true = c.if-is_spent.ensures.1 h in cc) c.in-Err.ensures.err

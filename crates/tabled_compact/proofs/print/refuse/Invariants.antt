@@ -4,5 +4,5 @@ use Rattle.tabled_compact.proofs.print.refuse.Given as goal
 
 abbrev pub invariant-rows : goal.invariant-rows
 invariant-rows g l =
-    SoFar g.C.IntoIterator.into_iter_gives g.C.IntoIter.Iterator.next_gives g.C.Item.CellText.text
+    SoFar g.I.IterColumns.IntoIterator.into_iter_gives g.I.IterColumns.IntoIter.Iterator.next_gives g.I.Cell.CellText.text
     (λ read. l.left + length read ≡ l.fn.skip) l.yielded

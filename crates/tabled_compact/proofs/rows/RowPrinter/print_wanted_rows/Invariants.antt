@@ -7,7 +7,7 @@ use Rattle.tabled_compact.proofs.rows.RowPrinter.print_wanted_rows.Given as goal
 abbrev pub invariant-rows : goal.invariant-rows
 invariant-rows g l =
     record {
-      so_far : SoFar g.C.IntoIterator.into_iter_gives g.C.IntoIter.Iterator.next_gives g.C.Item.CellText.text
+      so_far : SoFar g.I.IterColumns.IntoIterator.into_iter_gives g.I.IterColumns.IntoIter.Iterator.next_gives g.I.Cell.CellText.text
           (HavePut l.initial.self.lines.columns l.fn.window (g.S.TextSink.sent l.initial.sink)
           (g.S.TextSink.sent l.sink) l.self.lines.begun l.left)
           l.yielded;
