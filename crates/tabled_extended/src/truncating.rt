@@ -1,6 +1,5 @@
 //! Truncating the fields and values of records, and the widths to which they are truncated.
-ghost use Rattle.std.specs.Prelude.{◌≡◌, ◌-◌, IfOk, MatchOption, None, OnErr, OnOk, Some};
-ghost use Rattle.std.specs.Prelude.{if◌then◌else◌, nat_lt, string_bytes};
+ghost use Rattle.std.specs.Prelude.{◌≡◌, IfOk, MatchOption, OnErr, OnOk, string_bytes};
 ghost use Rattle.std.specs.List.{AllZip};
 ghost use Rattle.tabled_base.specs.Cells.{row_texts};
 ghost use Rattle.tabled_set.specs.Truncated.{suffix_columns};
@@ -13,7 +12,8 @@ use crate::extended_table::ExtendedTable;
 use crate::printing::widest;
 use std::alloc::{AllocError, Global};
 use tabled_base::{CellText, TableError, Text};
-use tabled_text::{count_lines, cut_str, line_width, lines};
+use tabled_set::columns_beside;
+use tabled_text::cut_str;
 
 /// The greatest widths of fields, if they are truncated, and of values, in columns.
 #[derive(Clone, Copy)]
@@ -30,18 +30,6 @@ fn least_columns(count: usize) -> usize
         Some(log) => 14 + log as usize,
         None => 14,
     }
-}
-
-/// Returns the columns that a suffix leaves, if it fits.
-fn columns_beside(suffix: &str, columns: usize) -> Option<usize>
-    ensures { result ≡ (if nat_lt columns (suffix_columns suffix.now) then None
-        else Some (columns - suffix_columns suffix.now)) }
-{
-    let mut left = columns;
-    for line in lines(suffix) {
-        left = left.checked_sub(line_width(line))?;
-    }
-    left.checked_sub(count_lines(suffix) - 1)
 }
 
 /// Returns the widths for lines of `max` columns, `count` records and a widest field of `field`

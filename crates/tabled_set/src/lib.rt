@@ -41,5 +41,5 @@ pub use measurement::{Height, Max, Measurement, Min, Percent, Width};
 pub use min_width::MinWidth;
 pub use sizes::{HeightList, WidthList};
 pub use spaces::{Margin, Padding, PaddingExpand};
-pub use truncate::{SuffixLimit, Truncate};
+pub use truncate::{SuffixLimit, Truncate, columns_beside};
 pub use wrap::Wrap;

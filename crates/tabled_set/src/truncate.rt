@@ -103,7 +103,8 @@ struct UsedSuffix<T> {
     left: usize,
 }
 
-fn columns_beside(suffix: &str, content_size: usize) -> Option<usize>
+/// Returns the columns that a suffix leaves of a content size, if it leaves any.
+pub fn columns_beside(suffix: &str, content_size: usize) -> Option<usize>
     ensures { let own = suffix_columns suffix.now in
         result ≡ (if nat_lt own content_size then Some (content_size - own) else None) }
 {
