@@ -8,9 +8,9 @@ use Rattle.tabled_extended.specs.RecordLines.{value_line}
 use Rattle.tabled_extended.proofs.printing.write_value_line.Goals as goal
 
 -- the line, by the text of the field and the number of spaces
-line : (columns spaces : ℕ) (field text value : List ℕ) → text ≡ field → spaces ≡ columns - text_columns field
+line : (columns : ℕ) {spaces : ℕ} {field text : List ℕ} (value : List ℕ) → text ≡ field → spaces ≡ columns - text_columns field
     → value_line columns (field, value) ≡ text ++ (fill 32 spaces ++ (codes " | " ++ value))
-line columns spaces field text value same many =
+line columns {spaces} {field} {text} value same many =
     ap (λ t. t ++ (fill 32 (columns - text_columns field) ++ (codes " | " ++ value))) (sym same)
     ∙ ap (λ n. text ++ (fill 32 n ++ (codes " | " ++ value))) (sym many)
 
@@ -22,17 +22,14 @@ returns-in_err-write_text g c =
     let many = c.saturating_sub-spaces.ensures ∙ ap (λ n. c.args.columns - n) c.width.ensures in
     one-line _ _ _ _ _ c.in_ok-write_break.ensures.printed
     (stopped-first _ _ _ c.in_err-write_text.ensures.written c.from_residual-in_err-write_text.ensures.1
-    (line c.args.columns c.saturating_sub-spaces.result c.args.field.now c.text.result.now c.args.value.now c.text.ensures many))
-    c.write_break.ensures.after
+    (line c.args.columns c.args.value.now c.text.ensures many)) c.write_break.ensures.after
 
 pub returns-in_err-write_fill : goal.returns-in_err-write_fill
 returns-in_err-write_fill g c =
     let many = c.saturating_sub-spaces.ensures ∙ ap (λ n. c.args.columns - n) c.width.ensures in
     one-line _ _ _ _ _ c.in_ok-write_break.ensures.printed
     (stopped _ _ (codes " | " ++ c.args.value.now) c.in_ok-write_text.ensures.written c.in_err-write_fill.ensures
-    c.from_residual-in_err-write_fill.ensures.1
-    (line c.args.columns c.saturating_sub-spaces.result c.args.field.now c.text.result.now c.args.value.now c.text.ensures many))
-    c.write_break.ensures.after
+    c.from_residual-in_err-write_fill.ensures.1 (line c.args.columns c.args.value.now c.text.ensures many)) c.write_break.ensures.after
 
 pub returns-in_err-write_text-2 : goal.returns-in_err-write_text-2
 returns-in_err-write_text-2 g c =
@@ -42,7 +39,7 @@ returns-in_err-write_text-2 g c =
     one-line _ _ _ _ _ c.in_ok-write_break.ensures.printed
     (stopped _ _ value (further c.in_ok-write_text.ensures.written c.in_ok-write_fill.ensures refl) c.in_err-write_text-2.ensures.written
     c.from_residual-in_err-write_text-2.ensures.1
-    (line c.args.columns spaces c.args.field.now c.text.result.now value c.text.ensures many
+    (line c.args.columns value c.text.ensures many
     ∙ sym (append_assoc c.text.result.now (fill 32 spaces) (codes " | " ++ value)))) c.write_break.ensures.after
 
 pub returns : goal.returns
@@ -54,7 +51,7 @@ returns g c =
     one-line _ _ _ _ _ c.in_ok-write_break.ensures.printed
     (finished _ _ _ _ (further (further c.in_ok-write_text.ensures.written c.in_ok-write_fill.ensures refl) c.in_ok-write_text-2.ensures.written refl)
     c.write_text-3.ensures.written
-    (line c.args.columns spaces c.args.field.now text value c.text.ensures many
+    (line c.args.columns value c.text.ensures many
     ∙ sym (append_assoc text (fill 32 spaces) (codes " | " ++ value))
     ∙ sym (append_assoc (text ++ fill 32 spaces) (codes " | ") value)
     ∙ ap (λ t. ((text ++ fill 32 spaces) ++ codes " | ") ++ t) (sym c.text-2.ensures))) c.write_break.ensures.after
