@@ -18,9 +18,3 @@ stops-measuring e cause sizes is range = record { lacking = λ m. cc; same = ref
 pub stops-with : {T : Type 0} (P : TableError → Type 0) (Q : Type 0) (r : Result T TableError) → IfErr r P → Q → IfErr r (λ e. P e × Q)
 stops-with P Q (Ok x) h q = tt
 stops-with P Q (Err e) h q = (h, q)
-
--- the same after two facts
-pub stops-filled : {T : Type 0} (F P : TableError → Type 0) (Q : Type 0) (r : Result T TableError) → IfErr r (λ e. F e × P e) → Q
-    → IfErr r (λ e. F e × P e × Q)
-stops-filled F P Q (Ok x) h q = tt
-stops-filled F P Q (Err e) h q = (h.0, h.1, q)

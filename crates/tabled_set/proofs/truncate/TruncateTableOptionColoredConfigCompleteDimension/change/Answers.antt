@@ -1,35 +1,15 @@
-use Rattle.std.proofs.Common.{◌≡◌, IfErr, false, refl, rules, subst}
-use Rattle.std.proofs.lemmas.Result.{on_ok_weaker}
-use Rattle.tabled_set.specs.Common.{is_empty, SpannedConfig, TableError}
-use Rattle.tabled_set.specs.CellChanges.{if_wider, truncating, Wider}
-use Rattle.tabled_set.specs.Truncated.{truncating_in_place}
-use Rattle.tabled_set.specs.Narrowed.{Narrows, StopsNarrowing}
+use Rattle.std.proofs.Common.{refl}
+use Rattle.std.proofs.lemmas.Result.{IfErr-weaker, on_ok_weaker}
 use Rattle.tabled_set.proofs.WrappedAndTruncated.{truncates}
-use Rattle.tabled_set.proofs.Stopping.{stops-filled}
 use Rattle.tabled_set.proofs.truncate.TruncateTableOptionColoredConfigCompleteDimension.change.Goals as goal
 
 pub returns-clause-promised : goal.returns-clause-promised
 returns-clause-promised g c =
-    let s = c.args.self in
-    let by = s.transform in
-    let cells = g.R.ExactRecords.cells c.args.records.now in
-    let config = c.args.cfg.now.config in
-    let n = g.W.Measurement.measures s.size cells config in
-    let new = g.R.ExactRecords.cells c.narrow_table.new.records in
-    let stored = c.narrow_table.new.sizes in
-    on_ok_weaker {P = Narrows g.P.Peaker.shrinks s.priority (if_wider (truncating by.suffix.now by.limit by.multiline)) n cells config c.args.dims.now new stored} c.narrow_table.result
-    (λ h left. truncates g.P.Peaker.shrinks s.priority n cells config c.args.dims.now new stored left c.narrow_table.ensures.rectangular by.suffix.now by.limit by.multiline h)
-    (search rules)
+    let by = c.args.self.transform in
+    on_ok_weaker c.narrow_table.result
+    (λ h left. truncates _ _ _ _ _ _ _ _ left c.narrow_table.ensures.rectangular by.suffix.now by.limit by.multiline h)
+    (rw c.as_ref.ensures at c.narrow_table.ensures.ok)
 
 pub returns-clause-err : goal.returns-clause-err
 returns-clause-err g c =
-    let s = c.args.self in
-    let by = s.transform in
-    let cells = g.R.ExactRecords.cells c.args.records.now in
-    let stops = λ (config : SpannedConfig) (e : TableError). StopsNarrowing g.P.Peaker.shrinks s.priority Wider
-    (truncating_in_place by.suffix.now by.limit by.multiline) (truncating by.suffix.now by.limit by.multiline)
-    (g.W.Measurement.measures s.size cells config) e cells config c.args.dims.now (g.R.ExactRecords.cells c.narrow_table.new.records) c.narrow_table.new.sizes in
-    let filled = is_empty cells ≡ false in
-    let same = c.args.cfg.now ≡ c.args.cfg.now in
-    subst (λ (config : SpannedConfig). IfErr c.narrow_table.result (λ e. filled × stops config e × same)) c.as_ref.ensures
-    (stops-filled (λ _. filled) (stops c.as_ref.result.now) same c.narrow_table.result c.narrow_table.ensures.err refl)
+    IfErr-weaker c.narrow_table.result _ _ (λ e h. (h.0, h.1, refl)) (rw c.as_ref.ensures at c.narrow_table.ensures.err)
