@@ -4,7 +4,8 @@ use Rattle.std.proofs.Math.ListN.{set}
 use Rattle.std.proofs.lemmas.List.{get_or_default, drop-drop, drop-replicate, drop-set-add, drop-set-lt, get_or-drop, length-drop}
 use Rattle.std.proofs.lemmas.Nat.{mul-add-lt}
 use Rattle.tabled_base.specs.Cells.{IsInside, IsRectangular, cell_at, columns, with_cell}
-use Rattle.tabled_records.specs.Changed.{changed_row, changed_rows}
+use Rattle.tabled_records.specs.Changed.{IsPlace, changed_row, changed_rows, text_of}
+use Rattle.tabled_records.specs.declared.changed_cell.ChangedCell.{ChangedCell}
 
 -- ---- one row
 
@@ -126,27 +127,28 @@ rows-same f x e n (row ∷ rows) =
     ∙ ap (λ l. row ∷ l) (rows-same f x e (n - length row) rows)
 
 -- a cell of the changed rows is one of the old
-pub inside-old : {A : Type 0} (f : A → List ℕ → List ℕ) (xs : List A) (rows cells : List (List (List ℕ))) (i j : ℕ) → changed_rows f xs rows ≡ cells → IsInside cells i j
-    → IsInside rows i j
-inside-old f xs rows cells i j e h =
+inside-old : {A : Type 0} (f : A → List ℕ → List ℕ) (xs : List A) (rows : List (List (List ℕ))) (i j : ℕ) → IsInside (changed_rows f xs rows) i j → IsInside rows i j
+inside-old f xs rows i j h =
     let row_in = h.row_in in
     let column_in = h.column_in in
-    record { row_in = omega (arith, ap length e, rows-length f xs rows); column_in = omega (arith, ap columns e, rows-columns f xs rows) }
+    record { row_in = omega (arith, rows-length f xs rows); column_in = omega (arith, rows-columns f xs rows) }
 
--- the cell that is read at its place
-pub read-at : {A : Type 0} (f : A → List ℕ → List ℕ) (xs : List A) (rows cells : List (List (List ℕ))) (i j place : ℕ) (x : A) → changed_rows f xs rows ≡ cells → IsRectangular rows
-    → length xs ≡ length rows * columns rows → IsInside cells i j → place ≡ i * columns rows + j → x ≡ get_or xs place x
-    → cell_at cells i j ≡ f x (cell_at rows i j)
-read-at f xs rows cells i j place x e q long h at is =
-    let old = inside-old f xs rows cells i j e h in
-    ap (λ c. cell_at c i j) (sym e) ∙ rows-cell f xs rows i j x q old.row_in old.column_in long
-    ∙ ap (λ y. f y (cell_at rows i j)) (ap (λ p. get_or xs p x) (sym at) ∙ sym is)
+-- the index of a cell
+pub place-bounds : (xs : List ChangedCell) (rows : List (List (List ℕ))) (i j : ℕ) → length xs ≡ length rows * columns rows
+    → IsInside (changed_rows text_of xs rows) i j → i * columns rows + j < length xs
+place-bounds xs rows i j long h =
+    let old = inside-old text_of xs rows i j h in
+    let below = mul-add-lt i (columns rows) j (length rows) old.row_in old.column_in in
+    omega (arith, long, below)
 
--- the cells after one of them has become something else
-pub set-at : {A : Type 0} (f : A → List ℕ → List ℕ) (xs : List A) (rows cells : List (List (List ℕ))) (i j place : ℕ) (x : A) → changed_rows f xs rows ≡ cells → IsRectangular rows
-    → length xs ≡ length rows * columns rows → IsInside cells i j → place ≡ i * columns rows + j
-    → changed_rows f (set xs place x) rows ≡ with_cell cells i j (f x (cell_at rows i j))
-set-at f xs rows cells i j place x e q long h at =
-    let old = inside-old f xs rows cells i j e h in
-    ap (λ p. changed_rows f (set xs p x) rows) at ∙ rows-set f xs rows i j x q old.row_in old.column_in long
-    ∙ ap (λ c. with_cell c i j (f x (cell_at rows i j))) e
+pub rows-place : (xs : List ChangedCell) (rows : List (List (List ℕ))) (i j index : ℕ) → index ≡ i * columns rows + j → IsRectangular rows
+    → length xs ≡ length rows * columns rows → IsInside (changed_rows text_of xs rows) i j → IsPlace xs rows i j index
+rows-place xs rows i j index at q long h =
+    let old = inside-old text_of xs rows i j h in
+    record {
+      inside = old;
+      within = let below = place-bounds xs rows i j long h in omega (arith, at, below);
+      read = λ cell is. rows-cell text_of xs rows i j cell q old.row_in old.column_in long
+          ∙ ap (λ y. text_of y (cell_at rows i j)) (ap (λ p. get_or xs p cell) (sym at) ∙ sym is);
+      set = λ cell. ap (λ p. changed_rows text_of (set xs p cell) rows) at ∙ rows-set text_of xs rows i j cell q old.row_in old.column_in long;
+    }

@@ -1,7 +1,8 @@
 //! What a cell of other records has become. It takes 24 bytes, and more only for a long text.
-ghost use Rattle.std.specs.Prelude.{◌≡◌, ◌+◌, ◌++◌, ◌≤◌, ℕ, IfErr, IfOk, List, MatchOption, drop};
-ghost use Rattle.std.specs.Prelude.{length, string_bytes, take};
+ghost use Rattle.std.specs.Prelude.{◌≡◌, ◌+◌, ◌++◌, ◌≤◌, IfErr, IfOk, drop, length, string_bytes};
+ghost use Rattle.std.specs.Prelude.{take};
 ghost use Rattle.std.specs.Str.{IsCharBoundary};
+ghost use Rattle.tabled_base.specs.Cells.{IsInside, cell_at};
 ghost use Rattle.tabled_base.specs.ShortOr.{FitsBehind};
 ghost use Rattle.tabled_base.specs.declared.error.TableError.TheVariants.{Memory};
 ghost use Rattle.tabled_records.specs.Changed.{text_of};
@@ -9,7 +10,7 @@ ghost use Rattle.tabled_records.specs.Joined.{IsTold};
 
 use std::marker::Model;
 use std::str;
-use tabled_base::{SHORT_TEXT, TableError};
+use tabled_base::{PeekableRecords, Position, SHORT_TEXT, TableError};
 use tabled_text::laws::text_bounds;
 use tabled_text::text_measures;
 
@@ -148,41 +149,59 @@ impl<'a> ChangedCell<'a> {
         Ok(ChangedCell::Long(Box::new(alloc, LongText::new(text))?))
     }
 
-    /// Returns the text of the cell with its columns and lines, or `None` if it is unchanged.
+    /// Returns the text of the cell with its columns and lines. `records` have the unchanged cell.
     #[inline(always)]
-    pub fn measured(&self) -> Option<(&str, usize, usize)>
-        ensures { MatchOption result ((old : List ℕ) → text_of self.now old ≡ old)
-            (λ told. (old : List ℕ) → IsTold (text_of self.now old) told.0.now told.1 told.2) }
+    pub fn measured<'b, R: PeekableRecords>(
+        &'b self,
+        records: &'b R,
+        at: Position,
+    ) -> (&'b str, usize, usize)
+        requires { IsInside (R.cells records.now) at.row at.column }
+        ensures { IsTold (text_of self.now (cell_at (R.cells records.now) at.row at.column))
+            result.0.now result.1 result.2 }
     {
         match self {
-            ChangedCell::Same => None,
+            ChangedCell::Same => records.get_measured(at),
             ChangedCell::Front(text) => {
                 let (columns, lines) = text_measures(text);
-                Some((text, columns, lines))
+                (text, columns, lines)
             }
             ChangedCell::Short(short) => {
-                Some((short.text(), short.columns as usize, short.lines as usize))
+                (short.text(), short.columns as usize, short.lines as usize)
             }
-            ChangedCell::Long(long) => Some((long.text.as_str(), long.columns, long.lines)),
+            ChangedCell::Long(long) => (long.text.as_str(), long.columns, long.lines),
         }
     }
 
-    /// Truncates the text to `bytes` bytes and appends an ending. `old` is the text of the
-    /// unchanged cell.
-    pub fn shorten(&mut self, old: &'a str, bytes: usize, ending: &str)
-        requires boundary { IsCharBoundary (text_of self.old old.now) bytes }
+    /// Truncates the text to `bytes` bytes and appends an ending. `records` have the unchanged
+    /// cell.
+    pub fn shorten<R: PeekableRecords>(
+        &mut self,
+        records: &'a R,
+        at: Position,
+        bytes: usize,
+        ending: &str,
+    )
+        requires inside { IsInside (R.cells records.now) at.row at.column }
+        requires boundary { IsCharBoundary
+            (text_of self.old (cell_at (R.cells records.now) at.row at.column)) bytes }
         requires fits { FitsBehind bytes ending.now }
-        ensures { text_of self.new old.now
-            ≡ take bytes (text_of self.old old.now) ++ ending.now }
+        ensures { let old = cell_at (R.cells records.now) at.row at.column in
+            text_of self.new old ≡ take bytes (text_of self.old old) ++ ending.now }
     {
+        let (text, _, _) = self.measured(records, at);
+        if bytes == text.len() && ending.is_empty() {
+            return;
+        }
         if bytes <= SHORT_TEXT {
-            let (text, _, _) = self.measured().unwrap_or((old, 0, 1));
             let (front, _) = text.split_at(bytes);
             *self = ChangedCell::Short(ShortText::joined(front, ending));
             return;
         }
         match self {
-            ChangedCell::Same => *self = ChangedCell::Front(old.split_at(bytes).0),
+            ChangedCell::Same => {
+                *self = ChangedCell::Front(records.get_text(at).split_at(bytes).0)
+            }
             ChangedCell::Front(text) => *text = text.split_at(bytes).0,
             ChangedCell::Short(short) => {
                 // It has at most 16 bytes. The proof reads that here.

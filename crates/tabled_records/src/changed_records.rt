@@ -1,7 +1,8 @@
 //! Records that borrow all cells of other records but those that are changed.
-ghost use Rattle.std.specs.Prelude.{◌≡◌, ◌+◌, ◌*◌, ◌<◌, ◌^◌, IfErr, IfOk, length};
-ghost use Rattle.tabled_base.specs.Cells.{IsInside, IsRectangular, columns};
+ghost use Rattle.std.specs.Prelude.{◌≡◌, ◌*◌, ◌<◌, ◌^◌, IfErr, IfOk, length};
+ghost use Rattle.tabled_base.specs.Cells.{IsInside, columns};
 ghost use Rattle.tabled_base.specs.declared.error.TableError.TheVariants.{Memory};
+ghost use Rattle.tabled_records.specs.Changed.{IsPlace, changed_rows, text_of};
 
 use crate::changed_cell::ChangedCell;
 use std::alloc::Global;
@@ -32,12 +33,13 @@ impl<'a, R: PeekableRecords> Model for ChangedRecords<'a, R> {
 
 /// Returns the index of a cell among all cells, row by row.
 #[inline(always)]
-fn index_of<R: ExactRecords>(records: &R, at: Position) -> usize
-    requires inside { IsInside (R.cells records.now) at.row at.column }
-    requires fits { length (R.cells records.now) * columns (R.cells records.now) < 2 ^ 64 }
-    ensures index { result ≡ at.row * columns (R.cells records.now) + at.column }
-    ensures within { result < length (R.cells records.now) * columns (R.cells records.now) }
-    ensures rectangular { IsRectangular (R.cells records.now) }
+fn index_of<R: ExactRecords>(records: &R, cells: &[ChangedCell<'_>], at: Position) -> usize
+    requires all { length cells.now
+        ≡ length (R.cells records.now) * columns (R.cells records.now) }
+    requires inside { IsInside (changed_rows text_of cells.now (R.cells records.now))
+        at.row at.column }
+    requires fits { length cells.now < 2 ^ 64 }
+    ensures { IsPlace cells.now (R.cells records.now) at.row at.column result }
 {
     at.row * records.count_columns() + at.column
 }
@@ -92,27 +94,23 @@ impl<'a, R: PeekableRecords> PeekableRecords for ChangedRecords<'a, R> {
 
     #[inline(always)]
     fn get_measured(&self, at: Position) -> (&str, usize, usize) {
-        let index = index_of(self.records, at);
-        match self.cells[index].measured() {
-            Some(measured) => measured,
-            None => self.records.get_measured(at),
-        }
+        let index = index_of(self.records, &self.cells, at);
+        self.cells[index].measured(self.records, at)
     }
 }
 
 /// A cell whose text is set to that of the borrowed records borrows it again.
 impl<'a, R: PeekableRecords> RecordsMut for ChangedRecords<'a, R> {
     fn set(&mut self, at: Position, text: String) -> Result<(), TableError> {
-        let cell = ChangedCell::new(text, self.records.get_text(at))?;
-        let index = index_of(self.records, at);
-        self.cells[index] = cell;
+        let index = index_of(self.records, &self.cells, at);
+        self.cells[index] = ChangedCell::new(text, self.records.get_text(at))?;
         Ok(())
     }
 
     fn shorten(&mut self, at: Position, bytes: usize, ending: &str) {
         let records = self.records;
-        let index = index_of(records, at);
-        self.cells[index].shorten(records.get_text(at), bytes, ending);
+        let index = index_of(records, &self.cells, at);
+        self.cells[index].shorten(records, at, bytes, ending);
     }
 
     fn allocator(&self) -> Global {
