@@ -43,11 +43,6 @@ given_whole g =
       ended = λ _. (g.all.drained.0, g.all.drained.1.2);
     }
 
--- what more is known of the rows before they were changed
-pub changed_of : {A B : Type 0} {P Q : List A → Type 0} {change : List A → List B} {rows : List B} → ((all : List A) → P all → Q all)
-    → AreChanged P change rows → AreChanged Q change rows
-changed_of f c = record { all = c.all; given = f c.all c.given; changed = c.changed }
-
 -- a state `N` that walks the rows of `S`, and makes of each another one by a relation that a setting tells
 module _ {N S P W X : Type 0} (inner : N → S) (setting : N → P) (steps : S → Option W → S → Type 0) (makes : P → W → X → Type 0) where
   abbrev pub made_steps : N → Option X → N → Type 0

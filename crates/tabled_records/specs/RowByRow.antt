@@ -12,3 +12,8 @@ pub record AreChanged {A B : Type 0} (before : List A → Type 0) (change : List
   pub all : List A
   pub given : before all
   pub changed : rows ≡ change all
+
+-- what more is known of the rows before they were changed
+pub changed_of : {A B : Type 0} {P Q : List A → Type 0} {change : List A → List B} {rows : List B} → ((all : List A) → P all → Q all)
+    → AreChanged P change rows → AreChanged Q change rows
+changed_of f c = record { all = c.all; given = f c.all c.given; changed = c.changed }

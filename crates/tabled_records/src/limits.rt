@@ -1,7 +1,7 @@
 //! Views of a part of records: the first rows, the rows after them, the first cells of each row.
 ghost use Rattle.std.specs.Prelude.{◌≡◌, true, drop, ◌<◌, map, take};
 ghost use Rattle.tabled_records.specs.Limited.{IsLimited};
-ghost use Rattle.tabled_records.specs.RowByRow.{AreChanged, RowOfRow};
+ghost use Rattle.tabled_records.specs.RowByRow.{AreChanged, RowOfRow, changed_of};
 ghost use Rattle.tabled_records.specs.Reading.{MayGive};
 ghost use Rattle.tabled_records.specs.LaterRows.{SkipsRows};
 ghost use Rattle.std.specs.Iterator.{IsFinite};
@@ -121,13 +121,7 @@ where
         }
     }
 
-    ghost whole_rows = { λ view cells begun.
-        record {
-          all = begun.all;
-          given = R.whole_rows view.records begun.all begun.given;
-          changed =
-              begun.changed;
-        } };
+    ghost whole_rows = { λ view cells begun. changed_of (R.whole_rows view.records) begun };
 }
 
 /// The first cells of each row. The other cells are read and dropped when the iterator is asked for
@@ -232,11 +226,5 @@ where
         }
     }
 
-    ghost whole_rows = { λ view cells begun.
-        record {
-          all = begun.all;
-          given = R.whole_rows view.records begun.all begun.given;
-          changed =
-              begun.changed;
-        } };
+    ghost whole_rows = { λ view cells begun. changed_of (R.whole_rows view.records) begun };
 }

@@ -2,7 +2,7 @@
 ghost use Rattle.std.specs.Prelude.{◌≡◌, map, IfErr, IfOk, OnErr};
 ghost use Rattle.std.specs.Cow.{cow_str_bytes, IsOwnedStr};
 ghost use Rattle.tabled_base.specs.declared.error.TableError.TheVariants.{Memory};
-ghost use Rattle.tabled_records.specs.RowByRow.{AreChanged, RowOfRow};
+ghost use Rattle.tabled_records.specs.RowByRow.{AreChanged, RowOfRow, changed_of};
 ghost use Rattle.tabled_records.specs.CutRows.{IsShown, WantsFill, cut_cells_steps, with_widths};
 
 use std::alloc::Global;
@@ -137,11 +137,5 @@ impl<'a, R: IntoRecords> IntoRecords for TruncateContent<'a, R> {
         }
     }
 
-    ghost whole_rows = { λ view cells begun.
-        record {
-          all = begun.all;
-          given = R.whole_rows view.records begun.all begun.given;
-          changed =
-              begun.changed;
-        } };
+    ghost whole_rows = { λ view cells begun. changed_of (R.whole_rows view.records) begun };
 }

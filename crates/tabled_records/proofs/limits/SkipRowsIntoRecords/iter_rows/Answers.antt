@@ -1,6 +1,7 @@
-use Rattle.tabled_base.specs.Laws.{whole_rows}
+use Rattle.std.proofs.Common.{true}
 use Rattle.tabled_records.proofs.LaterRuns.{later_end, later_rows}
-use Rattle.tabled_records.proofs.Runs.{changed_of, given_whole}
+use Rattle.tabled_records.specs.RowByRow.{changed_of}
+use Rattle.tabled_records.proofs.Runs.{given_whole}
 use Rattle.tabled_records.proofs.limits.SkipRowsIntoRecords.iter_rows.Goals as goal
 
 pub returns-clause-ends : goal.returns-clause-ends
@@ -10,14 +11,6 @@ returns-clause-ends g c ends =
     g.R.IterRows.IntoIterator.into_iter_gives c.iter_rows.result
     _ _ (λ it e. e) c.into_iter.ensures.into_iter_gives (c.iter_rows.ensures.ends ends)
 
-pub returns-clause-gives : goal.returns-clause-gives
-returns-clause-gives g c cells given =
-    let columns = g.R.IterColumns in
-    changed_of (λ all begun. c.iter_rows.ensures.gives all (whole_rows begun))
-    (later_rows g.R.IterRows.IntoIter.Iterator.next_gives columns.IntoIterator.into_iter_gives columns.IntoIter.Iterator.next_gives
-    g.R.IterRows.IntoIterator.into_iter_gives c.iter_rows.result
-    _ _ (λ it e. e) c.into_iter.ensures.into_iter_gives (given_whole given))
-
 pub returns-clause-begins : goal.returns-clause-begins
 returns-clause-begins g c cells whole begun =
     let columns = g.R.IterColumns in
@@ -25,3 +18,7 @@ returns-clause-begins g c cells whole begun =
     (later_rows g.R.IterRows.IntoIter.Iterator.next_gives columns.IntoIterator.into_iter_gives columns.IntoIter.Iterator.next_gives
     g.R.IterRows.IntoIterator.into_iter_gives c.iter_rows.result
     _ _ (λ it e. e) c.into_iter.ensures.into_iter_gives begun)
+
+pub returns-clause-gives : goal.returns-clause-gives
+returns-clause-gives g c cells given =
+    changed_of (g.met.R.IntoRecords.whole_rows c.args.self.records) (returns-clause-begins g c cells true (given_whole given))
