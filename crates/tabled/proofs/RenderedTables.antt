@@ -27,7 +27,7 @@ use Rattle.tabled.specs.declared.plan.Plan.{Plan}
 use Rattle.tabled.specs.declared.plan.Plan.TheVariants.{Buffered, Streamed, Wrapped, Shortened}
 use Rattle.tabled.specs.Headline.{HasFewestBreaks, HasLeastGreatestWidth, HasLongestBeginnings, HasWantedTotal, IsAsBuffered, IsBestOf}
 use Rattle.tabled.specs.Headline.{IsBestPlanned, IsLeastBy, KeepsApart}
-use Rattle.tabled.specs.Planned.{Cells, FitsInto, IsNarrowedTo, IsPlanned, IsPlannedOf, OrderShrinks, measured}
+use Rattle.tabled.specs.Planned.{Cells, FitsInto, IsNarrowedTo, IsPlanned, IsPlannedOf, OrderShrinks}
 use Rattle.tabled.specs.Rendered.{Halts, IsRendered, IsRenderedOf, PassesRange, PrintsPlanned, BreaksOff, IsMade}
 use Rattle.std.specs.List.{slice_index_or}
 use Rattle.std.proofs.lemmas.List.{get_or_default}
@@ -299,13 +299,6 @@ module _ (cells : Cells) (config : SpannedConfig) (e : is_empty cells ≡ true) 
 -- what is told of a whole table is told of the new one, whose settings keep texts apart
 pub best_new : (plan : Plan) (cells : Cells) (t : Sheet) → IsBestOf plan (new_sheet cells) t → IsBestPlanned plan cells t
 best_new plan cells t b = record { edges = b.edges new_apart; best = b }
-
--- under each other plan all is measured before it is printed
-pub measured_same : (plan : Plan) → (plan ≡ Streamed → ⊥) → measured plan ≡ plan
-measured_same Buffered h = refl
-measured_same Streamed h = absurd (h refl)
-measured_same (Wrapped n words order) h = refl
-measured_same (Shortened n order) h = refl
 
 pub rendered_new : {T : Type 0} (plan : Plan) (cells : Cells) (old : Sent) (r : Result T TableError) (new : Sent)
     → IsRenderedOf plan (new_sheet cells) old r new → IsRendered plan cells old r new

@@ -10,6 +10,7 @@ ghost use Rattle.tabled_size.specs.Effective.{effective};
 ghost use Rattle.tabled_size.specs.Sheet.{estimated, is_empty};
 ghost use Rattle.tabled_size.specs.TextCells.{AreTexts};
 ghost use Rattle.tabled_table.specs.NewConfig.{new_config};
+ghost use Rattle.tabled.specs.declared.plan.Plan.TheVariants.{Streamed};
 ghost use Rattle.tabled.specs.Planned.{is_plain_byte, measured};
 ghost use Rattle.tabled.specs.Rendered.{IsMade, IsRendered, IsRenderedOf};
 
@@ -24,6 +25,7 @@ use tabled_records::{ChangedRecords, text_rows};
 use tabled_set::{Truncate, Wrap};
 use tabled_size::{CompleteDimension, Estimate};
 use tabled_table::new_config;
+use tabled_text::run_end;
 
 /// Wraps or truncates the cells of a table with estimated sizes, as a plan says, and returns its
 /// new sizes.
@@ -112,7 +114,7 @@ fn print_streamed<R: PeekableRecords, S: TextSink>(
 ) -> Result<(), TableError>
     requires texts { AreTexts (R.cells rows.now) }
     requires rectangular { IsRectangular (R.cells rows.now) }
-    ensures { IsRenderedOf Plan.Streamed (estimated (R.cells rows.now) config.now)
+    ensures { IsRenderedOf Streamed (estimated (R.cells rows.now) config.now)
         (S.sent sink.old) result (S.sent sink.new) }
 {
     let mut sizes = CompleteDimension::new(alloc);
@@ -122,38 +124,33 @@ fn print_streamed<R: PeekableRecords, S: TextSink>(
     print_standing(sink, &cells, config, &sizes)
 }
 
-fn print_records<R: PeekableRecords, S: TextSink>(
-    alloc: Global,
-    rows: &R,
-    plan: Plan,
-    sink: &mut S,
-) -> Result<(), TableError>
-    requires texts { AreTexts (R.cells rows.now) }
-    requires rectangular { IsRectangular (R.cells rows.now) }
-    ensures { IsRendered plan (R.cells rows.now) (S.sent sink.old) result (S.sent sink.new) }
-{
-    match plan {
-        Plan::Streamed => print_streamed(alloc, rows, &new_config(alloc), sink),
-        _ => {
-            let config = ColoredConfig::new(new_config(alloc));
-            print_measured(alloc, rows, config, plan, sink)
-        }
-    }
-}
-
 /// Whether a text is printable ASCII, tabs and line feeds.
 fn is_plain_text(text: &str) -> bool
-    ensures { result ≡ list_all is_plain_byte text.now }
-{
-    text.bytes()
-        .all(|byte| matches!(byte, b'\t' | b'\n' | b' '..=b'~'))
-}
-
-/// Whether a plan streams a text of which it cuts no cell, so that it prints the whole table.
-fn streams_whole(plan: Plan, text: &str) -> bool
     ensures { result ≡ true → list_all is_plain_byte text.now ≡ true }
 {
-    matches!(plan, Plan::Streamed) && is_plain_text(text)
+    let bytes = text.as_bytes();
+    let mut at = run_end(bytes, 0, b' ', b'~');
+    'runs: while at < bytes.len() {
+        let byte = bytes[at];
+        if byte != b'\t' && byte != b'\n' {
+            return false;
+        }
+        at = run_end(bytes, at + 1, b' ', b'~');
+    }
+    true
+}
+
+/// Whether a plan may cut cells of a text that fit in their columns: it streams, and the text isn't
+/// plain.
+fn may_cut(plan: Plan, text: &str) -> bool
+    ensures streamed { result ≡ true → plan ≡ Streamed }
+    ensures plain { result ≡ false → plan ≡ Streamed
+        → list_all is_plain_byte text.now ≡ true }
+{
+    match plan {
+        Plan::Streamed => !is_plain_text(text),
+        _ => false,
+    }
 }
 
 /// Prints tab-separated rows as a table, under a plan.
@@ -181,11 +178,11 @@ pub fn render<S: TextSink>(
         return Ok(());
     }
     let rows = text_rows(alloc, text)?;
-    if streams_whole(plan, text) {
-        let config = ColoredConfig::new(new_config(alloc));
-        return print_measured(alloc, &rows, config, plan, sink);
+    if may_cut(plan, text) {
+        return print_streamed(alloc, &rows, &new_config(alloc), sink);
     }
-    print_records(alloc, &rows, plan, sink)
+    let config = ColoredConfig::new(new_config(alloc));
+    print_measured(alloc, &rows, config, plan, sink)
 }
 
 /// Prints tab-separated rows as a table in a style, under a plan.

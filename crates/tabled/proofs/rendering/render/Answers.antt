@@ -1,5 +1,7 @@
-use Rattle.std.proofs.Common.{◌∙◌, Ok, refl, subst, sym}
+use Rattle.std.proofs.Common.{◌≡◌, ◌∙◌, Ok, Result, refl, subst, sym}
 use Rattle.tabled_base.specs.Cells.{IsRectangular}
+use Rattle.tabled_base.specs.declared.error.TableError.{TableError}
+use Rattle.tabled_line.specs.Sent.{Sent}
 use Rattle.tabled_records.specs.TextRows.{text_rows}
 use Rattle.tabled_config.specs.declared.spanned.SpannedConfig.{SpannedConfig}
 use Rattle.tabled_size.specs.Sheet.{estimated}
@@ -7,8 +9,10 @@ use Rattle.tabled_table.specs.NewConfig.{new_config}
 use Rattle.tabled_size.specs.TextCells.{AreTexts}
 use Rattle.tabled.specs.Planned.{Cells, measured}
 use Rattle.tabled.specs.Rendered.{IsRendered, IsRenderedOf}
-use Rattle.tabled.proofs.PlainTexts.{rendered_plain}
-use Rattle.tabled.proofs.RenderedTables.{only_rendered, rendered_empty}
+use Rattle.tabled.specs.declared.plan.Plan.{Plan}
+use Rattle.tabled.specs.declared.plan.Plan.TheVariants.{Streamed}
+use Rattle.tabled.proofs.PlainTexts.{rendered_measured}
+use Rattle.tabled.proofs.RenderedTables.{only_rendered, rendered_empty, rendered_new}
 use Rattle.tabled.proofs.Outputs.{text_empty, text_rectangular, texts_of_text}
 use Rattle.tabled.proofs.rendering.render.Goals as goal
 
@@ -25,39 +29,41 @@ print_measured-requires-clause-texts g c = subst AreTexts (sym c.in_ok-rows.ensu
 pub print_measured-requires-clause-rectangular : goal.print_measured-requires-clause-rectangular
 print_measured-requires-clause-rectangular g c = subst IsRectangular (sym c.in_ok-rows.ensures.ok) (text_rectangular c.args.text.now)
 
-pub returns-then-streams_whole-clause-rendered : goal.returns-then-streams_whole-clause-rendered
-returns-then-streams_whole-clause-rendered g c =
-    let text = c.args.text.now in
-    let plan = c.args.plan in
-    let old = g.S.TextSink.sent c.args.sink.now in
-    let r = c.print_measured.result in
-    let new = g.S.TextSink.sent c.print_measured.new.sink in
-    rendered_plain text (c.if-streams_whole.ensures refl) (texts_of_text text c.utf8.text) plan old r new
-    (subst (λ (cells : Cells). IsRenderedOf (measured plan) (estimated cells new_config) old r new) c.in_ok-rows.ensures.ok
-    (subst (λ (d : SpannedConfig). IsRenderedOf (measured plan) (estimated c.in_ok-rows.rows d) old r new) (c.new-config.ensures ∙ c.new_config.ensures) c.print_measured.ensures))
+pub print_streamed-requires-clause-texts : goal.print_streamed-requires-clause-texts
+print_streamed-requires-clause-texts g c = subst AreTexts (sym c.in_ok-rows.ensures.ok) (texts_of_text c.args.text.now c.utf8.text)
 
-pub returns-then-streams_whole-clause-only : goal.returns-then-streams_whole-clause-only
-returns-then-streams_whole-clause-only g c =
-    let text = c.args.text.now in
-    let plan = c.args.plan in
-    let old = g.S.TextSink.sent c.args.sink.now in
-    let r = c.print_measured.result in
-    let new = g.S.TextSink.sent c.print_measured.new.sink in
-    only_rendered plan (text_rows text) old r new
-    (rendered_plain text (c.if-streams_whole.ensures refl) (texts_of_text text c.utf8.text) plan old r new
-    (subst (λ (cells : Cells). IsRenderedOf (measured plan) (estimated cells new_config) old r new) c.in_ok-rows.ensures.ok
-    (subst (λ (d : SpannedConfig). IsRenderedOf (measured plan) (estimated c.in_ok-rows.rows d) old r new) (c.new-config.ensures ∙ c.new_config.ensures) c.print_measured.ensures)))
+pub print_streamed-requires-clause-rectangular : goal.print_streamed-requires-clause-rectangular
+print_streamed-requires-clause-rectangular g c = subst IsRectangular (sym c.in_ok-rows.ensures.ok) (text_rectangular c.args.text.now)
 
-pub print_records-requires-clause-texts : goal.print_records-requires-clause-texts
-print_records-requires-clause-texts g c = subst AreTexts (sym c.in_ok-rows.ensures.ok) (texts_of_text c.args.text.now c.utf8.text)
+-- a text that may be cut
+streamed : {T : Type 0} (plan : Plan) (rows cells : Cells) (config : SpannedConfig) (old : Sent) (r : Result T TableError) (new : Sent) → plan ≡ Streamed → rows ≡ cells
+    → config ≡ new_config → IsRenderedOf Streamed (estimated rows config) old r new → IsRendered plan cells old r new
+streamed plan rows cells config old r new is e f h =
+    subst (λ (p : Plan). IsRendered p cells old r new) (sym is)
+    (rendered_new Streamed cells old r new
+    (subst (λ (d : SpannedConfig). IsRenderedOf Streamed (estimated cells d) old r new) f (subst (λ (k : Cells). IsRenderedOf Streamed (estimated k config) old r new) e h)))
 
-pub print_records-requires-clause-rectangular : goal.print_records-requires-clause-rectangular
-print_records-requires-clause-rectangular g c = subst IsRectangular (sym c.in_ok-rows.ensures.ok) (text_rectangular c.args.text.now)
+-- any other
+measured_as : {T : Type 0} (plan : Plan) (rows cells : Cells) (config : SpannedConfig) (old : Sent) (r : Result T TableError) (new : Sent) → rows ≡ cells → config ≡ new_config
+    → IsRenderedOf (measured plan) (estimated rows config) old r new → IsRenderedOf (measured plan) (estimated cells new_config) old r new
+measured_as plan rows cells config old r new e f h =
+    subst (λ (d : SpannedConfig). IsRenderedOf (measured plan) (estimated cells d) old r new) f
+    (subst (λ (k : Cells). IsRenderedOf (measured plan) (estimated k config) old r new) e h)
+
+pub returns-then-may_cut-clause-rendered : goal.returns-then-may_cut-clause-rendered
+returns-then-may_cut-clause-rendered g c =
+    streamed c.args.plan c.in_ok-rows.rows (text_rows c.args.text.now) _ _ c.print_streamed.result _ (c.if-may_cut.ensures.streamed refl) c.in_ok-rows.ensures.ok
+    c.new_config.ensures c.print_streamed.ensures
+
+pub returns-then-may_cut-clause-only : goal.returns-then-may_cut-clause-only
+returns-then-may_cut-clause-only g c =
+    only_rendered c.args.plan (text_rows c.args.text.now) _ c.print_streamed.result _ (returns-then-may_cut-clause-rendered g c)
 
 pub returns-clause-rendered : goal.returns-clause-rendered
 returns-clause-rendered g c =
-    subst (λ (cells : Cells). IsRendered c.args.plan cells (g.S.TextSink.sent c.args.sink.now) c.print_records.result (g.S.TextSink.sent c.print_records.new.sink))
-    c.in_ok-rows.ensures.ok c.print_records.ensures
+    rendered_measured c.args.text.now (texts_of_text c.args.text.now c.utf8.text) c.args.plan (c.if-may_cut.ensures.plain refl) _ c.print_measured.result _
+    (measured_as c.args.plan c.in_ok-rows.rows (text_rows c.args.text.now) c.new-config.result.config _ c.print_measured.result _ c.in_ok-rows.ensures.ok
+    (c.new-config.ensures ∙ c.new_config-2.ensures) c.print_measured.ensures)
 
 pub returns-clause-only : goal.returns-clause-only
-returns-clause-only g c = only_rendered c.args.plan c.in_ok-rows.rows _ c.print_records.result _ c.print_records.ensures
+returns-clause-only g c = only_rendered c.args.plan (text_rows c.args.text.now) _ c.print_measured.result _ (returns-clause-rendered g c)

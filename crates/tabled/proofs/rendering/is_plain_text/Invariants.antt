@@ -1,0 +1,12 @@
+use Rattle.std.proofs.Common.{◌≡◌, ◌-◌, ◌<◌, ◌≤◌, ℕ, length, get_or, true}
+use Rattle.tabled.specs.Planned.{is_plain_byte}
+use Rattle.tabled.proofs.rendering.is_plain_text.Given as goal
+
+abbrev pub invariant-runs : goal.invariant-runs
+invariant-runs l = record {
+  end : l.at ≤ length l.bytes;
+  plain : (k : ℕ) → k < l.at → is_plain_byte (get_or l.bytes k 0) ≡ true;
+}
+
+abbrev pub decreases-runs : goal.decreases-runs
+decreases-runs l = length l.bytes - l.at
