@@ -39,7 +39,9 @@ pub use heights::{CellHeightIncrease, CellHeightLimit, TableHeightIncrease, Tabl
 pub use justify::Justify;
 pub use measurement::{Height, Max, Measurement, Min, Percent, Width};
 pub use min_width::MinWidth;
+pub use resize::{CellFilter, Change, ContentSizes};
 pub use sizes::{HeightList, WidthList};
 pub use spaces::{Margin, Padding, PaddingExpand};
-pub use truncate::{SuffixLimit, Truncate, columns_beside};
+pub use truncate::{SuffixLimit, Truncate, Truncating, columns_beside};
+pub use walk::{WalkOrder, change_cells};
 pub use wrap::Wrap;
