@@ -121,15 +121,17 @@ module _ (text : List ℕ) (plain : list_all is_plain_byte text ≡ true) (texts
   })
 
   -- a stream prints the whole table
-  streamed_whole : {T : Type 0} (old : Sent) (r : Result T TableError) (new : Sent) → IsRenderedOf Buffered (new_sheet cells) old r new → IsRendered Streamed cells old r new
+  streamed_whole : {T : Type 0} (old : Sent) (r : Result T TableError) (new : Sent) → IsRenderedOf Buffered (new_sheet cells) old r new
+      → IsRendered Streamed cells old r new
   streamed_whole old r new h =
       prints_as (IsPlannedOf Buffered (new_sheet cells)) (IsBestOf Buffered (new_sheet cells)) (IsPlanned Streamed cells) (IsBestPlanned Streamed cells)
       (λ e. ⊥) (Halts Streamed) (new_sheet cells) old r new
       (λ t p. subst (IsPlanned Streamed cells) (sym p) streamed) (λ t p b. subst (IsBestPlanned Streamed cells) (sym p) best) (λ e never. absurd never) h
 
 -- what is measured is printed as planned, if only plain texts are streamed
-pub rendered_measured : {T : Type 0} (text : List ℕ) → AreTexts (text_rows text) → (plan : Plan) → (plan ≡ Streamed → list_all is_plain_byte text ≡ true)
-    → (old : Sent) (r : Result T TableError) (new : Sent) → IsRenderedOf (measured plan) (new_sheet (text_rows text)) old r new → IsRendered plan (text_rows text) old r new
+pub rendered_measured : {T : Type 0} (text : List ℕ) → AreTexts (text_rows text) → (plan : Plan)
+    → (plan ≡ Streamed → list_all is_plain_byte text ≡ true) → (old : Sent) (r : Result T TableError) (new : Sent)
+    → IsRenderedOf (measured plan) (new_sheet (text_rows text)) old r new → IsRendered plan (text_rows text) old r new
 rendered_measured text texts Buffered plain old r new h = rendered_new Buffered (text_rows text) old r new h
 rendered_measured text texts Streamed plain old r new h = streamed_whole text (plain refl) texts old r new h
 rendered_measured text texts (Wrapped n words order) plain old r new h = rendered_new (Wrapped n words order) (text_rows text) old r new h

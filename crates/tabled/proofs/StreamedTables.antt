@@ -1,20 +1,22 @@
 -- Tables whose cells are cut to the content widths of their columns.
-use Rattle.std.proofs.Common.{◌≡◌, ◌≢◌, ℕ, ◌+◌, ◌-◌, ◌<◌, ◌≤◌, ◌==◌, ◌&&◌, Bool, true, false, List, [], length, All, Bor, Option, Some, None, Result, Ok, Err, OnOk, option_map, unwrap_or, ⊎_elim, refl, sym, ap, ◌∙◌, subst, arith, get_or}
+use Rattle.std.proofs.Common.{◌≡◌, ℕ, ◌+◌, ◌-◌, ◌≤◌, true, false, List, [], length, All, Bor, Option, Some, None, option_map, unwrap_or, ⊎_elim, refl, sym, ap, ◌∙◌, arith, get_or}
 use Rattle.std.specs.Str.{IsUtf8}
-use Rattle.std.proofs.Math.ListN.{set}
-use Rattle.std.proofs.lemmas.Bool.{cases_Bool, eq-eqb, eqb-true}
-use Rattle.std.proofs.lemmas.List.{ext_get_or, get_or-set_other, get_or-set_same, length-set}
+use Rattle.std.proofs.lemmas.Bool.{cases_Bool}
+use Rattle.std.proofs.lemmas.List.{ext_get_or}
 use Rattle.std.proofs.lemmas.List.Elements.{All-from_get_or}
-use Rattle.tabled_base.specs.Cells.{IsInside, IsRectangular, cell_at, columns, with_cell}
+use Rattle.tabled_base.specs.Cells.{IsInside, IsRectangular, cell_at, columns}
 use Rattle.tabled_config.specs.declared.spanned.SpannedConfig.{SpannedConfig}
 use Rattle.tabled_grid.proofs.EstimatedSizes.{holds_estimated, passes_too_high, passes_too_wide, sized_estimated}
 use Rattle.tabled_grid.specs.Printed.{IsOutOfRange}
 use Rattle.tabled_priority.specs.Permitted.{at}
-use Rattle.tabled_set.specs.CellChanges.{AreChanged}
+use Rattle.tabled_set.specs.CellChanges.{AreChanged, leaves, truncating}
 use Rattle.tabled_set.specs.Minimums.{side_padding}
-use Rattle.tabled_set.proofs.ChangingCells.{IsInside-before, at-chosen, covers-cell, match-false, match-true}
-use Rattle.tabled_set.specs.Common.{Cell, covers}
+use Rattle.tabled_set.specs.declared.resize.CellFilter.TheVariants.{Every}
+use Rattle.tabled_set.specs.declared.truncate.SuffixLimit.TheVariants.{Cut}
+use Rattle.tabled_set.proofs.ChangingCells.{AreChanged-as, IsInside-before, at-chosen}
+use Rattle.tabled_set.specs.Common.{Global, covers}
 use Rattle.tabled_set.proofs.ExactTotals.{changed_empty}
+use Rattle.tabled_set.proofs.TruncatedTexts.{IsCut-truncated}
 use Rattle.tabled_size.specs.Estimates.{estimated_heights, estimated_widths}
 use Rattle.tabled_size.proofs.Totalling.{heights_length, widths_length}
 use Rattle.tabled_size.specs.Effective.{effective, effective_sizes}
@@ -38,50 +40,14 @@ use Rattle.tabled.proofs.RenderedTables.{changed_columns, changed_rectangular, n
 
 -- ---- one cell
 
-rest_false : (x y : Bool) → x ≡ true → (x && y) ≡ false → y ≡ false
-rest_false true y e h = h
-rest_false false y e h = let bad : false ≡ true = e in cc
-
-pub on_ok : {T E P Q : Type 0} (r : Result T E) → (P → Q) → OnOk r P → OnOk r Q
-on_ok (Ok x) f p = f p
-on_ok (Err e) f p = tt
-
-other : (i j : ℕ) → (i == j) ≡ false → j ≢ i
-other i j apart same = let both : (i == j) ≡ true = eq-eqb i j (sym same) in let bad : true ≡ false = sym both ∙ apart in cc
-
--- a cell that is set changes, and no other
-pub set-changed : (cells : Cells) (row column : ℕ) (text : List ℕ) (change : ℕ → ℕ → List ℕ → List ℕ → Type 0) → IsInside cells row column → IsRectangular cells
-    → change row column (cell_at cells row column) text → AreChanged (covers (Cell row column)) change cells (with_cell cells row column text)
-set-changed cells row column text change inside rectangular h =
-    let line = get_or cells row [] in
-    let new = set line column text in
-    let row_in = inside.row_in in
-    let long : column < length line = let l = rectangular row [] row_in in let k = inside.column_in in omega arith in
-    record {
-      rows = length-set cells row new;
-      row_lengths = λ r. ⊎_elim
-          (λ yes. subst (λ k. length (get_or (set cells row new) k []) ≡ length (get_or cells k [])) (eqb-true row r yes)
-          (ap length (get_or-set_same cells row new [] row_in) ∙ length-set line column text))
-          (λ no. ap length (get_or-set_other cells row r new [] (other row r no)))
-          (cases_Bool (row == r));
-      cells = λ r c _. ⊎_elim
-          (λ yes.
-          let here = covers-cell row column r c yes in
-          let read : cell_at (set cells row new) row column ≡ text =
-          ap (λ l. get_or l column []) (get_or-set_same cells row new [] row_in) ∙ get_or-set_same line column text [] long in
-          match-true (change r c (cell_at cells r c) (cell_at (set cells row new) r c)) (cell_at (set cells row new) r c ≡ cell_at cells r c) yes
-          (subst (λ i. change i c (cell_at cells i c) (cell_at (set cells row new) i c)) (sym here.0)
-          (subst (λ j. change row j (cell_at cells row j) (cell_at (set cells row new) row j)) (sym here.1)
-          (subst (change row column (cell_at cells row column)) (sym read) h))))
-          (λ no. match-false (change r c (cell_at cells r c) (cell_at (set cells row new) r c)) (cell_at (set cells row new) r c ≡ cell_at cells r c) no
-          (⊎_elim
-          (λ same. subst (λ i. cell_at (set cells row new) i c ≡ cell_at cells i c) (eqb-true row r same)
-          (ap (λ l. get_or l c []) (get_or-set_same cells row new [] row_in)
-          ∙ get_or-set_other line column c text [] (other column c (rest_false (row == r) (column == c) same no))))
-          (λ apart. ap (λ l. get_or l c []) (get_or-set_other cells row r new [] (other row r apart)))
-          (cases_Bool (row == r))))
-          (cases_Bool (covers (Cell row column) r c));
-    }
+-- a text that is truncated without a suffix is cut
+pub cut-changed : (widths : List ℕ) (config : SpannedConfig) {old new : Cells}
+    → AreChanged (covers Global) (leaves Every (truncating [] Cut false)
+    (λ row column. Some (at widths column - side_padding config row column))) old new
+    → AreChanged (λ row column. true) (cut_to widths config) old new
+cut-changed widths config {old} {new} h =
+    AreChanged-as h (λ row column inside yes t.
+    IsCut-truncated (at widths column - side_padding config row column) Cut (cell_at old row column) (cell_at new row column) t)
 
 -- ---- all cells
 

@@ -9,8 +9,7 @@
 //!
 //! Each module below has an example, which the programs `docs_tour` and `docs_gallery` run.
 //!
-//! - `rendering.rt`: `render`; `plan.rt`: its plans; `order_priority.rt`: the order of shrinking;
-//!   `streaming.rt`: the cells of a streamed table.
+//! - `rendering.rt`: `render`; `plan.rt`: its plans; `order_priority.rt`: the order of shrinking.
 //! - `program.rt`: `run`; `arguments.rt`, `fault.rt`: its arguments and failures.
 //! - `block_sink.rt`, `block_buffer.rt`: output in blocks.
 #![tactic(auto)]
@@ -23,7 +22,6 @@ mod order_priority;
 mod plan;
 mod program;
 mod rendering;
-mod streaming;
 
 pub use plan::{Order, Plan};
 pub use program::run;

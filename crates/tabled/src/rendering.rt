@@ -1,11 +1,13 @@
 //! `render`: prints a text as a table, and narrows it by wrapping or truncating its cells.
-ghost use Rattle.std.specs.Prelude.{◌≡◌, ◌⊎◌, IfErr, IfOk, false, true};
+ghost use Rattle.std.specs.Prelude.{◌≡◌, ◌⊎◌, ◌-◌, IfErr, IfOk, Some, false, true};
 ghost use Rattle.std.specs.List.{list_all};
 ghost use Rattle.tabled_base.specs.Cells.{IsRectangular};
 ghost use Rattle.tabled_base.specs.declared.error.TableError.TheVariants.{Memory, Range, Writer};
 ghost use Rattle.tabled_config.specs.Options.{with_style};
 ghost use Rattle.tabled_grid.specs.Printed.{IsOutOfRange};
 ghost use Rattle.tabled_records.specs.TextRows.{text_rows};
+ghost use Rattle.tabled_set.specs.Common.{at};
+ghost use Rattle.tabled_set.specs.Minimums.{side_padding};
 ghost use Rattle.tabled_size.specs.Effective.{effective};
 ghost use Rattle.tabled_size.specs.Sheet.{estimated, is_empty};
 ghost use Rattle.tabled_size.specs.TextCells.{AreTexts};
@@ -16,13 +18,15 @@ ghost use Rattle.tabled.specs.Rendered.{IsMade, IsRendered, IsRenderedOf};
 
 use crate::order_priority::OrderPriority;
 use crate::plan::Plan;
-use crate::streaming::cut_cells;
 use std::alloc::Global;
-use tabled_base::{PeekableRecords, RecordsMut, TableError, TableOption};
+use tabled_base::{Entity, PeekableRecords, Position, RecordsMut, TableError, TableOption};
 use tabled_config::{ColoredConfig, SpannedConfig, Style};
 use tabled_grid::{TextSink, print_estimated, print_standing};
 use tabled_records::{ChangedRecords, text_rows};
-use tabled_set::{Truncate, Wrap};
+use tabled_set::{
+    CellFilter, Change, ContentSizes, SuffixLimit, Truncate, Truncating, WalkOrder, Wrap,
+    change_cells,
+};
 use tabled_size::{CompleteDimension, Estimate};
 use tabled_table::new_config;
 use tabled_text::run_end;
@@ -104,6 +108,26 @@ fn print_measured<R: PeekableRecords, S: TextSink>(
     }
 }
 
+/// The content widths of a streamed table's cells: the widths of their columns less their padding.
+#[derive(Drop)]
+struct StreamedWidths<'a> {
+    config: &'a SpannedConfig,
+    widths: &'a [usize],
+}
+
+impl<'a> ContentSizes for StreamedWidths<'a> {
+    ghost content_size_at = { λ s row column.
+        Some (at s.widths.now column - side_padding s.config.now row column) };
+
+    #[inline(always)]
+    fn content_size(&self, place: Position) -> Option<usize> {
+        let padding = self.config.get_padding(place);
+        let width = self.widths.get(place.column).copied().unwrap_or(0);
+        let inner = width.saturating_sub(padding.left.size);
+        Some(inner.saturating_sub(padding.right.size))
+    }
+}
+
 /// Prints the table that an `IterTable` streams that reads all rows ahead: each cell is cut to its
 /// column.
 fn print_streamed<R: PeekableRecords, S: TextSink>(
@@ -120,7 +144,18 @@ fn print_streamed<R: PeekableRecords, S: TextSink>(
     let mut sizes = CompleteDimension::new(alloc);
     sizes.estimate(rows, config)?;
     let mut cells = ChangedRecords::new(alloc, rows)?;
-    cut_cells(&mut cells, config, sizes.get_widths().unwrap_or(&[]))?;
+    let widths = sizes.get_widths().unwrap_or(&[]);
+    let transform = Truncating {
+        suffix: "",
+        limit: SuffixLimit::Cut,
+        multiline: false,
+    };
+    let change = Change {
+        transform: &transform,
+        cell_filter: CellFilter::Every,
+        content_sizes: &StreamedWidths { config, widths },
+    };
+    change_cells(&change, &mut cells, WalkOrder::ByRow, Entity::Global)?;
     print_standing(sink, &cells, config, &sizes)
 }
 
@@ -140,8 +175,7 @@ fn is_plain_text(text: &str) -> bool
     true
 }
 
-/// Whether a plan may cut cells of a text that fit in their columns: it streams, and the text isn't
-/// plain.
+/// Whether a plan streams a text that isn't plain, so that cells may be cut.
 fn may_cut(plan: Plan, text: &str) -> bool
     ensures streamed { result ≡ true → plan ≡ Streamed }
     ensures plain { result ≡ false → plan ≡ Streamed

@@ -35,25 +35,23 @@ print_streamed-requires-clause-texts g c = subst AreTexts (sym c.in_ok-rows.ensu
 pub print_streamed-requires-clause-rectangular : goal.print_streamed-requires-clause-rectangular
 print_streamed-requires-clause-rectangular g c = subst IsRectangular (sym c.in_ok-rows.ensures.ok) (text_rectangular c.args.text.now)
 
--- a text that may be cut
-streamed : {T : Type 0} (plan : Plan) (rows cells : Cells) (config : SpannedConfig) (old : Sent) (r : Result T TableError) (new : Sent) → plan ≡ Streamed → rows ≡ cells
-    → config ≡ new_config → IsRenderedOf Streamed (estimated rows config) old r new → IsRendered plan cells old r new
-streamed plan rows cells config old r new is e f h =
-    subst (λ (p : Plan). IsRendered p cells old r new) (sym is)
-    (rendered_new Streamed cells old r new
-    (subst (λ (d : SpannedConfig). IsRenderedOf Streamed (estimated cells d) old r new) f (subst (λ (k : Cells). IsRenderedOf Streamed (estimated k config) old r new) e h)))
-
--- any other
-measured_as : {T : Type 0} (plan : Plan) (rows cells : Cells) (config : SpannedConfig) (old : Sent) (r : Result T TableError) (new : Sent) → rows ≡ cells → config ≡ new_config
-    → IsRenderedOf (measured plan) (estimated rows config) old r new → IsRenderedOf (measured plan) (estimated cells new_config) old r new
-measured_as plan rows cells config old r new e f h =
-    subst (λ (d : SpannedConfig). IsRenderedOf (measured plan) (estimated cells d) old r new) f
-    (subst (λ (k : Cells). IsRenderedOf (measured plan) (estimated k config) old r new) e h)
+-- what is printed of equal cells, with equal settings
+printed_as : {T : Type 0} (plan : Plan) (rows cells : Cells) (config : SpannedConfig) (old : Sent) (r : Result T TableError) (new : Sent)
+    → rows ≡ cells → config ≡ new_config → IsRenderedOf plan (estimated rows config) old r new
+    → IsRenderedOf plan (estimated cells new_config) old r new
+printed_as plan rows cells config old r new e f h =
+    subst (λ (d : SpannedConfig). IsRenderedOf plan (estimated cells d) old r new) f
+    (subst (λ (k : Cells). IsRenderedOf plan (estimated k config) old r new) e h)
 
 pub returns-then-may_cut-clause-rendered : goal.returns-then-may_cut-clause-rendered
 returns-then-may_cut-clause-rendered g c =
-    streamed c.args.plan c.in_ok-rows.rows (text_rows c.args.text.now) _ _ c.print_streamed.result _ (c.if-may_cut.ensures.streamed refl) c.in_ok-rows.ensures.ok
-    c.new_config.ensures c.print_streamed.ensures
+    let cells = text_rows c.args.text.now in
+    let r = c.print_streamed.result in
+    let old = g.S.TextSink.sent c.args.sink.now in
+    let new = g.S.TextSink.sent c.print_streamed.new.sink in
+    subst (λ (p : Plan). IsRendered p cells old r new) (sym (c.if-may_cut.ensures.streamed refl))
+    (rendered_new Streamed cells old r new
+    (printed_as Streamed c.in_ok-rows.rows cells _ old r new c.in_ok-rows.ensures.ok c.new_config.ensures c.print_streamed.ensures))
 
 pub returns-then-may_cut-clause-only : goal.returns-then-may_cut-clause-only
 returns-then-may_cut-clause-only g c =
@@ -61,9 +59,12 @@ returns-then-may_cut-clause-only g c =
 
 pub returns-clause-rendered : goal.returns-clause-rendered
 returns-clause-rendered g c =
-    rendered_measured c.args.text.now (texts_of_text c.args.text.now c.utf8.text) c.args.plan (c.if-may_cut.ensures.plain refl) _ c.print_measured.result _
-    (measured_as c.args.plan c.in_ok-rows.rows (text_rows c.args.text.now) c.new-config.result.config _ c.print_measured.result _ c.in_ok-rows.ensures.ok
+    let text = c.args.text.now in
+    let r = c.print_measured.result in
+    rendered_measured text (texts_of_text text c.utf8.text) c.args.plan (c.if-may_cut.ensures.plain refl) _ r _
+    (printed_as (measured c.args.plan) c.in_ok-rows.rows (text_rows text) c.new-config.result.config _ r _ c.in_ok-rows.ensures.ok
     (c.new-config.ensures ∙ c.new_config-2.ensures) c.print_measured.ensures)
 
 pub returns-clause-only : goal.returns-clause-only
-returns-clause-only g c = only_rendered c.args.plan (text_rows c.args.text.now) _ c.print_measured.result _ (returns-clause-rendered g c)
+returns-clause-only g c =
+    only_rendered c.args.plan (text_rows c.args.text.now) _ c.print_measured.result _ (returns-clause-rendered g c)
