@@ -127,7 +127,8 @@ rows-same f x e n (row ∷ rows) =
     ∙ ap (λ l. row ∷ l) (rows-same f x e (n - length row) rows)
 
 -- a cell of the changed rows is one of the old
-inside-old : {A : Type 0} (f : A → List ℕ → List ℕ) (xs : List A) (rows : List (List (List ℕ))) (i j : ℕ) → IsInside (changed_rows f xs rows) i j → IsInside rows i j
+inside-old : {A : Type 0} (f : A → List ℕ → List ℕ) (xs : List A) (rows : List (List (List ℕ))) (i j : ℕ)
+    → IsInside (changed_rows f xs rows) i j → IsInside rows i j
 inside-old f xs rows i j h =
     let row_in = h.row_in in
     let column_in = h.column_in in
@@ -150,5 +151,6 @@ rows-place xs rows i j index at q long h =
       within = let below = place-bounds xs rows i j long h in omega (arith, at, below);
       read = λ cell is. rows-cell text_of xs rows i j cell q old.row_in old.column_in long
           ∙ ap (λ y. text_of y (cell_at rows i j)) (ap (λ p. get_or xs p cell) (sym at) ∙ sym is);
-      set = λ cell. ap (λ p. changed_rows text_of (set xs p cell) rows) at ∙ rows-set text_of xs rows i j cell q old.row_in old.column_in long;
+      set = λ cell. ap (λ p. changed_rows text_of (set xs p cell) rows) at
+          ∙ rows-set text_of xs rows i j cell q old.row_in old.column_in long;
     }

@@ -1,15 +1,16 @@
 -- What holds while a text is cut into cells and rows.
-use Rattle.std.proofs.Common.{◌≡◌, ◌==◌, ◌&&◌, true, ℕ, zero, suc, ◌+◌, ◌-◌, ◌<◌, ◌≤◌, false, List, [], ◌∷◌, ◌++◌, length, take, drop, get_or, append_assoc, length-append, refl, sym, ap, subst, ◌∙◌, arith}
+use Rattle.std.proofs.Common.{◌≡◌, ◌==◌, true, ℕ, ◌+◌, ◌-◌, ◌<◌, ◌≤◌, false, List, [], ◌∷◌, ◌++◌, length, take, drop, get_or, append_assoc, length-append, refl, sym, ap, subst, ◌∙◌, ⊎_elim, arith}
 use Rattle.std.specs.Int.{is_in_range}
-use Rattle.std.specs.List.{list_all, slice_range}
+use Rattle.std.specs.List.{All, slice_range}
 use Rattle.std.specs.Str.{IsCharBoundary, IsUtf8}
 use Rattle.std.proofs.Math.Seq.{take-length}
 use Rattle.std.proofs.lemmas.Bool.Decides.{nat_tests}
-use Rattle.std.proofs.lemmas.List.{drop-append-le, drop_all, drop_more, length-drop, map-append, get_or_past}
+use Rattle.std.proofs.lemmas.Bool.{cases_lt}
+use Rattle.std.proofs.lemmas.List.{drop-append-le, drop_all, drop_more, get_or-drop, get_or-take, get_or_past, length-drop, length-take, map-append}
 use Rattle.std.proofs.lemmas.Str.{IsCharBoundary-after_ascii, IsCharBoundary-start}
-use Rattle.std.proofs.lemmas.List.Edits.{between_more}
-use Rattle.std.proofs.lemmas.List.Folds.{drop_split, list_all-append}
-use Rattle.std.proofs.lemmas.List.Elements.{All-append, All-cons, All-nil}
+use Rattle.std.proofs.lemmas.List.Folds.{drop_split}
+use Rattle.std.proofs.lemmas.List.Elements.{All-from_get_or, All-nil}
+use Rattle.std.proofs.lemmas.List.Sums.{list_all-from_AllPass}
 use Rattle.tabled_records.specs.Joined.{AreKept, behind, texts_from}
 use Rattle.tabled_records.specs.JoinedRows.{AreRanges, part, parts}
 use Rattle.tabled_records.specs.LentRows.{HasNo, IsLent, IsPrintable}
@@ -29,26 +30,24 @@ pub record IsCut (text : List ℕ) (cells ranges : List (ℕ × ℕ)) (start fir
 -- no cell ends between two places
 pub record IsWithin (text : List ℕ) (start at : ℕ) : Type 0 where
   pub ordered : start ≤ at
-  pub tabs : HasNo 9 (slice_range text start at)
-  pub feeds : HasNo 10 (slice_range text start at)
+  pub tabs : (k : ℕ) → start ≤ k → k < at → (get_or text k 0 == 9) ≡ false
+  pub feeds : (k : ℕ) → start ≤ k → k < at → (get_or text k 0 == 10) ≡ false
 
-has_no-more : (byte : ℕ) (text : List ℕ) (start at : ℕ) → start ≤ at → at < length text → HasNo byte (slice_range text start at)
-    → (get_or text at 0 == byte) ≡ false → HasNo byte (slice_range text start (at + 1))
-has_no-more byte text start at o l h own =
-    subst (HasNo byte) (sym (between_more text start at 0 o l))
-    (All-append (λ b. (b == byte) ≡ false) (slice_range text start at) (get_or text at 0 ∷ []) h
-    (All-cons (λ b. (b == byte) ≡ false) (get_or text at 0) [] own (All-nil (λ b. (b == byte) ≡ false))))
+-- what holds of each byte between two places
+all-range : (P : ℕ → Type 0) (text : List ℕ) (start at : ℕ) → at ≤ length text → ((k : ℕ) → start ≤ k → k < at → P (get_or text k 0))
+    → All P (slice_range text start at)
+all-range P text start at l each =
+    All-from_get_or P (slice_range text start at) 0
+    (λ i k.
+    let rest = drop start text in
+    let near : i < at - start = omega (arith, k, length-take (at - start) rest) in
+    subst P (sym (get_or-take (at - start) rest i 0 near ∙ get_or-drop start text i 0)) (each (start + i) (omega arith) (omega (arith, near))))
 
--- a byte that ends no cell
-pub within-more : (text : List ℕ) (start at : ℕ) → at < length text → IsWithin text start at
-    → (get_or text at 0 ≡ 9 → ⊥) → (get_or text at 0 ≡ 10 → ⊥) → IsWithin text start (at + 1)
-within-more text start at l h tab feed =
-    let o = h.ordered in
-    record {
-      ordered = omega arith;
-      tabs = has_no-more 9 text start at h.ordered l h.tabs (grind (arith, nat_tests, tab));
-      feeds = has_no-more 10 text start at h.ordered l h.feeds (grind (arith, nat_tests, feed));
-    }
+no-tab : (text : List ℕ) (start at : ℕ) → at ≤ length text → IsWithin text start at → HasNo 9 (slice_range text start at)
+no-tab text start at l h = all-range (λ b. (b == 9) ≡ false) text start at l h.tabs
+
+pub no-feed : (text : List ℕ) (start at : ℕ) → at ≤ length text → IsWithin text start at → HasNo 10 (slice_range text start at)
+no-feed text start at l h = all-range (λ b. (b == 10) ≡ false) text start at l h.feeds
 
 -- what is left, where a cell ends at a byte
 left-at : (text : List ℕ) (start at : ℕ) → start ≤ at → at < length text
@@ -92,7 +91,7 @@ cut-tab text cells ranges start first at columns u was within l tab lent =
           ∙ ap (λ cs. parts texts ranges ++ prepended cs (rows_of rest)) (drop-next texts last first (omega (arith, size)))
           ∙ ap (λ rs. parts texts ranges ++ rs)
           (prepended-more (drop first texts) (last ∷ []) (rows_of rest)
-          ∙ ap (prepended (drop first texts)) (sym (rows-tab last rest within.tabs within.feeds) ∙ ap rows_of (sym left)))
+          ∙ ap (prepended (drop first texts)) (sym (rows-tab last rest (no-tab text start at (omega arith) within) (no-feed text start at (omega arith) within)) ∙ ap rows_of (sym left)))
           ∙ was.rows);
       kept = lent-next text cells start cell was.kept was.starts lent;
       starts = sym (behind-next 1 0 cells cell);
@@ -148,7 +147,7 @@ cut-feed text cells ranges start first at columns count u was within l feed lent
           ∙ ap (λ rs. rs ++ rows_of rest) (row-next text cells ranges start first at columns count was c)
           ∙ append_assoc (parts texts ranges) ((drop first texts ++ last ∷ []) ∷ []) (rows_of rest)
           ∙ ap (λ rs. parts texts ranges ++ prepended (drop first texts) rs)
-          (sym (rows-feed last rest within.tabs within.feeds) ∙ ap rows_of (sym left))
+          (sym (rows-feed last rest (no-tab text start at (omega arith) within) (no-feed text start at (omega arith) within)) ∙ ap rows_of (sym left))
           ∙ was.rows;
       kept = lent-next text cells start cell was.kept was.starts lent;
       starts = sym (behind-next 1 0 cells cell);
@@ -167,7 +166,7 @@ rows-cut text cells ranges start first columns count was within c =
     let left : last ≡ drop start text =
     ap (λ n. take n (drop start text)) (sym (length-drop start text)) ∙ take-length (drop start text) in
     row-next text cells ranges start first (length text) columns count was c
-    ∙ ap (λ rs. parts texts ranges ++ prepended (drop first texts) rs) (sym (rows-end last within.tabs within.feeds) ∙ ap rows_of left)
+    ∙ ap (λ rs. parts texts ranges ++ prepended (drop first texts) rs) (sym (rows-end last (no-tab text start (length text) (omega arith) within) (no-feed text start (length text) (omega arith) within)) ∙ ap rows_of left)
     ∙ was.rows
 
 -- before the first byte
@@ -182,14 +181,7 @@ cut-start text u = record {
 }
 
 pub within-none : (text : List ℕ) (at : ℕ) → IsWithin text at at
-within-none text at =
-    let zero : at - at ≡ 0 = omega arith in
-    let none : slice_range text at at ≡ [] = ap (λ n. take n (drop at text)) zero in
-    record {
-      ordered = omega arith;
-      tabs = subst (HasNo 9) (sym none) (All-nil (λ b. (b == 9) ≡ false));
-      feeds = subst (HasNo 10) (sym none) (All-nil (λ b. (b == 10) ≡ false));
-    }
+within-none text at = record { ordered = omega arith; tabs = λ k a b. absurd (omega arith); feeds = λ k a b. absurd (omega arith) }
 
 -- behind the last byte
 pub within-end : (text bytes : List ℕ) (start at : ℕ) → at ≤ length bytes → length bytes ≤ at → IsWithin text start at
@@ -197,48 +189,31 @@ pub within-end : (text bytes : List ℕ) (start at : ℕ) → at ≤ length byte
 within-end text bytes start at le end h = subst (IsWithin text start) (omega (arith, le, end)) h
 
 -- a run of bytes from the blank on ends no cell
-within-steps : (n : ℕ) (text : List ℕ) (start from high : ℕ) → from + n ≤ length text
-    → ((k : ℕ) → from ≤ k → k < from + n → is_in_range 0x20 high (get_or text k 0) ≡ true) → IsWithin text start from → IsWithin text start (from + n)
-within-steps zero text start from high l run h = subst (IsWithin text start) (omega arith) h
-within-steps (suc n) text start from high l run h =
-    let own : is_in_range 0x20 high (get_or text from 0) ≡ true = run from (omega arith) (omega arith) in
-    let next : IsWithin text start (from + 1) = within-more text start from (omega arith) h (λ e. grind (arith, nat_tests, own, e)) (λ e. grind (arith, nat_tests, own, e)) in
-    let same : from + 1 + n ≡ from + suc n = omega arith in
-    subst (IsWithin text start) same (within-steps n text start (from + 1) high (omega arith) (λ k a b. run k (omega arith) (omega arith)) next)
-
-pub within-run : (text : List ℕ) (start from end high : ℕ) → from ≤ end → end ≤ length text
+pub within-run : (text : List ℕ) (start from end high : ℕ) → from ≤ end
     → ((k : ℕ) → from ≤ k → k < end → is_in_range 0x20 high (get_or text k 0) ≡ true) → IsWithin text start from → IsWithin text start end
-within-run text start from end high o l run h =
-    let same : from + (end - from) ≡ end = omega arith in
-    subst (IsWithin text start) same (within-steps (end - from) text start from high (omega arith) (λ k a b. run k a (omega arith)) h)
+within-run text start from end high o run h =
+    let first = h.ordered in
+    record {
+      ordered = omega arith;
+      tabs = λ k a b. ⊎_elim (λ less. h.tabs k a less) (λ more. let own = run k more b in grind (arith, nat_tests)) (cases_lt k from);
+      feeds = λ k a b. ⊎_elim (λ less. h.feeds k a less) (λ more. let own = run k more b in grind (arith, nat_tests)) (cases_lt k from);
+    }
 
-pub printable-more : (text : List ℕ) (start at : ℕ) → start ≤ at → at < length text → IsPrintable (slice_range text start at)
-    → is_in_range 0x20 0x7E (get_or text at 0) ≡ true → IsPrintable (slice_range text start (at + 1))
-printable-more text start at o l h own =
-    let one : list_all (is_in_range 0x20 0x7E) (get_or text at 0 ∷ []) ≡ true = ap (λ b. b && true) own in
-    ap (list_all (is_in_range 0x20 0x7E)) (between_more text start at 0 o l)
-    ∙ list_all-append (is_in_range 0x20 0x7E) (slice_range text start at) (get_or text at 0 ∷ [])
-    ∙ ap (λ b. b && list_all (is_in_range 0x20 0x7E) (get_or text at 0 ∷ [])) h ∙ one
+-- a byte that ends no cell
+pub within-more : (text : List ℕ) (start at : ℕ) → IsWithin text start at → (get_or text at 0 ≡ 9 → ⊥) → (get_or text at 0 ≡ 10 → ⊥)
+    → IsWithin text start (at + 1)
+within-more text start at h tab feed =
+    let first = h.ordered in
+    let own : (k byte : ℕ) → at ≤ k → k < at + 1 → (get_or text at 0 ≡ byte → ⊥) → (get_or text k 0 == byte) ≡ false
+    = λ k byte a b no. let same : k ≡ at = omega arith in subst (λ i. (get_or text i 0 == byte) ≡ false) (sym same) (grind (arith, nat_tests, no)) in
+    record {
+      ordered = omega arith;
+      tabs = λ k a b. ⊎_elim (λ less. h.tabs k a less) (λ more. own k 9 more b tab) (cases_lt k at);
+      feeds = λ k a b. ⊎_elim (λ less. h.feeds k a less) (λ more. own k 10 more b feed) (cases_lt k at);
+    }
 
-pub printable-none : (text : List ℕ) (at : ℕ) → IsPrintable (slice_range text at at)
-printable-none text at =
-    let zero : at - at ≡ 0 = omega arith in
-    ap (λ n. list_all (is_in_range 0x20 0x7E) (take n (drop at text))) zero
-
--- a run of printable bytes stays printable
-printable-steps : (n : ℕ) (text : List ℕ) (start from : ℕ) → start ≤ from → from + n ≤ length text
-    → ((k : ℕ) → from ≤ k → k < from + n → is_in_range 0x20 0x7E (get_or text k 0) ≡ true) → IsPrintable (slice_range text start from)
-    → IsPrintable (slice_range text start (from + n))
-printable-steps zero text start from o l run h = let same : from ≡ from + 0 = omega arith in subst (λ i. IsPrintable (slice_range text start i)) same h
-printable-steps (suc n) text start from o l run h =
-    let next = printable-more text start from o (omega arith) h (run from (omega arith) (omega arith)) in
-    let same : from + 1 + n ≡ from + suc n = omega arith in
-    subst (λ i. IsPrintable (slice_range text start i)) same
-    (printable-steps n text start (from + 1) (omega arith) (omega arith) (λ k a b. run k (omega arith) (omega arith)) next)
-
-pub printable-run : (text : List ℕ) (start end : ℕ) → start ≤ end → end ≤ length text
+-- a run of printable bytes is printable
+pub printable-run : (text : List ℕ) (start end : ℕ) → end ≤ length text
     → ((k : ℕ) → start ≤ k → k < end → is_in_range 0x20 0x7E (get_or text k 0) ≡ true) → IsPrintable (slice_range text start end)
-printable-run text start end o l run =
-    let same : start + (end - start) ≡ end = omega arith in
-    subst (λ i. IsPrintable (slice_range text start i)) same
-    (printable-steps (end - start) text start start (omega arith) (omega arith) (λ k a b. run k a (omega arith)) (printable-none text start))
+printable-run text start end l run =
+    list_all-from_AllPass (is_in_range 0x20 0x7E) (slice_range text start end) (all-range (λ b. is_in_range 0x20 0x7E b ≡ true) text start end l run)

@@ -180,7 +180,7 @@ impl RowRanges {
             (λ cell. IsCell texts (cell_at (rows_in texts self.now) at.row at.column)
             cell.0.now cell.1 cell.2) }
     {
-        let (start, count) = self.ranges.at(at.row);
+        let (start, count) = self.at(at.row);
         if at.column >= count {
             return None;
         }

@@ -4,7 +4,7 @@ use Rattle.tabled_base.specs.Cells.{lengthened_rows}
 use Rattle.tabled_text.specs.Measure.{lines_of}
 use Rattle.tabled_records.specs.Joined.{texts_from}
 use Rattle.tabled_records.specs.JoinedRows.{AreRanges, rows_in}
-use Rattle.tabled_records.proofs.Cutting.{IsWithin, cut-feed, cut-tab, cut-start, lent-next, placed-next, printable-run, rows-cut, within-end, within-more, within-none, within-run}
+use Rattle.tabled_records.proofs.Cutting.{IsWithin, cut-feed, cut-tab, cut-start, lent-next, no-feed, placed-next, printable-run, rows-cut, within-end, within-more, within-none, within-run}
 use Rattle.tabled_records.proofs.Rows.{rows-lines}
 use Rattle.tabled_records.proofs.lent_rows.split_rows.Goals as goal
 
@@ -24,8 +24,8 @@ bytes-init c =
     (record {
       inside = ends;
       cut = cut-start text c.utf8.text;
-      within = within-run text 0 0 at 0x7E (omega arith) ends run (within-none text 0);
-      printable = λ _. printable-run text 0 at (omega arith) ends run;
+      within = within-run text 0 0 at 0x7E (omega arith) run (within-none text 0);
+      printable = λ _. printable-run text 0 at ends run;
     })
 
 pub bytes-preserved-then-byte-ne10 : goal.bytes-preserved-then-byte-ne10
@@ -37,12 +37,12 @@ bytes-preserved-then-byte-ne10 c =
     let inside : c.bytes.at < length text = subst (λ t. c.bytes.at < length t) same c.bytes-test.true in
     let ends : at ≤ length text = omega (arith, c.run_end-at-then-byte-ne10.ensures.end, ap length same) in
     let run = run-of c.as_bytes-bytes.result.now text (c.bytes.at + 1) at 0xFF same c.run_end-at-then-byte-ne10.ensures.passed in
-    let first = within-more text c.bytes.start c.bytes.at inside was.within
+    let first = within-more text c.bytes.start c.bytes.at was.within
     (subst (λ t. get_or t c.bytes.at 0 ≡ 9 → ⊥) same c.if-byte-ne9.true) (subst (λ t. get_or t c.bytes.at 0 ≡ 10 → ⊥) same c.if-byte-ne10.true) in
     record {
       inside = ends;
       cut = was.cut;
-      within = within-run text c.bytes.start (c.bytes.at + 1) at 0xFF c.run_end-at-then-byte-ne10.ensures.from ends run first;
+      within = within-run text c.bytes.start (c.bytes.at + 1) at 0xFF c.run_end-at-then-byte-ne10.ensures.from run first;
       printable = λ e. absurd (let f : false ≡ true = e in cc);
     }
 
@@ -53,7 +53,7 @@ pub cell_columns-columns-requires-clause-begins : goal.cell_columns-columns-requ
 cell_columns-columns-requires-clause-begins c = c.bytes.invariant.cut.begins
 
 pub cell_columns-columns-requires-clause-line : goal.cell_columns-columns-requires-clause-line
-cell_columns-columns-requires-clause-line c = c.bytes.invariant.within.feeds
+cell_columns-columns-requires-clause-line c = no-feed c.args.text.now c.bytes.start c.bytes.at c.bytes.invariant.inside c.bytes.invariant.within
 
 pub cell_columns-columns-requires-2-clause-ordered : goal.cell_columns-columns-requires-2-clause-ordered
 cell_columns-columns-requires-2-clause-ordered c =
@@ -65,8 +65,10 @@ cell_columns-columns-requires-2-clause-begins c = c.bytes.invariant.cut.begins
 
 pub cell_columns-columns-requires-2-clause-line : goal.cell_columns-columns-requires-2-clause-line
 cell_columns-columns-requires-2-clause-line c =
+    let end = length c.as_bytes-bytes.result.now in
+    no-feed c.args.text.now c.bytes.start end (omega (arith, ap length c.as_bytes-bytes.ensures.value))
     (within-end c.args.text.now c.as_bytes-bytes.result.now c.bytes.start c.bytes.at
-    (omega (arith, c.bytes.invariant.inside, ap length c.as_bytes-bytes.ensures.value)) c.bytes-test.false c.bytes.invariant.within).feeds
+    (omega (arith, c.bytes.invariant.inside, ap length c.as_bytes-bytes.ensures.value)) c.bytes-test.false c.bytes.invariant.within)
 
 pub bytes-preserved-then-byte-eq9 : goal.bytes-preserved-then-byte-eq9
 bytes-preserved-then-byte-eq9 c =
@@ -84,8 +86,8 @@ bytes-preserved-then-byte-eq9 c =
           rw c.in_ok-push.ensures.ok
           (cut-tab text c.bytes.cells c.bytes.rows c.bytes.start c.bytes.first c.bytes.at c.cell_columns-columns.result c.utf8.text was.cut
           was.within inside tab c.cell_columns-columns.ensures);
-      within = within-run text (c.bytes.at + 1) (c.bytes.at + 1) at 0x7E c.run_end-at-in-bytes.ensures.from ends run (within-none text (c.bytes.at + 1));
-      printable = λ _. printable-run text (c.bytes.at + 1) at c.run_end-at-in-bytes.ensures.from ends run;
+      within = within-run text (c.bytes.at + 1) (c.bytes.at + 1) at 0x7E c.run_end-at-in-bytes.ensures.from run (within-none text (c.bytes.at + 1));
+      printable = λ _. printable-run text (c.bytes.at + 1) at ends run;
     }
 
 pub overflow_sub-count : goal.overflow_sub-count
@@ -115,8 +117,8 @@ bytes-preserved c =
           rw (pushed, c.in_ok-push-2.ensures.ok, last)
           (cut-feed text c.bytes.cells c.bytes.rows c.bytes.start c.bytes.first c.bytes.at c.cell_columns-columns.result (c.len.result - c.bytes.first)
           c.utf8.text was.cut was.within inside feed c.cell_columns-columns.ensures (omega (arith, reached, c.len.ensures, ap length pushed, more)));
-      within = within-run text (c.bytes.at + 1) (c.bytes.at + 1) at 0x7E c.run_end-at-in-bytes.ensures.from ends run (within-none text (c.bytes.at + 1));
-      printable = λ _. printable-run text (c.bytes.at + 1) at c.run_end-at-in-bytes.ensures.from ends run;
+      within = within-run text (c.bytes.at + 1) (c.bytes.at + 1) at 0x7E c.run_end-at-in-bytes.ensures.from run (within-none text (c.bytes.at + 1));
+      printable = λ _. printable-run text (c.bytes.at + 1) at ends run;
     }
 
 pub overflow_sub-count-2 : goal.overflow_sub-count-2

@@ -1,4 +1,4 @@
-use Rattle.std.proofs.Common.{◌≡◌, ◌+◌, ◌<◌, ◌≤◌, [], length, get_or, sym, ap, subst, ◌∙◌, arith}
+use Rattle.std.proofs.Common.{◌+◌, ◌<◌, ◌≤◌, [], length, get_or, sym, ap, subst, ◌∙◌, arith}
 use Rattle.tabled_text.specs.Measure.{text_columns}
 use Rattle.std.specs.List.{slice_range}
 use Rattle.std.specs.Str.{IsCharBoundary}
@@ -13,7 +13,7 @@ pub at-start-requires : goal.at-start-requires
 at-start-requires c =
     let texts = texts_from c.args.gap c.args.whole.now 0 c.args.ends.now in
     let row_in = c.requires.inside.row_in in
-    omega (arith, row_in, length-rows texts c.args.self.now, ap length c.self.view_is)
+    omega (arith, row_in, length-rows texts c.args.self.now)
 
 pub returns-then-at-count : goal.returns-then-at-count
 returns-then-at-count c =
@@ -21,11 +21,9 @@ returns-then-at-count c =
     let ranges = c.args.self.now in
     let texts = texts_from c.args.gap c.args.whole.now 0 c.args.ends.now in
     let row_in = c.requires.inside.row_in in
-    let range : c.at-start.result ≡ get_or ranges at.row c.at-start.result =
-    c.at-start.ensures ∙ ap (λ r. get_or r at.row c.at-start.result) c.self.view_is in
     cell-behind texts ranges at.row at.column c.at-start.result
     (subst (λ n. AreRanges n ranges) (sym (length-texts c.args.gap c.args.whole.now 0 c.args.ends.now)) c.requires.ranges)
-    (omega (arith, row_in, length-rows texts ranges)) (subst (λ r. r.1 ≤ at.column) range c.if-at-count.true)
+    (omega (arith, row_in, length-rows texts ranges)) (subst (λ r. r.1 ≤ at.column) c.at-start.ensures c.if-at-count.true)
 
 -- the index is one of a text
 place_in : (c : After-len-count) → c.at-start.result.0 + c.args.at.column < length c.args.ends.now
@@ -33,11 +31,9 @@ place_in c =
     let at = c.args.at in
     let ranges = c.args.self.now in
     let row_in = c.requires.inside.row_in in
-    let range : c.at-start.result ≡ get_or ranges at.row c.at-start.result =
-    c.at-start.ensures ∙ ap (λ r. get_or r at.row c.at-start.result) c.self.view_is in
     let inside = c.requires.ranges at.row c.at-start.result
     (omega (arith, row_in, length-rows (texts_from c.args.gap c.args.whole.now 0 c.args.ends.now) ranges)) in
-    omega (arith, inside, ap (λ r. r.0) range, ap (λ r. r.1) range, c.if-at-count.false)
+    omega (arith, inside, ap (λ r. r.0) c.at-start.ensures, ap (λ r. r.1) c.at-start.ensures, c.if-at-count.false)
 
 -- the text there
 own : (c : After-at-end) → c.at-start.result.0 + c.args.at.column < length c.args.ends.now
@@ -92,11 +88,9 @@ returns c =
     let d = goal.at.returns c in
     let inside = place_in d.After-len-count in
     let row_in = c.requires.inside.row_in in
-    let range : c.at-start.result ≡ get_or ranges at.row c.at-start.result =
-    c.at-start.ensures ∙ ap (λ r. get_or r at.row c.at-start.result) c.self.view_is in
-    let found = ap (λ r. get_or texts (r.0 + at.column) []) range
+    let found = ap (λ r. get_or texts (r.0 + at.column) []) c.at-start.ensures
     ∙ cell-there texts ranges at.row at.column c.at-start.result (subst (λ n. AreRanges n ranges) (sym size) c.requires.ranges)
-    (omega (arith, row_in, length-rows texts ranges)) (subst (λ r. at.column < r.1) range c.if-at-count.false) in
+    (omega (arith, row_in, length-rows texts ranges)) (subst (λ r. at.column < r.1) c.at-start.ensures c.if-at-count.false) in
     let shown = c.range.ensures.value ∙ ap (λ start. slice_range whole start c.at-end.result.0) c.start_of.ensures in
     let same = shown ∙ ap (λ end. slice_range whole (begin gap 0 ends place) end.0) c.at-end.ensures
     ∙ sym (text-at gap whole 0 ends place c.at-end.result inside) ∙ found in
