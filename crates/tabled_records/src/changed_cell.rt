@@ -173,23 +173,28 @@ impl<'a> ChangedCell<'a> {
         }
     }
 
-    /// Truncates the text to `bytes` bytes and appends an ending. `records` have the unchanged
-    /// cell.
-    pub fn shorten<R: PeekableRecords>(
-        &mut self,
-        records: &'a R,
-        at: Position,
-        bytes: usize,
-        ending: &str,
-    )
-        requires inside { IsInside (R.cells records.now) at.row at.column }
-        requires boundary { IsCharBoundary
-            (text_of self.old (cell_at (R.cells records.now) at.row at.column)) bytes }
-        requires fits { FitsBehind bytes ending.now }
-        ensures { let old = cell_at (R.cells records.now) at.row at.column in
-            text_of self.new old ≡ take bytes (text_of self.old old) ++ ending.now }
+    /// Returns the text of the cell. `old` is the text of the unchanged cell.
+    #[inline(always)]
+    fn text<'b>(&'b self, old: &'b str) -> &'b str
+        ensures { result.now ≡ text_of self.now old.now }
     {
-        let (text, _, _) = self.measured(records, at);
+        match self {
+            ChangedCell::Same => old,
+            ChangedCell::Front(text) => text,
+            ChangedCell::Short(short) => short.text(),
+            ChangedCell::Long(long) => long.text.as_str(),
+        }
+    }
+
+    /// Truncates the text to `bytes` bytes and appends an ending. `old` is the text of the
+    /// unchanged cell.
+    pub fn shorten(&mut self, old: &'a str, bytes: usize, ending: &str)
+        requires boundary { IsCharBoundary (text_of self.old old.now) bytes }
+        requires fits { FitsBehind bytes ending.now }
+        ensures { text_of self.new old.now
+            ≡ take bytes (text_of self.old old.now) ++ ending.now }
+    {
+        let text = self.text(old);
         if bytes == text.len() && ending.is_empty() {
             return;
         }
@@ -199,9 +204,7 @@ impl<'a> ChangedCell<'a> {
             return;
         }
         match self {
-            ChangedCell::Same => {
-                *self = ChangedCell::Front(records.get_text(at).split_at(bytes).0)
-            }
+            ChangedCell::Same => *self = ChangedCell::Front(old.split_at(bytes).0),
             ChangedCell::Front(text) => *text = text.split_at(bytes).0,
             ChangedCell::Short(short) => {
                 // It has at most 16 bytes. The proof reads that here.

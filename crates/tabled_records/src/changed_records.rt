@@ -110,7 +110,7 @@ impl<'a, R: PeekableRecords> RecordsMut for ChangedRecords<'a, R> {
     fn shorten(&mut self, at: Position, bytes: usize, ending: &str) {
         let records = self.records;
         let index = index_of(records, &self.cells, at);
-        self.cells[index].shorten(records, at, bytes, ending);
+        self.cells[index].shorten(records.get_text(at), bytes, ending);
     }
 
     fn allocator(&self) -> Global {

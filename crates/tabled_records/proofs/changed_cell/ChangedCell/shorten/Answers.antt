@@ -1,11 +1,10 @@
 use Rattle.std.proofs.Common.{◌≡◌, length, ap, arith}
-use Rattle.tabled_base.specs.Cells.{cell_at}
 use Rattle.tabled_records.specs.Changed.{text_of}
 use Rattle.tabled_records.proofs.changed_cell.ChangedCell.shorten.Goals as goal
 
 pub returns-in-Short : goal.returns-in-Short
-returns-in-Short g c =
-    let old = cell_at (g.R.ExactRecords.cells c.args.records.now) c.args.at.row c.args.at.column in
+returns-in-Short c =
+    let old = c.args.old.now in
     let same : text_of c.args.self.now old ≡ c.in-Short.short = ap (λ cell. text_of cell old) c.in-Short.is in
     let within = c.requires.boundary.0 in
     absurd (omega (arith, within, ap length same, c.text.ensures.short, ap length c.text.ensures.text, c.if-bytes-le-SHORT_TEXT.false))
