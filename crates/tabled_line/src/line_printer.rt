@@ -69,7 +69,7 @@ fn write_uncached_rule<C: TableColumns, S: TextSink>(
 }
 
 /// Writes a line of a row piece by piece, without the template.
-#[inline(never)]
+#[inline(always)]
 fn write_unfilled_line<'a, R: Row<'a>, S: TextSink>(
     sink: &mut S,
     begun: &mut bool,

@@ -168,6 +168,7 @@ fn write_next_text<'a, R: Row<'a>, S: TextSink, A: RowPlacements>(
 }
 
 /// Writes the cells of a row of one line, at their placements.
+#[inline(always)]
 fn write_spaced_cells<'a, R: Row<'a>, S: TextSink, A: RowPlacements + Drop>(
     sink: &mut S,
     row: &R,
