@@ -61,18 +61,6 @@ pub(crate) fn push_text(row: &mut Vec<Text<String>>, text: &str) -> Result<(), T
     Ok(row.push(text)?)
 }
 
-pub(crate) fn push_empty(row: &mut Vec<Text<String>>, count: usize) -> Result<(), AllocError>
-    ensures texts { OnOk result
-        (CellsAdded (λ texts. texts ≡ replicate count []) row.old.items row.new.items) }
-    ensures length { OnOk result (vec_len row.new ≡ vec_len row.old + count) }
-{
-    let alloc = *row.allocator();
-    'empty: for _field in 0..count {
-        row.push(Text::new(String::new(alloc)))?;
-    }
-    Ok(())
-}
-
 pub(crate) fn push_texts(
     row: &mut Vec<Text<String>>,
     texts: Vec<CowStr<'_>>,

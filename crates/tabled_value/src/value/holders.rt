@@ -2,7 +2,7 @@
 ghost use Rattle.std.specs.Prelude.{◌≡◌, [], MatchOption, replicate};
 
 use super::Tabled;
-use crate::texts::{empty_texts, push_empty};
+use crate::texts::{empty_texts, push_texts};
 use std::alloc::Global;
 use std::borrow::CowStr;
 use tabled_base::{TableError, Text};
@@ -81,7 +81,7 @@ impl<T: Tabled> Tabled for Option<T> {
 
     fn push_cells(&self, row: &mut Vec<Text<String>>) -> Result<(), TableError> {
         match self {
-            None => Ok(push_empty(row, T::length())?),
+            None => Ok(push_texts(row, empty_texts(*row.allocator(), T::length())?)?),
             Some(value) => value.push_cells(row),
         }
     }

@@ -9,7 +9,6 @@ use crate::texts::{displayed, joined};
 use std::alloc::Global;
 use std::borrow::CowStr;
 use std::fmt::Display;
-use std::string::ToString;
 use tabled_base::{TableError, Text};
 
 impl<A: Tabled> Tabled for (A,) {
@@ -197,13 +196,5 @@ impl<T: Display, const N: usize> Tabled for [T; N] {
             names.push(displayed(alloc, &place)?)?;
         }
         Ok(names)
-    }
-
-    fn push_cells(&self, row: &mut Vec<Text<String>>) -> Result<(), TableError> {
-        'items: for item in self {
-            let text = item.to_string(*row.allocator())?;
-            row.push(Text::new(text))?;
-        }
-        Ok(())
     }
 }
