@@ -1,5 +1,5 @@
 -- What letters take, by the tables of `unicode_width`.
-use Rattle.std.proofs.Common.{◌≡◌, ℕ, ◌+◌, ◌-◌, ◌*◌, ◌/◌, ◌≤◌, ◌<◌, Bool, true, false, cond, not, ◌||◌, ◌&&◌, nat_le, nat_lt, List, [], ◌∷◌, ◌++◌, length, length-append, drop, chars, encode_utf8_all, get_or, refl, subst, inl, inr, ap, sym, ◌∙◌, arith, lit<, ⊎_elim}
+use Rattle.std.proofs.Common.{◌≡◌, max, ℕ, ◌+◌, ◌-◌, ◌*◌, ◌/◌, ◌≤◌, ◌<◌, Bool, true, false, cond, not, ◌||◌, ◌&&◌, nat_le, nat_lt, List, [], ◌∷◌, ◌++◌, length, length-append, drop, chars, encode_utf8_all, get_or, refl, subst, inl, inr, ap, sym, ◌∙◌, arith, lit<, ⊎_elim}
 use Rattle.std.specs.Char.{encode_utf8, len_utf8}
 use Rattle.std.specs.Str.{IsCharBoundary, IsUtf8}
 use Rattle.std.proofs.lemmas.List.{drop_at}
@@ -17,7 +17,7 @@ use Rattle.unicode_width.specs.Kind.{kind}
 use Rattle.unicode_width.specs.Width.{alone, char_width, of_kind}
 use Rattle.unicode_width.proofs.KindLemmas.{kind_stepped}
 use Rattle.unicode_width.proofs.Rules.{is_simple, is_simple_kind}
-use Rattle.tabled_text.specs.Letters.{BeginsBy, IsLetter, is_narrow_lead, is_wide_lead, lead_byte}
+use Rattle.tabled_text.specs.Letters.{BeginsBy, IsLetter, is_narrow_lead, is_narrow_letter, is_wide_lead, is_wide_letter, lead_byte}
 use Rattle.tabled_text.specs.Measure.{char_columns, char_count}
 
 is_narrow : Kind → Bool
@@ -302,3 +302,28 @@ feed-lead P text after b h =
 pub lead-feed : (P : ℕ → Type 0) (text after : List ℕ) → (b : BeginsBy P text after) → b.first ≡ 10 → get_or text 0 0 ≡ 10
 lead-feed P text after b h =
     ap (λ bs. get_or bs 0 0) b.parts ∙ lead-here b.first after ∙ ap lead_byte h ∙ ap (λ bs. get_or bs 0 0) (encode_ascii 10 (lit< tt))
+
+-- what letters count
+pub narrow-count : (c : ℕ) → is_narrow_letter c ≡ true → char_count c ≡ 1
+narrow-count c h =
+    ⊎_elim
+    (λ latin.
+    let parts = and_parts (nat_le 0xC0 c) (nat_le c 0x2FF) latin in
+    let l = leb-true 0xC0 c parts.0 in
+    let m = leb-true c 0x2FF parts.1 in
+    ap (max 1) (narrow-high c (in-first 0xC0 0x2FF c ((0x380, 0x47F) ∷ []) l m) (omega arith) (omega arith)).columns)
+    (λ later.
+    let parts = and_parts (nat_le 0x380 c) (nat_le c 0x47F) later in
+    let l = leb-true 0x380 c parts.0 in
+    let m = leb-true c 0x47F parts.1 in
+    ap (max 1) (narrow-high c (in-later (0xC0, 0x2FF) ((0x380, 0x47F) ∷ []) c (in-first 0x380 0x47F c [] l m)) (omega arith) (omega arith)).columns)
+    (or_cases (is_in_range 0xC0 0x2FF c) (is_in_range 0x380 0x47F c) h)
+
+pub wide-count : (c : ℕ) → is_wide_letter c ≡ true → char_count c ≡ 2
+wide-count c h =
+    let parts = and_parts (nat_le 0x4000 c) (nat_le c 0x9FFF) h in
+    let l = leb-true 0x4000 c parts.0 in
+    let m = leb-true c 0x9FFF parts.1 in
+    let high : 0xA0 < c = omega arith in
+    let is = passed (in_ranges wide_ranges c) (is_wide (kind c)) (are-wide c (omega arith)) (in-first 0x4000 0x9FFF c [] l m) in
+    ap (max 1) (columns-high c high ∙ wide-columns c (kind c) is)
