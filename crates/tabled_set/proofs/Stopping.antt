@@ -13,8 +13,3 @@ stops-before order chosen needs change old new (Err e) h only = inr (only, h)
 -- a measure that fails leaves the sizes
 pub stops-measuring : (e cause : TableError) (sizes : CompleteDimension) → e ≡ cause → cause ≡ Range → StopsFilling e sizes sizes
 stops-measuring e cause sizes is range = record { lacking = λ m. cc; same = refl }
-
--- what else holds, whatever the error is
-pub stops-with : {T : Type 0} (P : TableError → Type 0) (Q : Type 0) (r : Result T TableError) → IfErr r P → Q → IfErr r (λ e. P e × Q)
-stops-with P Q (Ok x) h q = tt
-stops-with P Q (Err e) h q = (h, q)
