@@ -1,5 +1,5 @@
 //! Prints the rows of a source, one by one.
-ghost use Rattle.std.specs.Prelude.{◌≡◌, ◌==◌, ℕ, Bool, List, [], map, min, length, true, false};
+ghost use Rattle.std.specs.Prelude.{◌≡◌, ◌==◌, ℕ, Bool, List, [], map, length, true, false};
 ghost use Rattle.std.specs.Prelude.{if◌then◌else◌, IfErr, IfOk, OnErr, OnOk};
 ghost use Rattle.std.specs.Iterator.{IsFiniteIterable};
 ghost use Rattle.std.proofs.Props.{props};
@@ -112,36 +112,7 @@ impl<'a, D: Dimension> RowPrinter<'a, D> {
         Ok(0)
     }
 
-    /// Writes a row up to the cells that it has, and returns the column after them. The cells are
-    /// read to their end, even if the sink fails.
-    fn write_cells<C: IntoIterator, S: TextSink>(
-        &mut self,
-        sink: &mut S,
-        cells: C,
-    ) -> Result<usize, TableError>
-    where
-        C::Item: CellText + Drop,
-        requires { IsFiniteIterable C.into_iter_gives C.IntoIter.can_next C.IntoIter.remaining
-            cells }
-        ensures put { (items : List C.Item)
-            × Given C.into_iter_gives C.IntoIter.next_gives cells items
-            × IfOk result (λ n. n ≡ min (length items) self.old.lines.columns.count)
-            × Writes (S.sent sink.old) result (S.sent sink.new)
-            (part_front self.old.lines.columns self.old.lines.begun (map C.Item.text items)
-            (min (length items) self.old.lines.columns.count)) }
-        ensures begun { OnOk result (self.new.lines.begun ≡ true) }
-        ensures same { self.new.lines.columns ≡ self.old.lines.columns }
-    {
-        let mut next = self.begin_row(sink);
-        'cells: for cell in cells {
-            next = match next {
-                Ok(column) => self.lines.columns.write_next_cell(sink, column, &cell),
-                Err(error) => Err(error),
-            };
-        }
-        next
-    }
-
+    /// Writes a row. The cells are read to their end, even if the sink fails.
     fn write_row<C: IntoIterator, S: TextSink>(
         &mut self,
         sink: &mut S,
@@ -158,7 +129,14 @@ impl<'a, D: Dimension> RowPrinter<'a, D> {
             (row_part self.old.lines.columns self.old.lines.begun (map C.Item.text items)) }
         ensures same { self.new.lines.columns ≡ self.old.lines.columns }
     {
-        let column = self.write_cells(sink, cells)?;
+        let mut next = self.begin_row(sink);
+        'cells: for cell in cells {
+            next = match next {
+                Ok(column) => self.lines.columns.write_next_cell(sink, column, &cell),
+                Err(error) => Err(error),
+            };
+        }
+        let column = next?;
         self.lines.columns.end_row(sink, column)
     }
 

@@ -1,38 +1,87 @@
-use Rattle.std.proofs.Common.{ap, length, map, min, arith, subst, sym, ◌∙◌}
+use Rattle.std.proofs.Common.{◌≡◌, ◌∷◌, ◌∙◌, ℕ, IfOk, [], ap, length, length-append, map, min, arith, rules, subst, sym}
 use Rattle.std.proofs.lemmas.List.{length-map}
-use Rattle.tabled_line.specs.Sent.{Sends}
+use Rattle.tabled_base.specs.Given.{Given}
+use Rattle.tabled_line.specs.Sent.{Sends, Writes}
 use Rattle.tabled_compact.specs.CompactLines.{part_front}
-use Rattle.tabled_compact.proofs.RowPieces.{part-put, part-stopped}
+use Rattle.tabled_compact.proofs.RowPieces.{begun-step, given-skip, given-step, next-step, part-put, part-stopped}
+use Rattle.tabled_compact.proofs.rows.RowPrinter.write_row.Goals.{in-Ok, in-Err}
 use Rattle.tabled_compact.proofs.rows.RowPrinter.write_row.Goals as goal
+
+pub cells-init : goal.cells-init
+cells-init g c =
+    let lines = c.args.self.now.lines in
+    let zero : min 0 lines.columns.count ≡ 0 = omega arith in
+    record {
+      same = c.begin_row-next.ensures.same;
+      begun = c.begin_row-next.ensures.begun;
+      next = subst (λ (n : ℕ). IfOk c.begin_row-next.result (λ column. column ≡ n)) (sym zero) c.begin_row-next.ensures.first;
+      put = subst (λ (n : ℕ). Writes (g.S.TextSink.sent c.args.sink.now) c.begin_row-next.result (g.S.TextSink.sent c.begin_row-next.new.sink)
+          (part_front lines.columns lines.begun [] n)) (sym zero) c.begin_row-next.ensures.put;
+    }
+
+pub cells-preserved : goal.cells-preserved
+cells-preserved g c =
+    let lines = c.args.self.now.lines in
+    let t = lines.columns in
+    let b = lines.begun in
+    let text = g.C.Item.CellText.text in
+    let xs = c.cells.yielded in
+    let x = c.in-Some.cell in
+    let a = g.S.TextSink.sent c.args.sink.now in
+    let s = g.S.TextSink.sent c.cells.sink in
+    let inv = c.cells.invariant in
+    let long = length-append xs (x ∷ []) in
+    elim c.match-next-2.branch [
+      | in-Ok w ↦
+          let at : w.in-Ok.column ≡ min (length xs) t.count =
+          subst (λ r. IfOk r (λ n. n ≡ min (length xs) t.count)) w.in-Ok.is inv.next in
+          record {
+            same = inv.same;
+            begun = begun-step c.cells.next c.match-next-2.next w.in-Ok.column _ w.in-Ok.is inv.begun;
+            next = next-step c.match-next-2.next w.in-Ok.column (length xs) _ t.count at long
+                (rw w.next-is (rw inv.same at w.write_next_cell-next.ensures.next));
+            put = given-step t b text xs x a s _ c.cells.next c.match-next-2.next w.in-Ok.column w.in-Ok.is at inv.put
+                (rw (w.next-is, w.sink-is) (rw inv.same at w.write_next_cell-next.ensures.put));
+          }
+      | in-Err w ↦
+          record {
+            same = inv.same;
+            begun = rw w.next-is tt;
+            next = rw w.next-is tt;
+            put = rw (w.next-is, w.sink-is) (given-skip t b text xs x a s c.cells.next w.in-Err.error w.in-Err.is inv.put);
+          }
+    ]
 
 pub end_row-requires : goal.end_row-requires
 end_row-requires g c =
-    let came = c.in_ok-column.ensures.put in
-    rw c.in_ok-column.ensures.same (let n = came.2 in omega (arith, n))
+    let at = rw c.in_ok-column.was at c.cells.invariant.next in
+    rw c.cells.invariant.same (omega (arith, at))
 
 pub returns-in_err-column-clause-put : goal.returns-in_err-column-clause-put
 returns-in_err-column-clause-put g c =
     let lines = c.args.self.now.lines in
-    let came = c.in_err-column.ensures.put in (
-      came.0,
-      came.1,
-      part-stopped lines.columns lines.begun (map g.C.Item.CellText.text came.0) (min (length came.0) lines.columns.count) _ _ _
-          c.from_residual.result _ (omega arith) came.3 c.from_residual.ensures.1,
+    let xs = c.cells.yielded in
+    let given : Given g.C.IntoIterator.into_iter_gives g.C.IntoIter.Iterator.next_gives c.args.cells xs = search rules in (
+      xs,
+      given,
+      part-stopped lines.columns lines.begun (map g.C.Item.CellText.text xs) (min (length xs) lines.columns.count) _ _ _
+          c.from_residual.result _ (omega arith) (rw c.in_err-column.was at c.cells.invariant.put) c.from_residual.ensures.1,
     )
 
 pub returns-clause-put : goal.returns-clause-put
 returns-clause-put g c =
     let lines = c.args.self.now.lines in
     let t = lines.columns in
-    let text = g.C.Item.CellText.text in
-    let came = c.in_ok-column.ensures.put in
-    let row = map text came.0 in
+    let xs = c.cells.yielded in
+    let row = map g.C.Item.CellText.text xs in
     let a = g.S.TextSink.sent c.args.sink.now in
-    let long = length-map came.0 text in
-    let begun = subst (λ n. Sends a (g.S.TextSink.sent c.write_cells.new.sink) (part_front t lines.begun row n)) (sym came.2) came.3 in (
-      came.0,
-      came.1,
+    let inv = c.cells.invariant in
+    let given : Given g.C.IntoIterator.into_iter_gives g.C.IntoIter.Iterator.next_gives c.args.cells xs = search rules in
+    let at : c.in_ok-column.column ≡ min (length xs) t.count = rw c.in_ok-column.was at inv.next in
+    let begun = subst (λ n. Sends a (g.S.TextSink.sent c.cells.sink) (part_front t lines.begun row n)) (sym at) (rw c.in_ok-column.was at inv.put) in (
+      xs,
+      given,
       part-put t lines.begun row a _ _ c.end_row.result
-          ((rw c.in_ok-column.ensures.same at (c.end_row.ensures a lines.begun row)) (came.2 ∙ ap (λ k. min k t.count) (sym long)) begun)
-          c.in_ok-column.ensures.begun,
+          ((rw inv.same at (c.end_row.ensures a lines.begun row)) (at ∙ ap (λ k. min k t.count) (sym (length-map xs g.C.Item.CellText.text))) begun)
+          (rw c.in_ok-column.was at inv.begun),
     )
