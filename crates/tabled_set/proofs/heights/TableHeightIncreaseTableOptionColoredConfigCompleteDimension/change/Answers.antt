@@ -20,12 +20,9 @@ returns-clause-promised g c =
     λ left cleared.
     let s = c.args.self in
     let cells = g.R.ExactRecords.cells c.args.records.now in
-    let config = c.args.cfg.now.config in
-    let n = g.W.Measurement.measures s.size cells config in
     let some : is_empty cells ≡ false = search rules in
     let measured = c.in_ok-n.ensures.ok ∙ ap (λ (k : SpannedConfig). g.W.Measurement.measures s.size cells k) c.as_ref-config.ensures in
     let is =
-    heightened s.priority n c.in_ok-n.n c.in_ok-heights.total cells config c.as_ref-config.result.now c.args.dims.now c.set_heights.new.self c.deref.result.now c.in_ok-higher.higher.items
-    c.as_ref-config.ensures some measured c.in_ok-heights.ensures.total (c.deref.ensures.value ∙ c.in_ok-heights.ensures.heights)
-    c.set_heights.ensures.heights c.set_heights.ensures.widths g.P.Peaker.grows (omega (arith, c.if-n-total.false)) c.in_ok-higher.ensures.grown in
-    heightens g.P.Peaker.grows s.priority n cells config c.args.dims.now c.set_heights.new.self left is cleared
+    heightened _ _ _ _ _ _ _ c.args.dims.now c.set_heights.new.self _ _ c.as_ref-config.ensures some measured c.in_ok-heights.ensures.total (c.deref.ensures.value ∙ c.in_ok-heights.ensures.heights)
+    c.set_heights.ensures.heights c.set_heights.ensures.widths _ (omega (arith, c.if-n-total.false)) c.in_ok-higher.ensures.grown in
+    heightens _ _ _ _ _ _ _ left is cleared
