@@ -77,6 +77,7 @@ fn append_narrow<S: Sink>(
 
 /// Writes a character, and returns the columns then used. If it is wider than n, writes U+FFFD in
 /// the columns left; the line is then full.
+#[inline(always)]
 fn append_char<S: Sink>(out: &mut S, used: usize, n: usize, c: char) -> Result<usize, S::Error>
     requires { 0 < n }
     ensures used { IfOk result (λ column. column ≡ append_used n used (unit_of_char c)) }
