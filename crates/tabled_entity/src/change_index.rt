@@ -58,6 +58,10 @@ impl ChangeIndex {
         ensures { (column : ℕ) → latest_at result column ≡ latest (found self.now) row column }
     {
         let of_row = self.rows.get(row).copied();
+        // Two tests in place of a lookup and more, since many tables have only settings of rows.
+        if self.columns.is_empty() && self.cells.is_empty() {
+            return RowChanges::Same(of_row);
+        }
         RowChanges::new(of_row, &self.columns, self.cells.get(row))
     }
 

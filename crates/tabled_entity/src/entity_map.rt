@@ -133,12 +133,23 @@ impl<T: Copy> EntityMap<T> {
         RowValues::new(&self.global, &self.changes, self.places.in_row(row))
     }
 
+    /// Looks up the value of a cell among the changes.
+    #[inline(never)]
+    fn found(&self, row: usize, column: usize) -> &T
+        ensures { result.now ≡ setting_at self.now row column }
+    {
+        self.in_row(row).at(column)
+    }
+
     /// Returns the value of a cell.
     #[inline]
     pub fn get(&self, row: usize, column: usize) -> T
         ensures { result ≡ setting_at self.now row column }
     {
-        *self.in_row(row).at(column)
+        if let Some(value) = self.shared() {
+            return value;
+        }
+        *self.found(row, column)
     }
 
     /// Returns a copy. Fails if an allocation fails.

@@ -1,4 +1,4 @@
-use Rattle.std.proofs.Common.{◌∙◌, ◌∷◌, [], ◌+◌, ◌≡◌, suc, ap, arith, get_or, reverse, subst, sym, take}
+use Rattle.std.proofs.Common.{◌∙◌, ◌∷◌, [], ◌+◌, ◌≡◌, ◌<◌, suc, ap, arith, get_or, length, reverse, subst, sym, take}
 use Rattle.std.proofs.Math.Seq.{take-suc}
 use Rattle.std.proofs.lemmas.List.{length-take-le, reverse-append}
 use Rattle.tabled_entity.specs.ChangeIndex.{IsIndexed}

@@ -1,4 +1,4 @@
-use Rattle.std.proofs.Common.{◌∙◌, reverse, subst, sym}
+use Rattle.std.proofs.Common.{◌≡◌, ◌∙◌, reverse, subst, sym}
 use Rattle.tabled_entity.specs.ChangeIndex.{IsIndexed}
 use Rattle.tabled_entity.proofs.entity_map.EntityMap.clone.Goals as goal
 
