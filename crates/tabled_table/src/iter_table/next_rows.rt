@@ -96,7 +96,7 @@ impl<'a> Stream<'a> {
 
     /// Cuts the next row to its columns, and writes it with `lines` lines for text, below its
     /// horizontal line. Before its first byte it fails with `Range` if its height exceeds
-    /// `usize::MAX`, and with `Memory`. `cuts` is room for the cuts of a row.
+    /// `usize::MAX`, and with `Memory`. `cuts` is a buffer for the cuts of a row.
     fn write_next_record<C: CellText, S: TextSink>(
         &mut self,
         sink: &mut S,
