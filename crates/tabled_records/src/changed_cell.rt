@@ -188,6 +188,7 @@ impl<'a> ChangedCell<'a> {
 
     /// Truncates the text to `bytes` bytes and appends an ending. `old` is the text of the
     /// unchanged cell.
+    #[inline(always)]
     pub fn shorten(&mut self, old: &'a str, bytes: usize, ending: &str)
         requires boundary { IsCharBoundary (text_of self.old old.now) bytes }
         requires fits { FitsBehind bytes ending.now }

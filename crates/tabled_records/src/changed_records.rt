@@ -107,6 +107,7 @@ impl<'a, R: PeekableRecords> RecordsMut for ChangedRecords<'a, R> {
         Ok(())
     }
 
+    #[inline(always)]
     fn shorten(&mut self, at: Position, bytes: usize, ending: &str) {
         let records = self.records;
         let index = index_of(records, &self.cells, at);
