@@ -1,7 +1,7 @@
-use Rattle.std.proofs.Common.{◌≡◌, ◌∷◌, ◌∙◌, ℕ, IfOk, [], ap, length, length-append, map, min, arith, rules, subst, sym}
+use Rattle.std.proofs.Common.{◌≡◌, ◌∷◌, ◌∙◌, [], ap, length, length-append, map, min, arith, rules, subst, sym}
 use Rattle.std.proofs.lemmas.List.{length-map}
 use Rattle.tabled_base.specs.Given.{Given}
-use Rattle.tabled_line.specs.Sent.{Sends, Writes}
+use Rattle.tabled_line.specs.Sent.{Sends}
 use Rattle.tabled_compact.specs.CompactLines.{part_front}
 use Rattle.tabled_compact.proofs.RowPieces.{begun-step, given-skip, given-step, next-step, part-put, part-stopped}
 use Rattle.tabled_compact.proofs.rows.RowPrinter.write_row.Goals.{in-Ok, in-Err}
@@ -9,14 +9,12 @@ use Rattle.tabled_compact.proofs.rows.RowPrinter.write_row.Goals as goal
 
 pub cells-init : goal.cells-init
 cells-init g c =
-    let lines = c.args.self.now.lines in
-    let zero : min 0 lines.columns.count ≡ 0 = omega arith in
+    let zero : min 0 c.args.self.now.lines.columns.count ≡ 0 = omega arith in
     record {
       same = c.begin_row-next.ensures.same;
       begun = c.begin_row-next.ensures.begun;
-      next = subst (λ (n : ℕ). IfOk c.begin_row-next.result (λ column. column ≡ n)) (sym zero) c.begin_row-next.ensures.first;
-      put = subst (λ (n : ℕ). Writes (g.S.TextSink.sent c.args.sink.now) c.begin_row-next.result (g.S.TextSink.sent c.begin_row-next.new.sink)
-          (part_front lines.columns lines.begun [] n)) (sym zero) c.begin_row-next.ensures.put;
+      next = rw zero c.begin_row-next.ensures.first;
+      put = rw zero c.begin_row-next.ensures.put;
     }
 
 pub cells-preserved : goal.cells-preserved
@@ -33,8 +31,7 @@ cells-preserved g c =
     let long = length-append xs (x ∷ []) in
     elim c.match-next-2.branch [
       | in-Ok w ↦
-          let at : w.in-Ok.column ≡ min (length xs) t.count =
-          subst (λ r. IfOk r (λ n. n ≡ min (length xs) t.count)) w.in-Ok.is inv.next in
+          let at : w.in-Ok.column ≡ min (length xs) t.count = rw w.in-Ok.is at inv.next in
           record {
             same = inv.same;
             begun = begun-step c.cells.next c.match-next-2.next w.in-Ok.column _ w.in-Ok.is inv.begun;
