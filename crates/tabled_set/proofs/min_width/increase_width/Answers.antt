@@ -51,11 +51,8 @@ returns-in_err-widths-2-clause-err g c =
 
 pub returns-then-n-total-clause-ok : goal.returns-then-n-total-clause-ok
 returns-then-n-total-clause-ok g c =
-    let cells = g.R.ExactRecords.cells c.args.records.now in
-    let config = c.args.config.now in
-    let some : is_empty cells ≡ false = search rules in
-    wide-already cells config c.args.sizes.now c.estimate.new.self some c.in_ok-estimate.ensures.ok g.P.Peaker.grows c.args.option.priority
-    (g.W.Measurement.measures c.args.option.size cells config)
+    let some : is_empty (g.R.ExactRecords.cells c.args.records.now) ≡ false = search rules in
+    wide-already _ _ _ _ some c.in_ok-estimate.ensures.ok _ _ _
     (omega (arith, c.in_ok-n.ensures.ok, c.in_ok-widths.ensures.total, c.if-n-total.true))
 
 pub grown-requires : goal.grown-requires
@@ -71,13 +68,12 @@ returns-clause-ok g c =
     let cells = g.R.ExactRecords.cells c.args.records.now in
     let config = c.args.config.now in
     let n = g.W.Measurement.measures c.args.option.size cells config in
-    let mid = c.estimate.new.self in
-    let t = effective cells config mid in
+    let t = effective cells config c.estimate.new.self in
     let some : is_empty cells ≡ false = search rules in
     let total = c.in_ok-widths.ensures.total in
     let list = c.in_ok-widths-2.widths.items in
     let grown = λ (ws : List ℕ) (by : ℕ). IsGrownBy g.P.Peaker.grows c.args.option.priority ws by list in
-    made-wider cells config c.args.sizes.now mid some c.in_ok-estimate.ensures.ok g.P.Peaker.grows c.args.option.priority n
+    made-wider _ _ _ _ some c.in_ok-estimate.ensures.ok _ _ n
     (omega (arith, c.in_ok-n.ensures.ok, total, c.if-n-total.false)) c.set_widths.new.self list
     (subst (λ k. grown t.widths (n - k)) total
     (subst (λ k. grown t.widths (k - c.in_ok-widths.total)) c.in_ok-n.ensures.ok
