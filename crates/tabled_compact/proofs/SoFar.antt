@@ -29,9 +29,11 @@ module _ {W T A : Type 0} {becomes : W → T → Type 0} {steps : T → Option A
   }
 
   -- the rows that came first, with what is known of them
-  module _ {V S : Type 0} {rows_become : V → S → Type 0} {row_steps : S → Option W → S → Type 0} {rows : V} {it : S} {B : List (List A) → Bool → Type 0}
+  module _ {V S : Type 0} {rows_become : V → S → Type 0} {row_steps : S → Option W → S → Type 0} {rows : V} {it : S}
+      {B : List (List A) → Bool → Type 0}
       (Q : List (List (List ℕ)) → Bool → Type 0)
-      (so : (cells : List (List A)) (whole : Bool) → RowsBegin rows_become row_steps becomes steps rows cells whole → B cells whole) (made : rows_become rows it) where
+      (so : (cells : List (List A)) (whole : Bool) → RowsBegin rows_become row_steps becomes steps rows cells whole → B cells whole)
+      (made : rows_become rows it) where
     pub rows-begin : {lists : List W} {reached : S} (whole : Bool) → Yields row_steps it lists reached
         → (whole ≡ true → (last : S) × row_steps reached None last) → SoFar becomes steps text (λ read. Q read whole) lists
         → (read : List (List (List ℕ))) × (w : Bool) × Came B text read w × Q read w
@@ -56,7 +58,8 @@ module _ {W T A : Type 0} {becomes : W → T → Type 0} {steps : T → Option A
     )
 
     -- no row is read after a further one
-    pub rows-stop : {P : List (List (List ℕ)) → Type 0} {lists : List W} {list : W} {reached next : S} {items : List A} → Yields row_steps it lists reached
+    pub rows-stop : {P : List (List (List ℕ)) → Type 0} {lists : List W} {list : W} {reached next : S} {items : List A}
+        → Yields row_steps it lists reached
         → row_steps reached (Some list) next → SoFar becomes steps text P lists → Given becomes steps list items
         → ((read : List (List (List ℕ))) → P read → Q (read ++ map text items ∷ []) false)
         → (read : List (List (List ℕ))) × (w : Bool) × Came B text read w × Q read w

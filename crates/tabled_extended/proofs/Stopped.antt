@@ -45,7 +45,8 @@ replaced : {A : Type 0} (new changed rest new' : List A) (count : ℕ) (x y : A)
 replaced new changed rest new' count x y e m s =
     s ∙ ap (λ l. set l count y) e ∙ ap (λ k. set (changed ++ x ∷ rest) k y) (sym m) ∙ set-append_seam changed x rest y
 
-pub so_far-more : {A : Type 0} {change : A → A → Type 0} {count : ℕ} {old new new' : List A} {x y : A} → ChangedSoFar change count old new → count < length new
+pub so_far-more : {A : Type 0} {change : A → A → Type 0} {count : ℕ} {old new new' : List A} {x y : A} → ChangedSoFar change count old new
+    → count < length new
     → x ≡ get_or new count x → change x y → new' ≡ set new count y → ChangedSoFar change (count + 1) old new'
 so_far-more {A} {change} {count} {old} {new} {new'} {x} {y} h l i c s =
     let n = next new h.changed h.behind count x h.new_list h.many l i in
@@ -61,7 +62,8 @@ so_far-more {A} {change} {count} {old} {new} {new'} {x} {y} h l i c s =
       many = length_push h.changed y ∙ ap (λ k. k + 1) h.many;
     }
 
-pub so_far-stopped : {A : Type 0} {change : A → A → Type 0} (stop : A → A → Type 0) {count : ℕ} {old new new' : List A} {x y : A} → ChangedSoFar change count old new
+pub so_far-stopped : {A : Type 0} {change : A → A → Type 0} (stop : A → A → Type 0) {count : ℕ} {old new new' : List A} {x y : A}
+    → ChangedSoFar change count old new
     → count < length new → x ≡ get_or new count x → stop x y → new' ≡ set new count y → IsStopped change stop old new'
 so_far-stopped {A} {change} stop {count} {old} {new} {new'} {x} {y} h l i c s =
     let n = next new h.changed h.behind count x h.new_list h.many l i in
@@ -82,7 +84,8 @@ no_rest : {A : Type 0} (changed behind : List A) (count : ℕ) → length change
 no_rest changed [] count m e = refl
 no_rest changed (x ∷ behind) count m e = absurd (omega (arith, length-append changed (x ∷ behind), m, e))
 
-pub so_far-all : {A : Type 0} {change : A → A → Type 0} {count : ℕ} {old new : List A} → ChangedSoFar change count old new → length new ≡ count
+pub so_far-all : {A : Type 0} {change : A → A → Type 0} {count : ℕ} {old new : List A} → ChangedSoFar change count old new
+    → length new ≡ count
     → AllZip change old new
 so_far-all {count = count} {old = old} {new = new} h e =
     let none : h.behind ≡ [] = no_rest h.changed h.behind count h.many (ap length (sym h.new_list) ∙ e) in
@@ -90,7 +93,8 @@ so_far-all {count = count} {old = old} {new = new} h e =
     let is : new ≡ h.changed = h.new_list ∙ ap (λ b. h.changed ++ b) none ∙ append-nil h.changed in
     rw (was, is) h.each
 
-pub so_far-long : {A : Type 0} {change : A → A → Type 0} {count : ℕ} {old new : List A} → ChangedSoFar change count old new → length new ≡ length old
+pub so_far-long : {A : Type 0} {change : A → A → Type 0} {count : ℕ} {old new : List A} → ChangedSoFar change count old new
+    → length new ≡ length old
 so_far-long {change = change} h =
     let same = length_all_zip change h.before h.changed h.each in
     ap length h.new_list ∙ length-append h.changed h.behind ∙ ap (λ n. n + length h.behind) (sym same)

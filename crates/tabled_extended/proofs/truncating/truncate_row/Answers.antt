@@ -15,7 +15,8 @@ texts-preserved c =
 pub returns-in_err-truncate_text-clause-err : goal.returns-in_err-truncate_text-clause-err
 returns-in_err-truncate_text-clause-err c =
     let long = so_far-long c.texts.invariant in
-    let stop = so_far-stopped (IsRefused c.args.suffix.now c.args.width_limit) c.texts.invariant (omega (arith, long)) c.index_mut.ensures.value
+    let stop = so_far-stopped (IsRefused c.args.suffix.now c.args.width_limit) c.texts.invariant (omega (arith, long))
+    c.index_mut.ensures.value
     c.in_err-truncate_text.ensures.err refl in
     err-with _ stop c.from_residual.ensures.0
 

@@ -16,7 +16,8 @@ rows-preserved c =
     let many = row_texts-long rows in
     let was = row_texts-long c.args.rows.now.items in
     let there : c.rows.index < length rows = omega (arith, long, many, was) in
-    so_far-more c.rows.invariant (omega (arith, there, many)) (row_texts-read rows c.rows.index c.index_mut.result.now there c.index_mut.ensures.value)
+    so_far-more c.rows.invariant (omega (arith, there, many))
+    (row_texts-read rows c.rows.index c.index_mut.result.now there c.index_mut.ensures.value)
     c.in_ok-truncate_row.ensures.ok (row_texts-set rows c.rows.index c.truncate_row.new.row)
 
 pub returns-in_err-truncate_row-clause-err : goal.returns-in_err-truncate_row-clause-err

@@ -84,7 +84,8 @@ returns-in_err-change_cells-clause-err g c =
       some,
       stops-some _ _ _ _ _ _ _ _ some c.in_ok-estimate.ensures.ok _ _ _ _ found.widths.items c.in_err-change_cells.ensures.only
           (found-widths _ _ _ _ t _ found c.in_ok-n.ensures.ok c.in-Some.is c.in_ok-found.ensures.ok)
-          (sized-before t found.widths.items (found-sizes t _ found c.in-Some.is c.in_ok-found.ensures.sized) _ _ _ c.in_err-change_cells.ensures.err),
+          (sized-before t found.widths.items (found-sizes t _ found c.in-Some.is c.in_ok-found.ensures.sized) _ _ _
+          c.in_err-change_cells.ensures.err),
     )
 
 pub returns-clause-ok : goal.returns-clause-ok

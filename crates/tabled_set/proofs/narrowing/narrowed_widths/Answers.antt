@@ -26,6 +26,7 @@ returns-clause-sized g c =
     let mins = c.deref-3.result.now in
     let least = c.in_ok-mins.ensures.ok ∙ of_empty cells c.args.config.now _ _ c.count_rows.ensures c.count_columns.ensures.columns in
     content_widths-are t widths mins (λ column. slice_index_or c.in_ok-content.content.items column None) c.shared_padding.result c.shared_padding.ensures.value
-    (c.deref-3.ensures.value ∙ c.truncate.ensures.items ∙ ap (take (length old)) least ∙ ap (λ k. take k (minimums t.cells t.config)) (sym c.in_ok-widths-2.ensures.long))
+    (c.deref-3.ensures.value ∙ c.truncate.ensures.items ∙ ap (take (length old)) least ∙ ap (λ k. take k (minimums t.cells t.config))
+    (sym c.in_ok-widths-2.ensures.long))
     (λ column. c.in_ok-content.ensures column ∙ ap (λ w. permitted_width w mins (side_columns c.shared_padding.result) column) c.deref-2.ensures.value)
     c.shared_padding.ensures.everywhere

@@ -75,10 +75,12 @@ returns-clause-put g c =
     let inv = c.cells.invariant in
     let given : Given g.C.IntoIterator.into_iter_gives g.C.IntoIter.Iterator.next_gives c.args.cells xs = search rules in
     let at : c.in_ok-column.column ≡ min (length xs) t.count = rw c.in_ok-column.was at inv.next in
-    let begun = subst (λ n. Sends a (g.S.TextSink.sent c.cells.sink) (part_front t lines.begun row n)) (sym at) (rw c.in_ok-column.was at inv.put) in (
+    let begun = subst (λ n. Sends a (g.S.TextSink.sent c.cells.sink) (part_front t lines.begun row n)) (sym at)
+    (rw c.in_ok-column.was at inv.put) in (
       xs,
       given,
       part-put t lines.begun row a _ _ c.end_row.result
-          ((rw inv.same at (c.end_row.ensures a lines.begun row)) (at ∙ ap (λ k. min k t.count) (sym (length-map xs g.C.Item.CellText.text))) begun)
+          ((rw inv.same at (c.end_row.ensures a lines.begun row))
+          (at ∙ ap (λ k. min k t.count) (sym (length-map xs g.C.Item.CellText.text))) begun)
           (rw c.in_ok-column.was at inv.begun),
     )

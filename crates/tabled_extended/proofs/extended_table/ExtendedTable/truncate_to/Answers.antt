@@ -29,7 +29,8 @@ returns g c =
     ] in
     record {
       ok = ok_both _ c.args.suffix.now widths old.fields.items (row_texts old.records.items) then.fields.items (row_texts rows) fields
-          (subst (λ (records : List (Vec (List ℕ) Global)). OnOk c.truncate_rows.result (AllZip (AllZip (change widths.values)) (row_texts records) (row_texts rows)))
+          (subst (λ (records : List (Vec (List ℕ) Global)). OnOk c.truncate_rows.result
+          (AllZip (AllZip (change widths.values)) (row_texts records) (row_texts rows)))
           same c.truncate_rows.ensures.ok);
       err = on_err_weaker _ (λ h. inr (fields, h))
           (subst (λ (records : List (Vec (List ℕ) Global)). OnErr c.truncate_rows.result

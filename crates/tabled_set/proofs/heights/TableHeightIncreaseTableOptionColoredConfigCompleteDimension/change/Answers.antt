@@ -23,6 +23,7 @@ returns-clause-promised g c =
     let some : is_empty cells ≡ false = search rules in
     let measured = c.in_ok-n.ensures.ok ∙ ap (λ (k : SpannedConfig). g.W.Measurement.measures s.size cells k) c.as_ref-config.ensures in
     let is =
-    heightened _ _ _ _ _ _ _ c.args.dims.now c.set_heights.new.self _ _ c.as_ref-config.ensures some measured c.in_ok-heights.ensures.total (c.deref.ensures.value ∙ c.in_ok-heights.ensures.heights)
+    heightened _ _ _ _ _ _ _ c.args.dims.now c.set_heights.new.self _ _ c.as_ref-config.ensures some measured
+    c.in_ok-heights.ensures.total (c.deref.ensures.value ∙ c.in_ok-heights.ensures.heights)
     c.set_heights.ensures.heights c.set_heights.ensures.widths _ (omega (arith, c.if-n-total.false)) c.in_ok-higher.ensures.grown in
     heightens _ _ _ _ _ _ _ left is cleared

@@ -11,7 +11,8 @@ returns-clause-promised g c =
     let some : is_empty cells ≡ false = search rules in
     let measured = c.in_ok-n.ensures.ok ∙ ap (λ (k : SpannedConfig). g.W.Measurement.measures s.size cells k) c.as_ref-config.ensures in
     let is =
-    lowered _ _ _ _ _ _ _ c.args.dims.now c.set_heights.new.self _ _ c.as_ref-config.ensures some measured c.in_ok-heights.ensures.total (c.deref.ensures.value ∙ c.in_ok-heights.ensures.heights)
+    lowered _ _ _ _ _ _ _ c.args.dims.now c.set_heights.new.self _ _ c.as_ref-config.ensures some measured c.in_ok-heights.ensures.total
+    (c.deref.ensures.value ∙ c.in_ok-heights.ensures.heights)
     c.set_heights.ensures.heights c.set_heights.ensures.widths _ _ _ (omega (arith, c.if-total-n.false))
     c.in_ok-lower.ensures.shrunk c.deref-2.ensures.value c.in_ok-change_cells.ensures.ok in
     limits _ _ _ _ _ _ _ _ left is cleared
