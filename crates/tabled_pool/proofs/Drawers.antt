@@ -1,7 +1,6 @@
 -- Boxes that are drawn one after another, and hand their sizes on.
 use Rattle.std.proofs.Common.{◌≡◌, ℕ, ◌+◌, ◌<◌, ◌≤◌, List, [], ◌∷◌, ◌++◌, length, map, drop, get_or, refl, sym, ap, subst, ◌∙◌}
-use Rattle.std.proofs.Common.{append_assoc, arith, add-one}
-use Rattle.std.proofs.Math.Seq.{drop-cons}
+use Rattle.std.proofs.Common.{append_assoc, arith}
 use Rattle.tabled_pool.specs.declared.sizes.BoxSpacing.{BoxSpacing}
 use Rattle.tabled_pool.specs.declared.tree.TableValue.{TableValue}
 use Rattle.tabled_pool.specs.declared.tree.TableValue.TheOpen.{Row, Column, Cell}
@@ -17,6 +16,7 @@ use Rattle.tabled_pool.specs.Inherited.{drawer, drawer_step, passes_across, pass
 use Rattle.tabled_pool.specs.Inherited.{joined as joined_children, to_last, with_passed}
 use Rattle.tabled_pool.specs.DrawnBlocks.{BlockSheet}
 use Rattle.tabled_pool.specs.Plan.{DrawingPlan}
+use Rattle.tabled_pool.proofs.Steps.{drop_first}
 
 -- ---- a drawer's box is that of its value
 
@@ -50,25 +50,17 @@ drawer-box t g = ind-TableValue (Same t g) (λ x y is.
 abbrev pub drawers_left : DrawingPlan → BoxSpacing → List TableValue → TableValue → List Drawer
 drawers_left t g front last = map (drawer t g) front ++ (drawer t g last ∷ [])
 
-pub drawers_all : (t : DrawingPlan) (g : BoxSpacing) (front : List TableValue) (last : TableValue)
-    → drawers_left t g front last ≡ map (drawer t g) (front ++ (last ∷ []))
-drawers_all t g [] last = refl
-drawers_all t g (v ∷ vs) last = ap (λ ds. drawer t g v ∷ ds) (drawers_all t g vs last)
-
 pub left-boxes : (t : DrawingPlan) (g : BoxSpacing) (front : List TableValue) (last : TableValue)
     → boxes (drawers_left t g front last) ≡ boxes_left g front last
 left-boxes t g [] last = ap (λ (b : Box). b ∷ []) (drawer-box t g last)
 left-boxes t g (v ∷ vs) last =
     ap (λ (b : Box). b ∷ boxes (drawers_left t g vs last)) (drawer-box t g v) ∙ ap (λ bs. box_of g v ∷ bs) (left-boxes t g vs last)
 
-drop-first : (ts : List TableValue) (i : ℕ) (d : TableValue) → i < length ts → drop i ts ≡ get_or ts i d ∷ drop (i + 1) ts
-drop-first ts i d h = rw (add-one, drop-cons ts i d) refl
-
 pub drawers_first : (t : DrawingPlan) (g : BoxSpacing) (front : List TableValue) (last : TableValue) (i : ℕ) (v : TableValue)
     → i < length front → v ≡ get_or front i v → drawers_left t g (drop i front) last
     ≡ drawer t g v ∷ drawers_left t g (drop (i + 1) front) last
 drawers_first t g front last i v h e =
-    ap (λ ts. drawers_left t g ts last) (drop-first front i v h)
+    ap (λ ts. drawers_left t g ts last) (drop_first front i v h)
     ∙ ap (λ u. drawer t g u ∷ drawers_left t g (drop (i + 1) front) last) (sym e)
 
 drawers-some : (t : DrawingPlan) (g : BoxSpacing) (front : List TableValue) (last : TableValue) → 0 < length (drawers_left t g front last)

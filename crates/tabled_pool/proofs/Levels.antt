@@ -1,10 +1,10 @@
 -- A list that is put below others, and those that are left.
 use Rattle.std.proofs.Common.{◌≡◌, ℕ, ◌+◌, List, [], ◌∷◌, ◌++◌, map, refl, ap, sym, arith, ◌∙◌}
 use Rattle.tabled_pool.specs.declared.copying.Level.{Level}
-use Rattle.std.proofs.lemmas.List.Sums.{sum_by-cons}
 use Rattle.tabled_pool.specs.Nodes.{nodes, nodes_in}
 use Rattle.tabled_pool.specs.declared.tree.TableValue.{TableValue}
 use Rattle.tabled_pool.specs.Tree.{Tree, tree_of}
+use Rattle.tabled_pool.proofs.NodeSums.{nodes_in_cons}
 use Rattle.tabled_pool.specs.Levels.{IsBegun, filled, left_in, list, within}
 
 pub within_push : (ls : List Level) (l : Level) (t : Tree) → within (ls ++ l ∷ []) t ≡ within ls (filled l t)
@@ -15,14 +15,11 @@ pub left_in_push : (ls : List Level) (l : Level) → left_in (ls ++ l ∷ []) �
 left_in_push [] l = omega arith
 left_in_push (m ∷ ls) l = let h : left_in (ls ++ l ∷ []) ≡ left_in ls + nodes_in l.left.now = left_in_push ls l in omega arith
 
-nodes_in-cons : (v : TableValue) (xs : List TableValue) → nodes_in (v ∷ xs) ≡ nodes v + nodes_in xs
-nodes_in-cons v xs = sum_by-cons (λ (x : ℕ). x) (nodes v) (map nodes xs)
-
 -- a list is begun
 pub begun : (levels : List Level) (l : Level) (first : TableValue) (children : List TableValue) → l.copies.items ≡ [] → children ≡ first ∷ l.left.now
     → IsBegun levels (list l.is_row (map tree_of children)) (nodes_in children) (levels ++ l ∷ []) first
 begun levels l first children e h =
-    let whole : nodes_in children ≡ nodes first + nodes_in l.left.now = rw h (nodes_in-cons first l.left.now) in
+    let whole : nodes_in children ≡ nodes first + nodes_in l.left.now = rw h (nodes_in_cons first l.left.now) in
     let more : left_in (levels ++ l ∷ []) ≡ left_in levels + nodes_in l.left.now = left_in_push levels l in
     record {
       same = within_push levels l (tree_of first)

@@ -8,6 +8,7 @@ pub mod Colours
 pub mod Cursors
 pub mod Drawn
 pub mod Inherited
+pub mod Inner
 pub mod Left
 pub mod Levels
 pub mod Margins

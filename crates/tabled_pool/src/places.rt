@@ -114,23 +114,19 @@ pub fn split(
     }
 }
 
-/// The size that the last of several boxes needs; `whole.own` is that of all of them.
-fn last_size(last: &TableValue, front: &[TableValue], spacing: &BoxSpacing, whole: BoxPlace) -> Size
-    requires alone { front.now ≡ [] → IsSize (Some whole.own) (box_of spacing.now last.now) }
-    requires fits { Fits (box_of spacing.now last.now) whole.place }
-    ensures { IsSize (Some result) (box_of spacing.now last.now) }
+/// The size that a box needs. It fits in the rectangle.
+fn size_within(value: &TableValue, spacing: &BoxSpacing, place: Rectangle) -> Size
+    requires { Fits (box_of spacing.now value.now) place }
+    ensures { IsSize (Some result) (box_of spacing.now value.now) }
 {
-    if front.is_empty() {
-        return whole.own;
-    }
-    let Some(own) = own_size(last, spacing) else {
+    let Some(own) = own_size(value, spacing) else {
         unreachable!()
     };
     own
 }
 
 #[cycle(places)]
-#[tactic(auto, using(crate::proofs::Steps::left_first, crate::proofs::Steps::left_all, crate::proofs::Steps::left_count,))]
+#[tactic(auto, using(crate::proofs::Steps::left_first, crate::proofs::Steps::left_all, crate::proofs::Steps::left_count, crate::proofs::NodeSums::nodes_in_push, crate::proofs::NodeSums::nodes_in_at, crate::proofs::NodeSums::inner_box, crate::proofs::NodeSums::inner_nodes,))]
 fn place_list<'a>(
     direction: Direction,
     children: &'a [TableValue],
@@ -163,13 +159,14 @@ fn place_list<'a>(
         left.count -= 1;
         place = cut.rest;
     }
-    let own = last_size(last, front, spacing, BoxPlace { place, ..whole });
+    let own = size_within(last, spacing, place);
     place_value(last, spacing, BoxPlace { own, place }, pieces)
 }
 
-/// Adds the texts of a tree and the borders between its boxes. Recurses at each level.
+/// Adds the texts of a tree and the borders between its boxes. Recurses at each level of several
+/// boxes.
 #[cycle(places)]
-#[tactic(auto, using(crate::proofs::Steps::left_first, crate::proofs::Steps::left_all, crate::proofs::Steps::left_count,))]
+#[tactic(auto, using(crate::proofs::Steps::left_first, crate::proofs::Steps::left_all, crate::proofs::Steps::left_count, crate::proofs::NodeSums::nodes_in_push, crate::proofs::NodeSums::nodes_in_at, crate::proofs::NodeSums::inner_box, crate::proofs::NodeSums::inner_nodes,))]
 pub fn place_value<'a>(
     value: &'a TableValue,
     spacing: &BoxSpacing,
@@ -181,7 +178,7 @@ pub fn place_value<'a>(
     ensures { IfOk result (λ _. map shown pieces.new.items ≡ map shown pieces.old.items
         ++ (box_of spacing.now value.now).parts whole.place) }
 {
-    match value {
+    match value.inner() {
         TableValue::Cell(text) => place_piece(Kind::Leaf, whole.place, text.as_str(), pieces),
         TableValue::Row(children) => {
             let children = children.as_slice();
@@ -195,7 +192,8 @@ pub fn place_value<'a>(
 }
 
 /// Adds the texts and borders of a tree and the borders around it, in a rectangle of their size.
-/// `frame` is the thickness of each outer border, in columns or lines. Recurses at each level.
+/// `frame` is the thickness of each outer border, in columns or lines. Recurses at each level of
+/// several boxes.
 #[tactic(auto, unfolding(crate::specs::Tiling::framed))]
 pub fn place_tree<'a>(
     value: &'a TableValue,

@@ -95,9 +95,10 @@ fn new_config() -> CompactMultilineConfig
 /// A table of nested boxes: each box holds a text, a row of boxes or a column of boxes. Its rows
 /// may have different numbers of cells.
 ///
-/// The stack limits how deep the value may be: printing, comparing and `is_plain` recurse at each
-/// level. On 8 MiB of stack, printing works to about 20,000 levels, or 15,000 with a text that is
-/// given no columns. A value that is too deep overflows the stack and ends the process; no proof
+/// The stack limits how deep the value may be. Printing recurses at each level of several boxes,
+/// and at every level if a text is given no columns; comparing and `is_plain` recurse at every
+/// level. On 8 MiB of stack, printing works to about 20,000 such levels, or 15,000 with a text that
+/// is given no columns. A value that is too deep overflows the stack and ends the process; no proof
 /// covers this. Copying and dropping a table don't recurse.
 ///
 /// A level of several boxes measures the last of them again, so the time of printing can grow with
@@ -337,9 +338,9 @@ impl PoolTable {
     /// left, and a text of no columns draws none. Boxes pass on to the next ones where borders
     /// meet. A table that is one empty line has no margin.
     ///
-    /// Recurses at each level of the value (see `PoolTable`). Drawing takes a time that grows with
-    /// the printed text. Without memory to find texts and borders by their columns, each run of a
-    /// line, and each coloured border character, takes passes over all of them.
+    /// Recurses at each level of several boxes (see `PoolTable`). Drawing takes a time that grows
+    /// with the printed text. Without memory to find texts and borders by their columns, each run
+    /// of a line, and each coloured border character, takes passes over all of them.
     pub fn write_to<S: TextSink>(&self, sink: &mut S) -> Result<(), TableError>
         ensures printed { WritesPool self.now (S.sent sink.old) result (S.sent sink.new) }
         ensures padded { IsPadded self.now → HasColumns self.now }

@@ -97,6 +97,7 @@ fn joined_size(
 
 /// Returns the size that boxes in a direction need, if it fits in `usize`.
 #[cycle(sizes)]
+#[tactic(auto, using(crate::proofs::NodeSums::nodes_in_cons, crate::proofs::NodeSums::nodes_in_at, crate::proofs::NodeSums::inner_box, crate::proofs::NodeSums::inner_nodes,))]
 pub fn list_size(
     direction: Direction,
     children: &[TableValue],
@@ -117,10 +118,11 @@ pub fn list_size(
 }
 
 #[cycle(sizes)]
+#[tactic(auto, using(crate::proofs::NodeSums::nodes_in_cons, crate::proofs::NodeSums::nodes_in_at, crate::proofs::NodeSums::inner_box, crate::proofs::NodeSums::inner_nodes,))]
 pub fn own_size(value: &TableValue, spacing: &BoxSpacing) -> Option<Size>
     ensures { IsSize result (box_of spacing.now value.now) }
 {
-    match value {
+    match value.inner() {
         TableValue::Cell(text) => leaf_size(text.as_str(), spacing),
         TableValue::Row(children) => list_size(Direction::Across, children.as_slice(), spacing),
         TableValue::Column(children) => list_size(Direction::Down, children.as_slice(), spacing),

@@ -1,13 +1,14 @@
-//! `TableValue`: a tree of texts, and how it is dropped.
+//! `TableValue`: a tree of texts, what is in its lists of one value, and how it is dropped.
 ghost use Rattle.std.specs.Prelude.{◌≡◌, ◌<◌, ◌≤◌, ◌+◌, IfSome, MatchOption};
 ghost use Rattle.tabled_pool.specs.Nodes.{nodes, nodes_in};
+ghost use Rattle.tabled_pool.specs.Inner.{IsInner, IsOnlyChild};
 
 use std::alloc::Global;
 
 /// A tree of texts, which a `PoolTable` prints. An empty row or column is drawn as an empty text.
 ///
-/// Comparing a tree recurses at each level, as printing it with a `PoolTable` does, which says how
-/// deep a tree may be. Copying and dropping a tree don't recurse.
+/// Comparing a tree recurses at each level. How deep a printed tree may be, `PoolTable` says.
+/// Copying and dropping a tree don't recurse.
 #[derive(Debug, PartialEq, Eq, PartialOrd, Ord)]
 pub enum TableValue {
     /// Values side by side, from the left.
@@ -24,6 +25,32 @@ impl TableValue {
         match self {
             TableValue::Row(children) | TableValue::Column(children) => *children.allocator(),
             TableValue::Cell(text) => *text.allocator(),
+        }
+    }
+
+    fn only_child(&self) -> Option<&TableValue>
+        ensures { IfSome result (λ child. IsOnlyChild self.now child.now) }
+    {
+        match self {
+            TableValue::Row(children) | TableValue::Column(children) => match children.as_slice() {
+                [child] => Some(child),
+                _ => None,
+            },
+            TableValue::Cell(_) => None,
+        }
+    }
+
+    /// Descends through lists of one value, which need no more than that. Returns the text or the
+    /// list in them.
+    pub(crate) fn inner(&self) -> &TableValue
+        ensures { IsInner self.now result.now }
+    {
+        let mut value = self;
+        'lists: loop {
+            match value.only_child() {
+                Some(child) => value = child,
+                None => return value,
+            }
         }
     }
 

@@ -1,4 +1,8 @@
-use Rattle.std.proofs.Common.{arith}
+use Rattle.std.proofs.Common.{◌≡◌, ◌*◌, ◌+◌, ◌<◌, Some, rules, arith}
+use Rattle.tabled_pool.specs.declared.tree.TableValue.TheFolds.{the_lemmas}
+use Rattle.tabled_pool.specs.Boxes.{IsSize, box_of}
+use Rattle.tabled_pool.specs.Nodes.{nodes, nodes_in}
+use Rattle.tabled_pool.specs.Shown.{Fits}
 use Rattle.tabled_pool.proofs.Directions.{fits_along, fits_bound}
 use Rattle.tabled_pool.proofs.Steps.{can_split, list_facts, list_next, list_parts_next}
 use Rattle.tabled_pool.proofs.places.+places.Goals as goal
@@ -61,3 +65,34 @@ place_list-loop-child-preserved t c =
         count = omega (arith, f.count, i.left.count);
       };
     }
+
+pub place_value-place_list-requires : goal.place_value-place_list-requires
+place_value-place_list-requires t c =
+    let g = c.args.spacing.now in
+    let vs = c.as_slice-children.result.now in
+    let e = c.inner.ensures.box g in
+    let n : nodes c.inner.result.now ≡ nodes_in vs + 1 = search (rules, the_lemmas) in
+    let fewer : 2 * nodes_in vs + 1 < 2 * nodes c.args.value.now = omega (arith, n, c.inner.ensures.fewer) in
+    let own : IsSize (Some c.args.whole.own) (box_of g c.inner.result.now) = rw e at c.requires.own in
+    let fits : Fits (box_of g c.inner.result.now) c.args.whole.place = rw e at c.requires.fits in
+    search (rules, the_lemmas)
+
+pub place_value-place_list-requires-in-Column : goal.place_value-place_list-requires-in-Column
+place_value-place_list-requires-in-Column t c =
+    let g = c.args.spacing.now in
+    let vs = c.as_slice-children-in-Column.result.now in
+    let e = c.inner.ensures.box g in
+    let n : nodes c.inner.result.now ≡ nodes_in vs + 1 = search (rules, the_lemmas) in
+    let fewer : 2 * nodes_in vs + 1 < 2 * nodes c.args.value.now = omega (arith, n, c.inner.ensures.fewer) in
+    let own : IsSize (Some c.args.whole.own) (box_of g c.inner.result.now) = rw e at c.requires.own in
+    let fits : Fits (box_of g c.inner.result.now) c.args.whole.place = rw e at c.requires.fits in
+    search (rules, the_lemmas)
+
+pub place_value-returns-in-Cell : goal.place_value-returns-in-Cell
+place_value-returns-in-Cell t c = rw (c.inner.ensures.box c.args.spacing.now) (search (rules, the_lemmas))
+
+pub place_value-returns-in-Row : goal.place_value-returns-in-Row
+place_value-returns-in-Row t c = rw (c.inner.ensures.box c.args.spacing.now) (search (rules, the_lemmas))
+
+pub place_value-returns-in-Column : goal.place_value-returns-in-Column
+place_value-returns-in-Column t c = rw (c.inner.ensures.box c.args.spacing.now) (search (rules, the_lemmas))

@@ -1,5 +1,6 @@
-use Rattle.std.proofs.Common.{map, drop}
+use Rattle.std.proofs.Common.{ℕ, ◌+◌, ◌*◌, map, drop}
 use Rattle.tabled_pool.specs.Boxes.{box_of, list_box}
+use Rattle.tabled_pool.specs.Nodes.{nodes, nodes_in}
 use Rattle.tabled_pool.specs.Left.{AreLeft, boxes_left, Placing}
 use Rattle.tabled_pool.proofs.places.+places.Given as goal
 
@@ -11,3 +12,9 @@ invariant-place_list-loop-child l =
           l.fn.whole.place l.place l.initial.pieces.items l.pieces.items;
       left : AreLeft l.direction l.spacing bs l.left;
     }
+
+abbrev pub decreases-place_list : goal.decreases-place_list
+decreases-place_list l = 2 * nodes_in l.children.now + 1
+
+abbrev pub decreases-place_value : goal.decreases-place_value
+decreases-place_value l = 2 * nodes l.value.now

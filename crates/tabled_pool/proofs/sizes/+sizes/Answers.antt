@@ -1,3 +1,5 @@
+use Rattle.std.proofs.Common.{rules}
+use Rattle.tabled_pool.specs.declared.tree.TableValue.TheFolds.{the_lemmas}
 use Rattle.tabled_pool.specs.Boxes.{sized}
 use Rattle.tabled_pool.proofs.Sums.{both_exceed, measured_more, next_exceeds, own_exceeds}
 use Rattle.tabled_pool.proofs.sizes.+sizes.Goals as goal
@@ -22,3 +24,12 @@ pub list_size-loop-child-preserved : goal.list_size-loop-child-preserved
 list_size-loop-child-preserved t c =
     measured_more c.args.direction c.args.spacing.now (sized c.loop-child.all) _ c.loop-child.child-index c.child-item.result _ _ _
     c.loop-child-test.true c.child-item.is c.loop-child.invariant c.in_ok-own.ensures c.in_ok-all-2.ensures
+
+pub own_size-returns-in-Cell : goal.own_size-returns-in-Cell
+own_size-returns-in-Cell t c = rw (c.inner.ensures.box c.args.spacing.now) (search (rules, the_lemmas))
+
+pub own_size-returns-in-Row : goal.own_size-returns-in-Row
+own_size-returns-in-Row t c = rw (c.inner.ensures.box c.args.spacing.now) (search (rules, the_lemmas))
+
+pub own_size-returns-in-Column : goal.own_size-returns-in-Column
+own_size-returns-in-Column t c = rw (c.inner.ensures.box c.args.spacing.now) (search (rules, the_lemmas))

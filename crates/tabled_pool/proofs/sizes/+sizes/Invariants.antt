@@ -1,5 +1,6 @@
-use Rattle.std.proofs.Common.{map, drop}
+use Rattle.std.proofs.Common.{ℕ, ◌+◌, ◌*◌, map, drop}
 use Rattle.tabled_pool.specs.Boxes.{box_of, list_box, sized}
+use Rattle.tabled_pool.specs.Nodes.{nodes, nodes_in}
 use Rattle.tabled_pool.proofs.Sums.{Measured}
 use Rattle.tabled_pool.proofs.sizes.+sizes.Given as goal
 
@@ -7,3 +8,9 @@ abbrev pub invariant-list_size-loop-child : goal.invariant-list_size-loop-child
 invariant-list_size-loop-child l =
     Measured l.direction l.spacing (sized l.all) (drop l.child-index l.rest)
     (list_box l.direction l.spacing (map (box_of l.spacing) l.children))
+
+abbrev pub decreases-list_size : goal.decreases-list_size
+decreases-list_size l = 2 * nodes_in l.children.now + 1
+
+abbrev pub decreases-own_size : goal.decreases-own_size
+decreases-own_size l = 2 * nodes l.value.now

@@ -1,0 +1,9 @@
+use Rattle.tabled_pool.specs.Inner.{IsInner}
+use Rattle.tabled_pool.specs.Nodes.{nodes}
+use Rattle.tabled_pool.proofs.tree.TableValue.inner.Given as goal
+
+abbrev pub invariant-lists : goal.invariant-lists
+invariant-lists l = IsInner l.self l.value
+
+abbrev pub decreases-lists : goal.decreases-lists
+decreases-lists l = nodes l.value
