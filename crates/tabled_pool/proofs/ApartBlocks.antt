@@ -1,5 +1,5 @@
 -- The columns of the lines of a block of any text.
-use Rattle.std.proofs.Common.{ℕ, zero, suc, ◌+◌, ◌-◌, ◌<◌, ◌≤◌, ltb, true, false, cond, List, length, get_or, append-nil, refl, sym, subst, arith, ⊎_elim, []}
+use Rattle.std.proofs.Common.{ℕ, zero, suc, ◌+◌, ◌-◌, ◌<◌, ◌≤◌, List, length, get_or, append-nil, refl, sym, subst, arith, []}
 use Rattle.std.specs.Str.{IsUtf8}
 use Rattle.tabled_text.specs.Measure.{lines_of, text_columns, line_columns}
 use Rattle.tabled_text.proofs.Bridge.{line_columns-le}
@@ -10,7 +10,7 @@ use Rattle.tabled_text.proofs.Ends.{closes-append, closes-frame, closes-framed, 
 use Rattle.tabled_config.specs.declared.spanned.CellStyle.{CellStyle}
 use Rattle.tabled_line.specs.Block.{inner_width, columns_before, cell_line}
 use Rattle.tabled_line.specs.Fill.{fill}
-use Rattle.tabled_pool.specs.Block.{lines_above, line_below, pool_block, text_line, without_sides}
+use Rattle.tabled_pool.specs.Block.{pool_block, text_line, without_sides}
 use Rattle.tabled_pool.specs.Characters.{EachFill}
 use Rattle.tabled_pool.specs.Colours.{coloured, no_mark}
 use Rattle.tabled_pool.proofs.PoolBlocks.{each_line}

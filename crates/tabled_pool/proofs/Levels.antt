@@ -1,5 +1,5 @@
 -- A list that is put below others, and those that are left.
-use Rattle.std.proofs.Common.{◌≡◌, ℕ, ◌+◌, List, [], ◌∷◌, ◌++◌, map, refl, ap, sym, arith, ◌∙◌}
+use Rattle.std.proofs.Common.{◌≡◌, ◌+◌, List, [], ◌∷◌, ◌++◌, map, refl, ap, sym, arith, ◌∙◌}
 use Rattle.tabled_pool.specs.declared.copying.Level.{Level}
 use Rattle.tabled_pool.specs.Nodes.{nodes, nodes_in}
 use Rattle.tabled_pool.specs.declared.tree.TableValue.{TableValue}

@@ -8,16 +8,15 @@ use Rattle.tabled_pool.specs.declared.color_marks.RunSide.{RunSide}
 use Rattle.tabled_pool.specs.declared.color_marks.RunSide.TheVariants.{Before, Inside as Within, Behind, Outside}
 use Rattle.tabled_pool.specs.declared.pieces.Piece.{Piece}
 use Rattle.tabled_pool.specs.declared.pieces.Rectangle.{Rectangle}
-use Rattle.tabled_config.specs.Frame.{has_left}
 use Rattle.tabled_pool.specs.Around.{across, around_at, around_part, around_text, beside, is_last_row, run_side}
 use Rattle.tabled_pool.specs.Boxes.{Part, is_line_kind}
 use Rattle.tabled_pool.specs.Plan.{has_top, DrawingPlan}
 use Rattle.tabled_pool.specs.Marks.{Around}
 use Rattle.tabled_pool.specs.Numbers.{AreSized, IsEarlier, IsNumber, IsSized, Skips, SkipsBeside}
-use Rattle.tabled_pool.specs.Owner.{contains, owner}
+use Rattle.tabled_pool.specs.Owner.{contains}
 use Rattle.tabled_pool.specs.Plans.{around_of}
 use Rattle.tabled_pool.specs.Shown.{shown}
-use Rattle.tabled_pool.specs.Tiling.{AreTiles, covering, within}
+use Rattle.tabled_pool.specs.Tiling.{AreTiles}
 use Rattle.tabled_pool.proofs.Listed.{number-unique, piece_owns}
 use Rattle.tabled_pool.proofs.Owners.{inside-within, within-le, le-or}
 

@@ -3,9 +3,6 @@ use Rattle.std.proofs.Common.{◌≡◌, ℕ, zero, suc, ◌+◌, ◌<◌, ◌�
 use Rattle.std.proofs.lemmas.List.{map-append}
 use Rattle.std.proofs.lemmas.List.Sums.{sum_by-cons, sum_by_push}
 use Rattle.tabled_pool.specs.declared.tree.TableValue.{TableValue}
-use Rattle.tabled_pool.specs.declared.sizes.BoxSpacing.{BoxSpacing}
-use Rattle.tabled_pool.specs.Boxes.{box_of}
-use Rattle.tabled_pool.specs.Inner.{IsInner}
 use Rattle.tabled_pool.specs.Nodes.{nodes, nodes_in}
 
 pub nodes_in_cons : (v : TableValue) (xs : List TableValue) → nodes_in (v ∷ xs) ≡ nodes v + nodes_in xs
@@ -18,9 +15,3 @@ pub nodes_in_at : (xs : List TableValue) (i : ℕ) (d : TableValue) → i < leng
 nodes_in_at [] i d h = absurd (omega arith)
 nodes_in_at (v ∷ xs) zero d h = omega (arith, nodes_in_cons v xs)
 nodes_in_at (v ∷ xs) (suc i) d h = let m : nodes (get_or xs i d) ≤ nodes_in xs = nodes_in_at xs i d (omega arith) in omega (arith, nodes_in_cons v xs)
-
-pub inner_box : (g : BoxSpacing) (v w : TableValue) → IsInner v w → box_of g v ≡ box_of g w
-inner_box g v w i = i.box g
-
-pub inner_nodes : (v w : TableValue) → IsInner v w → nodes w ≤ nodes v
-inner_nodes v w i = i.fewer

@@ -1,5 +1,5 @@
 -- The columns of the lines of a block.
-use Rattle.std.proofs.Common.{◌≡◌, ◌++◌, ◌∙◌, ap, append_assoc, ℕ, ◌+◌, ◌-◌, ◌<◌, ◌≤◌, ltb, true, false, cond, List, [], length, get_or, append-nil, sym, subst, arith, ⊎_elim}
+use Rattle.std.proofs.Common.{◌≡◌, ◌++◌, ◌∙◌, ap, append_assoc, ℕ, ◌+◌, ◌-◌, ◌<◌, ◌≤◌, true, false, cond, List, [], length, get_or, append-nil, sym, subst, arith}
 use Rattle.tabled_text.specs.Measure.{lines_of, text_columns, line_columns}
 use Rattle.tabled_text.specs.Plain.{IsAdditive, IsAdditiveColumn, IsAdditiveLine}
 use Rattle.tabled_text.proofs.Bridge.{line_columns-le}
@@ -12,7 +12,7 @@ use Rattle.tabled_line.specs.Fill.{fill, indent}
 use Rattle.tabled_line.proofs.Plains.{plain-fill}
 use Rattle.tabled_config.specs.declared.sides.Sides.{Sides}
 use Rattle.tabled_config.specs.Compact.{each_side}
-use Rattle.tabled_pool.specs.Block.{lines_above, line_below, pool_block, text_line, without_sides}
+use Rattle.tabled_pool.specs.Block.{pool_block, text_line, without_sides}
 use Rattle.tabled_pool.specs.Characters.{EachFill}
 use Rattle.tabled_pool.specs.Colours.{Mark, coloured, no_mark}
 use Rattle.tabled_pool.proofs.PoolBlocks.{each_line}

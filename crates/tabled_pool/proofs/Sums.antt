@@ -1,5 +1,5 @@
 -- The sizes of boxes one after another, from the front.
-use Rattle.std.proofs.Common.{◌≡◌, ℕ, ◌+◌, ◌^◌, ◌<◌, ◌≤◌, List, [], ◌∷◌, None, Some, length, map, drop, get_or, ap, sym, subst, ◌∙◌, arith, ⊎_elim, inl, inr}
+use Rattle.std.proofs.Common.{◌≡◌, ℕ, ◌+◌, ◌<◌, ◌≤◌, List, [], ◌∷◌, None, Some, length, map, drop, get_or, ap, sym, subst, ◌∙◌, arith, ⊎_elim, inl, inr}
 use Rattle.tabled_pool.specs.declared.sizes.Size.{Size}
 use Rattle.tabled_pool.specs.declared.tree.TableValue.{TableValue}
 use Rattle.tabled_pool.proofs.Steps.{drop_first}

@@ -126,7 +126,7 @@ fn size_within(value: &TableValue, spacing: &BoxSpacing, place: Rectangle) -> Si
 }
 
 #[cycle(places)]
-#[tactic(auto, using(crate::proofs::Steps::left_first, crate::proofs::Steps::left_all, crate::proofs::Steps::left_count, crate::proofs::NodeSums::nodes_in_push, crate::proofs::NodeSums::nodes_in_at, crate::proofs::NodeSums::inner_box, crate::proofs::NodeSums::inner_nodes,))]
+#[tactic(auto, using(crate::proofs::Steps::left_first, crate::proofs::Steps::left_all, crate::proofs::Steps::left_count, crate::proofs::NodeSums::nodes_in_push, crate::proofs::NodeSums::nodes_in_at))]
 fn place_list<'a>(
     direction: Direction,
     children: &'a [TableValue],
@@ -166,7 +166,7 @@ fn place_list<'a>(
 /// Adds the texts of a tree and the borders between its boxes. Recurses at each level of several
 /// boxes.
 #[cycle(places)]
-#[tactic(auto, using(crate::proofs::Steps::left_first, crate::proofs::Steps::left_all, crate::proofs::Steps::left_count, crate::proofs::NodeSums::nodes_in_push, crate::proofs::NodeSums::nodes_in_at, crate::proofs::NodeSums::inner_box, crate::proofs::NodeSums::inner_nodes,))]
+#[tactic(auto, using(crate::proofs::Steps::left_first, crate::proofs::Steps::left_all, crate::proofs::Steps::left_count, crate::proofs::NodeSums::nodes_in_push, crate::proofs::NodeSums::nodes_in_at))]
 pub fn place_value<'a>(
     value: &'a TableValue,
     spacing: &BoxSpacing,

@@ -97,7 +97,7 @@ fn joined_size(
 
 /// Returns the size that boxes in a direction need, if it fits in `usize`.
 #[cycle(sizes)]
-#[tactic(auto, using(crate::proofs::NodeSums::nodes_in_cons, crate::proofs::NodeSums::nodes_in_at, crate::proofs::NodeSums::inner_box, crate::proofs::NodeSums::inner_nodes,))]
+#[tactic(auto, using(crate::proofs::NodeSums::nodes_in_cons, crate::proofs::NodeSums::nodes_in_at))]
 pub fn list_size(
     direction: Direction,
     children: &[TableValue],
@@ -118,7 +118,7 @@ pub fn list_size(
 }
 
 #[cycle(sizes)]
-#[tactic(auto, using(crate::proofs::NodeSums::nodes_in_cons, crate::proofs::NodeSums::nodes_in_at, crate::proofs::NodeSums::inner_box, crate::proofs::NodeSums::inner_nodes,))]
+#[tactic(auto, using(crate::proofs::NodeSums::nodes_in_cons, crate::proofs::NodeSums::nodes_in_at))]
 pub fn own_size(value: &TableValue, spacing: &BoxSpacing) -> Option<Size>
     ensures { IsSize result (box_of spacing.now value.now) }
 {

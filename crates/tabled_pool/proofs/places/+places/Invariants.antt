@@ -1,4 +1,4 @@
-use Rattle.std.proofs.Common.{ℕ, ◌+◌, ◌*◌, map, drop}
+use Rattle.std.proofs.Common.{◌+◌, ◌*◌, map, drop}
 use Rattle.tabled_pool.specs.Boxes.{box_of, list_box}
 use Rattle.tabled_pool.specs.Nodes.{nodes, nodes_in}
 use Rattle.tabled_pool.specs.Left.{AreLeft, boxes_left, Placing}
