@@ -7,7 +7,7 @@ use Rattle.tabled_line.specs.Fill.{fill}
 use Rattle.tabled_text.specs.Measure.{lines_of}
 use Rattle.tabled_line.specs.Block.{fill_above, fill_below, cell_line, block, free_lines, above_text}
 
-past_from_none : {X : Type 0} (xs : List X) (k : ℕ) → None ≡ slice_get xs k → length xs ≤ k
+pub past_from_none : {X : Type 0} (xs : List X) (k : ℕ) → None ≡ slice_get xs k → length xs ≤ k
 past_from_none xs k e =
     ⊎_elim (λ h. absurd (let f : Some h.0 ≡ None = sym h.2 ∙ sym e in cc)) (λ h. h.0) (slice_get_cases xs k).1
 

@@ -7,11 +7,11 @@ use Rattle.tabled_line.specs.PlacedText.{IsPlacedText}
 use Rattle.tabled_line.specs.declared.placement.PlacedText.{PlacedText}
 
 -- spaces and the cell: the spaces, the vertical line and the spaces before the text, the text, and the spaces behind it
-pub spaced-parts : (row : RowSheet) (column : ℕ) (placed : PlacedText) (n : ℕ) → IsPlacedText row column placed
-    → fill 32 n ++ cell_piece row 0 column
+pub spaced-parts : (row : RowSheet) (index column : ℕ) (placed : PlacedText) (n : ℕ) → IsPlacedText row index column placed
+    → fill 32 n ++ cell_piece row index column
     ≡ (fill 32 n ++ (piece (has_bar row.columns.frame column) row.columns.frame.inner.main ++ fill 32 placed.before)) ++ (placed.text.now ++ fill 32 placed.behind)
 unfolding cell_piece
-spaced-parts row column placed n h =
+spaced-parts row index column placed n h =
     let bar = piece (has_bar row.columns.frame column) row.columns.frame.inner.main in
     ap (λ u. fill 32 n ++ (bar ++ u)) h.spaced.line_is ∙ regroup (fill 32 n) bar (fill 32 placed.before) (placed.text.now ++ fill 32 placed.behind)
   where

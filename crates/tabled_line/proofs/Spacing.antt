@@ -1,8 +1,12 @@
--- Texts that stand between spaces in rows of one line.
-use Rattle.std.proofs.Common.{◌≡◌, ℕ, ◌+◌, ◌-◌, ◌≤◌, Bool, true, false, cond, List, [], ◌++◌, length, get_or, slice_get, refl, sym, ◌∙◌, ap, append_assoc, arith}
-use Rattle.std.proofs.lemmas.Option.{slice_get-get_or}
+-- Texts that stand between spaces.
+use Rattle.std.proofs.Common.{◌≡◌, ℕ, ◌+◌, ◌-◌, ◌<◌, ◌≤◌, Bool, true, false, cond, List, [], ◌++◌, Some, length, slice_get, refl, subst, sym, ◌∙◌, ap, append_assoc, arith, inl, inr}
+use Rattle.std.specs.List.{slice_index_or}
+use Rattle.std.proofs.lemmas.Bool.{cases_lt}
+use Rattle.std.proofs.lemmas.List.{get_or_past}
+use Rattle.std.proofs.lemmas.Option.{slice_get-get_or, slice_get_past}
 use Rattle.tabled_text.specs.Measure.{line_columns, lines_of, text_columns}
-use Rattle.tabled_text.proofs.Bridge.{some_line}
+use Rattle.tabled_text.proofs.Bridge.{line_columns-le, some_line}
+use Rattle.tabled_text.proofs.Ends.{line-nil}
 use Rattle.tabled_config.specs.declared.sides.Indent.{Indent}
 use Rattle.tabled_config.specs.declared.alignment.AlignmentHorizontal.{AlignmentHorizontal}
 use Rattle.tabled_config.specs.declared.alignment.AlignmentHorizontal.TheVariants as horizontal
@@ -10,10 +14,13 @@ use Rattle.tabled_config.specs.declared.alignment.AlignmentVertical.{AlignmentVe
 use Rattle.tabled_config.specs.declared.alignment.AlignmentVertical.TheVariants as vertical
 use Rattle.tabled_config.specs.declared.spanned.CellStyle.{CellStyle}
 use Rattle.tabled_line.specs.Placements.{IsSpaced}
-use Rattle.tabled_line.specs.Block.{above_text, before_text, block, cell_line, columns_before, fill_above, first_line, inner_width}
+use Rattle.tabled_line.specs.Block.{above_text, before_text, cell_line, columns_before, fill_above, free_lines, inner_width}
+use Rattle.tabled_line.specs.Cursors.{IsTextLine}
 use Rattle.tabled_line.specs.Fill.{fill, indent}
 use Rattle.tabled_line.specs.Row.{RowSheet, block_line}
-use Rattle.tabled_line.proofs.Blocks.{block-text}
+use Rattle.tabled_line.specs.RowLines.{IsCellText, IsTop}
+use Rattle.tabled_line.specs.declared.cursor.TextLine.{TextLine}
+use Rattle.tabled_line.proofs.Blocks.{block-below, block-text}
 use Rattle.tabled_line.proofs.Fills.{fill-add}
 
 above-none : (v : AlignmentVertical) (n : ℕ) → n ≡ 0 → above_text v n ≡ 0
@@ -25,16 +32,6 @@ pub before-within : (h : AlignmentHorizontal) (n : ℕ) → before_text h n ≤ 
 before-within horizontal.Left n = omega arith
 before-within horizontal.Center n = omega arith
 before-within horizontal.Right n = omega arith
-
--- the free columns of a line, those before it, and the spaces behind it
-abbrev pub free_of : CellStyle → ℕ → List ℕ → ℕ
-free_of s w line = inner_width s w - line_columns line
-
-abbrev pub left_of : CellStyle → ℕ → List ℕ → ℕ
-left_of s w line = s.padding.left.size + before_text s.horizontal (free_of s w line)
-
-abbrev pub right_of : CellStyle → ℕ → List ℕ → ℕ
-right_of s w line = free_of s w line - before_text s.horizontal (free_of s w line) + s.padding.right.size
 
 either-way : (b : Bool) (x y : ℕ) → y ≡ x → cond b x y ≡ x
 either-way true x y e = refl
@@ -61,31 +58,91 @@ cell_line-between s w text line shift before behind spaced_left spaced_right own
     ∙ sym (append_assoc (fill 32 left.size) (fill 32 shift) (line ++ fill 32 behind))
     ∙ ap (λ u. u ++ (line ++ fill 32 behind)) (sym (fill-add 32 left.size shift before (sym front)))
 
--- likewise one of a text that takes no more columns
-cell_line-spaced : (s : CellStyle) (w : ℕ) (text line : List ℕ) → IsSpaced s.padding → text_columns text ≡ line_columns line
-    → cell_line s w text line ≡ fill 32 (left_of s w line) ++ (line ++ fill 32 (right_of s w line))
-cell_line-spaced s w text line h widest =
-    let own : columns_before s (inner_width s w) text line ≡ before_text s.horizontal (free_of s w line) =
-    ap (λ u. before_text s.horizontal (inner_width s w - u)) (either-way s.line_alignment (line_columns line) (text_columns text) widest) in
-    cell_line-between s w text line _ _ _ h.left h.right (sym own) refl (omega arith)
+-- ---- the line of a cell's text
 
--- the only line of its block
-block-spaced : (s : CellStyle) (w : ℕ) (text : List ℕ) → IsSpaced s.padding → text_columns text ≡ line_columns (first_line text)
-    → get_or (block s w 1 text) 0 [] ≡ fill 32 (left_of s w (first_line text)) ++ (first_line text ++ fill 32 (right_of s w (first_line text)))
-block-spaced s w text h widest =
+-- a text with spaces below it begins in the first line of its cell
+pub top-above : (s : CellStyle) (h : ℕ) (text : List ℕ) → IsTop s → fill_above s h text ≡ 0
+top-above s h text top = omega (arith, top.above, ap (λ v. above_text v (free_lines s h text)) top.vertical_is)
+
+-- likewise one whose only line in a row is the first
+pub only-above : (s : CellStyle) (text : List ℕ) → s.padding.top.size ≡ 0 → fill_above s 1 text ≡ 0
+only-above s text top =
     let some = some_line text in
-    let top = h.top in
-    let none : fill_above s 1 text ≡ 0 = (let a = above-none s.vertical (1 - length (lines_of text) - s.padding.top.size - s.padding.bottom.size) (omega arith) in omega arith) in
-    let first : 0 - fill_above s 1 text ≡ 0 = omega arith in
-    block-text s w 1 text 0 (first_line text) (omega arith) (omega arith)
-    (sym (ap (slice_get (lines_of text)) first ∙ slice_get-get_or (lines_of text) 0 [] some))
-    ∙ cell_line-spaced s w text (first_line text) h widest
+    let none = above-none s.vertical (free_lines s 1 text) (omega arith) in
+    omega arith
 
-pub first-spaced : (row : RowSheet) (column : ℕ) → row.height ≡ 1 → IsSpaced (row.style column).padding
-    → text_columns (row.text column) ≡ line_columns (first_line (row.text column))
-    → block_line row 0 column ≡ fill 32 (left_of (row.style column) (row.columns.width column) (first_line (row.text column)))
-    ++ (first_line (row.text column) ++ fill 32 (right_of (row.style column) (row.columns.width column) (first_line (row.text column))))
-first-spaced row column height h widest =
+-- a line of a text is no wider than the text
+pub line-within : {text : List ℕ} {index : ℕ} {line : TextLine} → IsTextLine text index line → line.columns ≤ line.widest
+line-within {text} {index} {line} h =
+    let columns = h.columns_are ∙ ap line_columns h.text_is in
+    elim (cases_lt index (length (lines_of text))) [
+      | inl within ↦ omega (arith, columns, h.widest_is, line_columns-le text index within)
+      | inr past ↦
+          let none : line_columns (slice_index_or (lines_of text) index []) ≡ 0 = ap line_columns (get_or_past (lines_of text) index [] past) ∙ line-nil.columns in
+          omega (arith, columns, none)
+    ]
+
+-- the columns before a line, if all lines are aligned alike or the line is as wide as its text
+pub shift-is : {row : RowSheet} {index column : ℕ} {line : TextLine} (w : ℕ) → IsCellText row index column line
+    → before_text (row.style column).horizontal (inner_width (row.style column) w - line.widest)
+    ≡ columns_before (row.style column) (inner_width (row.style column) w) (row.text column) line.text.now
+shift-is {row} {index} {column} {line} w h =
+    let s = row.style column in
+    let room = inner_width s w in
+    let at : ℕ → ℕ = λ n. before_text s.horizontal (room - n) in
+    let cols = line_columns line.text.now in
+    let all = text_columns (row.text column) in
+    let wide : line.widest ≡ line.columns → all ≡ cols = λ e. sym h.line_is.widest_is ∙ e ∙ h.line_is.columns_are in
+    let P : ℕ → Type 0 = λ n. at n ≡ columns_before s room (row.text column) line.text.now in
+    subst P (sym h.line_is.widest_is)
+    (elim h.alone as (λ _. P all) [
+      | inl top ↦ sym (ap (λ b. at (cond b cols all)) top.alike)
+      | inr only ↦ sym (ap at (either-way s.line_alignment cols all (wide only.1) ∙ sym (wide only.1)))
+    ])
+
+above-is : {row : RowSheet} {index column : ℕ} {line : TextLine} → IsCellText row index column line → (row.style column).padding.top.size ≡ 0
+    → fill_above (row.style column) row.height (row.text column) ≡ 0
+above-is {row} {index} {column} h top =
+    let s = row.style column in
+    elim h.alone [
+      | inl is ↦ top-above s row.height (row.text column) is
+      | inr only ↦ ap (λ n. fill_above s n (row.text column)) only.0 ∙ only-above s (row.text column) top
+    ]
+
+-- a line of a cell is the line of its text between spaces
+pub cell-spaced : {row : RowSheet} {index column : ℕ} {line : TextLine} (shift before behind : ℕ) → index < row.height
+    → IsCellText row index column line → IsSpaced (row.style column).padding
+    → shift ≡ before_text (row.style column).horizontal (inner_width (row.style column) (row.columns.width column) - line.widest)
+    → before ≡ (row.style column).padding.left.size + shift
+    → behind ≡ inner_width (row.style column) (row.columns.width column) - shift - line.columns + (row.style column).padding.right.size
+    → before + (line.columns + behind) ≡ row.columns.width column
+    → block_line row index column ≡ fill 32 before ++ (line.text.now ++ fill 32 behind)
+cell-spaced {row} {index} {column} {line} shift before behind inside h spaced own front back whole =
+    let s = row.style column in
     let w = row.columns.width column in
     let text = row.text column in
-    ap (λ n. get_or (block (row.style column) w n text) 0 []) height ∙ block-spaced (row.style column) w text h widest
+    let above = above-is h spaced.top in
+    let first : index ≡ index - fill_above s row.height text = omega (arith, above) in
+    elim (cases_lt index (length (lines_of text))) [
+      | inl within ↦
+          let is : Some line.text.now ≡ slice_get (lines_of text) index =
+          ap Some h.line_is.text_is ∙ sym (slice_get-get_or (lines_of text) index [] within) in
+          block-text s w row.height text index line.text.now inside (omega (arith, above)) (is ∙ ap (slice_get (lines_of text)) first)
+          ∙ cell_line-between s w text line.text.now shift before behind spaced.left spaced.right (own ∙ shift-is w h) front
+          (omega (arith, back, h.line_is.columns_are))
+      | inr past ↦
+          let none : line.text.now ≡ [] = h.line_is.text_is ∙ get_or_past (lines_of text) index [] past in
+          let columns : line.columns ≡ 0 = h.line_is.columns_are ∙ ap line_columns none ∙ line-nil.columns in
+          let is = sym (slice_get_past (lines_of text) index past) ∙ ap (slice_get (lines_of text)) first in
+          block-below s w row.height text index inside (omega (arith, above)) is
+          ∙ ap (λ c. fill c w) (below h past)
+          ∙ fill-add 32 before behind w (omega (arith, whole, columns))
+          ∙ ap (λ t. fill 32 before ++ (t ++ fill 32 behind)) (sym none)
+    ]
+  where
+    below : IsCellText row index column line → length (lines_of (row.text column)) ≤ index → (row.style column).padding.bottom.fill ≡ 32
+    below h past =
+        elim h.alone [
+          | inl top ↦ top.below
+          | inr only ↦ let some = some_line (row.text column) in absurd (omega (arith, some, only.0, inside, past))
+        ]

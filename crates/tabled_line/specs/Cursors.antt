@@ -1,28 +1,45 @@
 -- Cursors in the texts of a row.
-use Rattle.std.specs.Prelude.{◌≡◌, ℕ, List, None, IfSome, drop}
+use Rattle.std.specs.Prelude.{◌≡◌, ◌+◌, ◌-◌, ◌<◌, ◌≤◌, ℕ, List, [], None, IfSome, drop, length, slice_get}
 use Rattle.std.specs.List.{slice_index_or}
+use Rattle.std.specs.Option.{option_map}
 use Rattle.tabled_text.specs.Lines.{lines_in}
-use Rattle.tabled_text.specs.Measure.{lines_of}
-use Rattle.tabled_line.specs.declared.cursor.BegunCell.{BegunCell}
+use Rattle.tabled_text.specs.Measure.{line_columns, lines_of, text_columns}
+use Rattle.tabled_line.specs.Block.{fill_above}
+use Rattle.tabled_line.specs.Row.{RowSheet}
 use Rattle.tabled_line.specs.declared.cursor.Cursor.{Cursor}
-use Rattle.tabled_line.specs.declared.cursor.LinePlace.{LinePlace}
+use Rattle.tabled_line.specs.declared.cursor.TextLine.{TextLine}
 
--- the lines from the position on are the lines of the text from its number on
-abbrev pub IsPlace : List ℕ → LinePlace → Type 0
-IsPlace text place = lines_in place.rest ≡ drop place.line (lines_of text)
+-- before line `index` of a row, in which `above` lines come before the text: how many of these and
+-- which lines of the text are left
+pub record IsAhead (text : List ℕ) (above index : ℕ) (cursor : Cursor) : Type 0 where
+  pub above_is : cursor.above ≡ above - index
+  pub rest_is : lines_in cursor.rest ≡ drop (index - above) (lines_of text)
+  pub widest_is : cursor.widest ≡ text_columns text
 
--- a cell with this text, and a position in it
-abbrev pub IsBegun : List ℕ → BegunCell → Type 0
-IsBegun text cell = (cell.content.text.now ≡ text) × IsPlace cell.content.text.now cell.place
+-- in line `index` of a row, which has this line of the text unless it is above the text
+pub record IsAt (text : List ℕ) (above index : ℕ) (cursor : Cursor) : Type 0 where
+  pub ahead : IsAhead text above (index + 1) cursor
+  pub line_is : above ≤ index → option_map (λ line. line.0.now) cursor.line ≡ slice_get (lines_of text) (index - above)
+  pub columns_are : IfSome cursor.line (λ line. line.1 ≡ line_columns line.0.now)
+
+-- a line of a text, which is empty past the last one
+pub record IsTextLine (text : List ℕ) (index : ℕ) (line : TextLine) : Type 0 where
+  pub text_is : line.text.now ≡ slice_index_or (lines_of text) index []
+  pub columns_are : line.columns ≡ line_columns line.text.now
+  pub widest_is : line.widest ≡ text_columns text
 
 -- a cursor that isn't in a text yet
 abbrev pub nowhere : Cursor
-nowhere = record { cell = None }
+nowhere = record { above = 0; line = None; rest = None; widest = 0 }
 
 -- the cursor of a column
 abbrev pub cursor_of : List Cursor → ℕ → Cursor
 cursor_of cursors column = slice_index_or cursors column nowhere
 
--- each cursor that is in a text is in that of its column
-abbrev pub AreCursors : (ℕ → List ℕ) → List Cursor → Type 0
-AreCursors texts cursors = (column : ℕ) → IfSome (cursor_of cursors column).cell (IsBegun (texts column))
+-- a cursor is in the text of a cell, in line `index` of the row
+abbrev pub IsCursor : RowSheet → ℕ → ℕ → Cursor → Type 0
+IsCursor row index column cursor = IsAt (row.text column) (fill_above (row.style column) row.height (row.text column)) index cursor
+
+-- the cursors of the first columns are in line `index` of the row
+abbrev pub AreAt : RowSheet → ℕ → List Cursor → Type 0
+AreAt row index cursors = (column : ℕ) → column < length cursors → IsCursor row index column (cursor_of cursors column)

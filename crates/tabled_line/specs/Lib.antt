@@ -12,6 +12,7 @@ pub mod Offsets
 pub mod Plain
 pub mod Buffers
 pub mod Row
+pub mod RowLines
 pub mod SendsBut
 pub mod Sent
 pub mod Slots

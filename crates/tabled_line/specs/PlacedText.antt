@@ -9,8 +9,8 @@ pub record IsSpacedLine (line : List ℕ) (width : ℕ) (placed : PlacedText) : 
   pub line_is : line ≡ fill 32 placed.before ++ (placed.text.now ++ fill 32 placed.behind)
   pub whole : placed.before + (placed.columns + placed.behind) ≡ width
 
--- the first line of a cell is the text between spaces; those before the text are the padding and
+-- line `index` of a cell is the text between spaces; those before the text are the padding and
 -- `shift` more
-pub record IsPlacedText (row : RowSheet) (column : ℕ) (placed : PlacedText) : Type 0 where
-  pub spaced : IsSpacedLine (block_line row 0 column) (row.columns.width column) placed
+pub record IsPlacedText (row : RowSheet) (index column : ℕ) (placed : PlacedText) : Type 0 where
+  pub spaced : IsSpacedLine (block_line row index column) (row.columns.width column) placed
   pub shifted : placed.before ≡ (row.style column).padding.left.size + placed.shift

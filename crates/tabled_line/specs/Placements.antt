@@ -1,4 +1,4 @@
--- The placements of the texts in a row of one line.
+-- The placements of the texts in a row.
 use Rattle.std.specs.Prelude.{◌≡◌, ℕ, ◌+◌, ◌<◌, ◌≤◌, List, map}
 use Rattle.std.specs.List.{range_with_len}
 use Rattle.tabled_config.specs.declared.sides.Indent.{Indent}

@@ -32,8 +32,9 @@ pub record IsTemplateOf (columns : ColumnSheet) (template : RowTemplate) : Type 
 pub record IsTextAt (describes : RowSheet → Type 0) (slot : Slot) (first column : ℕ) (placed : PlacedText)
     : Type 0 where
   pub row : RowSheet
+  pub index : ℕ
   pub known : describes row
   pub inside : column < row.columns.count
   pub listed : slot ≡ slot_at row.columns column
   pub first_is : first ≡ first_offset row.columns
-  pub placed_is : IsPlacedText row column placed
+  pub placed_is : IsPlacedText row index column placed

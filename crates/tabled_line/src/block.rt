@@ -3,14 +3,13 @@ ghost use Rattle.std.specs.Prelude.{◌≡◌, ◌≤◌, ◌<◌, ◌-◌, ◌^
 ghost use Rattle.std.specs.List.{slice_index_or};
 ghost use Rattle.tabled_text.specs.Measure.{line_columns};
 ghost use Rattle.tabled_line.specs.Block.{above_text, before_text, block, cell_line};
-ghost use Rattle.tabled_line.specs.Block.{columns_before, free_lines, inner_width};
-ghost use Rattle.tabled_line.specs.Cursors.{IsPlace};
+ghost use Rattle.tabled_line.specs.Block.{columns_before, fill_above, free_lines, inner_width};
+ghost use Rattle.tabled_line.specs.Cursors.{IsAt};
 ghost use Rattle.tabled_line.specs.Sent.{Sent, Writes};
 
 use crate::content::Content;
-use crate::cursor::LinePlace;
+use crate::cursor::Cursor;
 use crate::fill::{write_fill, write_padded_text};
-use crate::placement::PlacedText;
 use crate::text_sink::TextSink;
 use tabled_base::TableError;
 use tabled_config::{AlignmentHorizontal, AlignmentVertical, CellStyle};
@@ -47,10 +46,6 @@ pub struct CellBlock<'a> {
 }
 
 impl<'a> CellBlock<'a> {
-    ghost use Rattle.std.specs.Prelude.{IfSome};
-    ghost use Rattle.tabled_line.specs.Fill.{fill};
-    ghost use Rattle.tabled_line.specs.PlacedText.{IsSpacedLine};
-
     fn inner_width(&self) -> usize
         ensures { result ≡ inner_width self.now.style self.now.width }
     {
@@ -115,97 +110,35 @@ impl<'a> CellBlock<'a> {
         }
     }
 
-    /// Writes the line of the block at `index`.
+    /// Returns how many lines of the block come before the text.
+    pub(crate) fn text_start(&self) -> usize
+        ensures { result ≡ fill_above self.now.style self.now.height self.now.content.text.now }
+    {
+        // In range, since alignment adds at most the height less the padding.
+        self.style.padding.top.size + self.lines_above()
+    }
+
+    /// Writes the line of the block at `index`, in which the cursor of its text is.
     pub(crate) fn write_line<S: TextSink>(
         &self,
         sink: &mut S,
-        place: &mut LinePlace<'a>,
+        cursor: &Cursor<'a>,
         index: usize,
     ) -> Result<(), TableError>
         requires index { index < self.now.height }
-        requires stands { IsPlace self.now.content.text.now place.old }
-        ensures printed { Writes (S.sent sink.old) result (S.sent sink.new)
+        requires cursor { IsAt self.now.content.text.now
+            (fill_above self.now.style self.now.height self.now.content.text.now) index cursor.now }
+        ensures { Writes (S.sent sink.old) result (S.sent sink.new)
             (slice_index_or (block self.now.style self.now.width self.now.height
             self.now.content.text.now) index []) }
-        ensures stands { IsPlace self.now.content.text.now place.new }
     {
-        // In range, since alignment adds at most the height less the padding.
-        let above = self.style.padding.top.size + self.lines_above();
+        let above = self.text_start();
         if index < above {
             return write_fill(sink, self.style.padding.top.fill, self.width);
         }
-        match self.content.line(index - above, place) {
+        match cursor.line {
             Some((line, columns)) => self.write_text_line(sink, line, columns),
             None => write_fill(sink, self.style.padding.bottom.fill, self.width),
-        }
-    }
-
-    /// Places a line of the text, `columns` wide. `None` if side padding isn't spaces or the line
-    /// doesn't fit.
-    #[inline(always)]
-    fn place_text_line(&self, line: &'a str, columns: usize) -> Option<PlacedText<'a>>
-        requires { columns ≡ line_columns line.now }
-        ensures { IfSome result (IsSpacedLine (cell_line self.now.style self.now.width
-            self.now.content.text.now line.now) self.now.width) }
-    {
-        let padding = &self.style.padding;
-        if padding.left.fill != ' ' || padding.right.fill != ' ' {
-            return None;
-        }
-        let shift = self.columns_before(columns);
-        let before = padding.left.size.checked_add(shift)?;
-        let behind = self.width.checked_sub(before)?.checked_sub(columns)?;
-        if behind < padding.right.size {
-            return None;
-        }
-        Some(PlacedText {
-            before,
-            shift,
-            text: line,
-            columns,
-            behind,
-        })
-    }
-
-    /// Places no text in a line that is filled with a character. `None` if that isn't a space.
-    #[inline(always)]
-    fn place_nothing(&self, c: char) -> Option<PlacedText<'a>>
-        ensures { IfSome result (IsSpacedLine (fill c self.now.width) self.now.width) }
-    {
-        if c != ' ' {
-            return None;
-        }
-        Some(PlacedText {
-            before: 0,
-            shift: 0,
-            text: "",
-            columns: 0,
-            behind: self.width,
-        })
-    }
-
-    /// Places the line of the block at `index`. `None` if it has a fill other than spaces, or the
-    /// text doesn't fit.
-    #[inline(always)]
-    pub(crate) fn place_line(
-        &self,
-        place: &mut LinePlace<'a>,
-        index: usize,
-    ) -> Option<PlacedText<'a>>
-        requires index { index < self.now.height }
-        requires stands { IsPlace self.now.content.text.now place.old }
-        ensures placed { IfSome result (IsSpacedLine (slice_index_or (block self.now.style
-            self.now.width self.now.height self.now.content.text.now) index []) self.now.width) }
-        ensures stands { IsPlace self.now.content.text.now place.new }
-    {
-        // In range, since alignment adds at most the height less the padding.
-        let above = self.style.padding.top.size + self.lines_above();
-        if index < above {
-            return self.place_nothing(self.style.padding.top.fill);
-        }
-        match self.content.line(index - above, place) {
-            Some((line, columns)) => self.place_text_line(line, columns),
-            None => self.place_nothing(self.style.padding.bottom.fill),
         }
     }
 }

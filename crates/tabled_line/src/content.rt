@@ -1,15 +1,13 @@
 //! The text of a cell with its measures.
-ghost use Rattle.std.specs.Prelude.{◌≡◌, ◌-◌, ◌<◌, ◌^◌, IfSome};
-ghost use Rattle.std.specs.Prelude.{length, slice_get};
-ghost use Rattle.std.specs.Option.{option_map};
+ghost use Rattle.std.specs.Prelude.{◌≡◌, length};
 ghost use Rattle.tabled_text.specs.Measure.{line_columns, lines_of, text_columns};
 ghost use Rattle.tabled_line.specs.Block.{first_line};
 
-use crate::cursor::LinePlace;
 use tabled_text::{line_width, split_line, text_measures};
 
 /// Returns the columns of a line. Printable ASCII is measured fastest.
-fn measure_line(line: &str) -> usize
+#[inline(always)]
+pub(crate) fn measure_line(line: &str) -> usize
     ensures { result ≡ line_columns line.now }
 {
     let (columns, lines) = text_measures(line);
@@ -31,8 +29,6 @@ pub struct Content<'a> {
 }
 
 impl<'a> Content<'a> {
-    ghost use Rattle.tabled_line.specs.Cursors.{IsPlace};
-
     /// Measures a text.
     pub fn new(text: &'a str) -> Content<'a>
         ensures { result.text.now ≡ text.now }
@@ -56,33 +52,5 @@ impl<'a> Content<'a> {
         }
         let (line, _) = split_line(self.text);
         (line, measure_line(line))
-    }
-
-    /// Returns the line at `index` and its width in columns. The search starts at `place`, or at
-    /// the first line if that is past the line, and `place` moves to the line after it.
-    #[inline(always)]
-    pub(crate) fn line(&self, index: usize, place: &mut LinePlace<'a>) -> Option<(&'a str, usize)>
-        requires index { index < 2 ^ 64 - 1 }
-        requires stands { IsPlace self.now.text.now place.old }
-        ensures line { option_map (λ x. x.0.now) result
-            ≡ slice_get (lines_of self.now.text.now) index }
-        ensures columns { IfSome result (λ x. x.1 ≡ line_columns x.0.now) }
-        ensures stands { IsPlace self.now.text.now place.new }
-    {
-        if self.lines == 1 {
-            return if index == 0 {
-                Some((self.text, self.columns))
-            } else {
-                None
-            };
-        }
-        if place.line > index {
-            *place = LinePlace::start(self.text);
-        }
-        'passed: while place.line < index {
-            place.next()?;
-        }
-        let line = place.next()?;
-        Some((line, measure_line(line)))
     }
 }

@@ -1,12 +1,10 @@
-//! Cursors: where the next line of each text begins, so that no text is searched from its start for
-//! each line.
-ghost use Rattle.std.specs.Prelude.{◌≡◌, ◌+◌, ◌-◌, ◌<◌, ◌^◌, ℕ, List, IfNone, IfSome};
-ghost use Rattle.std.specs.Prelude.{length, slice_get};
-ghost use Rattle.std.specs.Option.{option_map};
-ghost use Rattle.tabled_text.specs.Measure.{lines_of};
-ghost use Rattle.tabled_line.specs.Cursors.{AreCursors, IsBegun, IsPlace, nowhere};
+//! Cursors: the line of each text in a line of a row, so that no text is searched from its start
+//! for each line.
+ghost use Rattle.std.specs.Prelude.{◌≡◌, ◌-◌, ℕ, List};
+ghost use Rattle.tabled_line.specs.Cursors.{AreAt, IsAhead, IsAt, IsTextLine, nowhere};
+ghost use Rattle.tabled_line.specs.Row.{RowSheet};
 
-use crate::content::Content;
+use crate::content::{Content, measure_line};
 use tabled_text::split_line;
 
 /// The number of cursors on the stack for rows of at most this many cells.
@@ -15,55 +13,25 @@ pub const FEW_CURSORS: usize = 64;
 /// The most cursors on the stack. Columns after these have none, unless the caller allocates more.
 pub const MANY_CURSORS: usize = 1_024;
 
-/// A position in a text: the number of the next line and the text from there on. The text is `None`
-/// past the last line.
+/// A line of a text, its width in columns, and the width of the whole text.
 #[derive(Clone, Copy)]
-pub(crate) struct LinePlace<'a> {
-    pub line: usize,
-    rest: Option<&'a str>,
+pub(crate) struct TextLine<'a> {
+    pub text: &'a str,
+    pub columns: usize,
+    pub widest: usize,
 }
 
-impl<'a> LinePlace<'a> {
-    pub fn start(text: &'a str) -> LinePlace<'a>
-        ensures first { result.line ≡ 0 }
-        ensures stands { IsPlace text.now result }
-    {
-        LinePlace {
-            line: 0,
-            rest: Some(text),
-        }
-    }
-
-    /// Returns the line at this position, and moves to the next one. Past the last line, it returns
-    /// `None` and stays.
-    #[inline(always)]
-    pub fn next(&mut self) -> Option<&'a str>
-        requires { self.old.line < 2 ^ 64 - 1 }
-        ensures line { (text : List ℕ) → IsPlace text self.old
-            → option_map (λ line. line.now) result ≡ slice_get (lines_of text) self.old.line }
-        ensures stands { (text : List ℕ) → IsPlace text self.old → IsPlace text self.new }
-        ensures moved { IfSome result (λ _. self.new.line ≡ self.old.line + 1) }
-        ensures stays { IfNone result (self.new ≡ self.old) }
-    {
-        let (line, rest) = split_line(self.rest?);
-        self.rest = rest;
-        self.line += 1;
-        Some(line)
-    }
-}
-
-/// A cell whose lines are taken one by one: its content, and the position of the next line.
-#[derive(Clone, Copy)]
-pub(crate) struct BegunCell<'a> {
-    pub content: Content<'a>,
-    pub place: LinePlace<'a>,
-}
-
-/// A cell and a position in its text, or nothing yet. Each line of a row begins where the cursors
-/// are, so no text is searched from its start for each line.
+/// The line of a text in a line of a row, and the text after it.
 #[derive(Clone, Copy)]
 pub struct Cursor<'a> {
-    pub(crate) cell: Option<BegunCell<'a>>,
+    /// How many lines of the row come before the text.
+    above: usize,
+    /// The line and its width in columns. `None` above and below the text.
+    pub(crate) line: Option<(&'a str, usize)>,
+    /// The text from its next line on, if it has one.
+    rest: Option<&'a str>,
+    /// The width of the text in columns.
+    widest: usize,
 }
 
 impl<'a> Cursor<'a> {
@@ -71,24 +39,85 @@ impl<'a> Cursor<'a> {
     pub fn nowhere() -> Cursor<'a>
         ensures { result ≡ nowhere }
     {
-        Cursor { cell: None }
+        Cursor {
+            above: 0,
+            line: None,
+            rest: None,
+            widest: 0,
+        }
+    }
+
+    /// Returns the cursor of a text in the first line of a row. `above` lines come before the text.
+    pub(crate) fn new(content: &Content<'a>, above: usize) -> Cursor<'a>
+        ensures { IsAt content.now.text.now above 0 result }
+    {
+        if above == 0 && content.lines == 1 {
+            return Cursor {
+                above,
+                line: Some((content.text, content.columns)),
+                rest: None,
+                widest: content.columns,
+            };
+        }
+        let mut cursor = Cursor {
+            above,
+            line: None,
+            rest: Some(content.text),
+            widest: content.columns,
+        };
+        cursor.advance();
+        cursor
+    }
+
+    /// Moves to the next line of the row.
+    #[inline(always)]
+    pub(crate) fn advance(&mut self)
+        ensures { (text : List ℕ) (above index : ℕ) → IsAhead text above index self.old
+            → IsAt text above index self.new }
+    {
+        self.line = None;
+        if self.above > 0 {
+            self.above -= 1;
+            return;
+        }
+        let Some(text) = self.rest else {
+            return;
+        };
+        let (line, rest) = split_line(text);
+        self.line = Some((line, measure_line(line)));
+        self.rest = rest;
+    }
+
+    /// Returns the line of the text. It is empty above and below the text.
+    #[inline(always)]
+    pub(crate) fn text_line(&self) -> TextLine<'a>
+        ensures { (text : List ℕ) (index : ℕ) → IsAt text 0 index self.now
+            → IsTextLine text index result }
+    {
+        let widest = self.widest;
+        match self.line {
+            Some((text, columns)) => TextLine {
+                text,
+                columns,
+                widest,
+            },
+            None => TextLine {
+                text: "",
+                columns: 0,
+                widest,
+            },
+        }
     }
 }
 
-pub(crate) fn keep_cell<'a>(cursors: &mut [Cursor<'a>], column: usize, cell: BegunCell<'a>)
-    ensures { (texts : ℕ → List ℕ) → AreCursors texts cursors.old
-        → IsBegun (texts column) cell.entry → AreCursors texts cursors.new }
+/// Moves the cursors of a row to its line `index`, from the line before it.
+pub(crate) fn advance_cursors(cursors: &mut [Cursor<'_>], index: usize)
+    ensures { (row : RowSheet) → AreAt row (index - 1) cursors.old → AreAt row index cursors.new }
 {
-    if column < cursors.len() {
-        cursors[column] = Cursor { cell: Some(cell) };
+    if index == 0 {
+        return;
     }
-}
-
-/// Resets all cursors, so that they can be used for another row.
-pub fn forget_cursors(cursors: &mut [Cursor<'_>])
-    ensures { (texts : ℕ → List ℕ) → AreCursors texts cursors.new }
-{
     'columns: for column in 0..cursors.len() {
-        cursors[column] = Cursor::nowhere();
+        cursors[column].advance();
     }
 }

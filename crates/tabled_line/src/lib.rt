@@ -17,13 +17,14 @@
 //!
 //! The text of a cell:
 //! - `content`: a text with its measures.
-//! - `cursor`: where the next line of each text begins.
+//! - `cursor`: the line of a text in a line of a row, and the text after it.
 //! - `block`: the lines of a cell.
 //!
 //! Rows:
 //! - `row`: the trait of a row, and writing one of its lines.
-//! - `placement`: where texts are in their columns, in a row of one line.
-//! - `one_line_row`: rows of one line, written text by text with separators between them.
+//! - `row_line`: a line of a row, and the lines of the texts in it.
+//! - `placement`: where texts are in their columns.
+//! - `one_line_row`: lines written text by text, with separators between them.
 //! - `row_template`: a blank row that the texts of each row are copied into.
 //! - `laws`: facts about the lines of a row.
 //!
@@ -44,6 +45,7 @@ mod new_config;
 mod one_line_row;
 mod placement;
 mod row;
+mod row_line;
 mod row_template;
 mod rules;
 mod text_sink;

@@ -1,18 +1,19 @@
 //! Writes rows, horizontal lines and margins below each other, with line feeds between them. What
 //! later lines can share is cached: the last horizontal line and a row template.
-ghost use Rattle.std.specs.Prelude.{◌≡◌, ◌<◌, [], ◌∷◌, None, Some, drop, false, replicate, true};
+ghost use Rattle.std.specs.Prelude.{◌≡◌, [], ◌∷◌, None, Some, drop, false, replicate, true};
 ghost use Rattle.tabled_line.specs.Buffers.{buffer_text};
 ghost use Rattle.tabled_line.specs.Fill.{fill};
 ghost use Rattle.tabled_line.specs.LineCache.{IsCacheOf, IsCachedRule};
 ghost use Rattle.tabled_line.specs.Leading.{WritesLines, break};
-ghost use Rattle.tabled_line.specs.Cursors.{AreCursors};
-ghost use Rattle.tabled_line.specs.Row.{RowSheet, row_line, row_lines, rule_if, rule_line};
+ghost use Rattle.tabled_line.specs.Row.{row_line, row_lines, rule_if, rule_line};
+ghost use Rattle.tabled_line.specs.RowLines.{IsRowLine};
 ghost use Rattle.tabled_line.specs.Sent.{Sent, Writes};
 
 use crate::buffer::LineBuffer;
-use crate::cursor::{Cursor, forget_cursors};
+use crate::cursor::{Cursor, advance_cursors};
 use crate::fill::write_fill;
-use crate::row::{Row, RowLine, write_row_line};
+use crate::row::{Row, write_row_line};
+use crate::row_line::{RowLine, are_top, begin_cursors};
 use crate::row_template::RowTemplate;
 use crate::rules::{TableColumns, write_rule_line};
 use crate::text_sink::TextSink;
@@ -74,17 +75,14 @@ fn write_unfilled_line<'a, R: Row<'a>, S: TextSink>(
     sink: &mut S,
     begun: &mut bool,
     row: &R,
-    cursors: &mut [Cursor<'a>],
-    index: usize,
+    line: &RowLine<'_, 'a>,
 ) -> Result<(), TableError>
-    requires index_in { index < (R.sheet row.now).height }
-    requires cursors { AreCursors (R.sheet row.now).text cursors.old }
-    ensures printed { WritesLines (S.sent sink.old) begun.old result (S.sent sink.new) begun.new
-        (row_line (R.sheet row.now) index ∷ []) }
-    ensures cursors { AreCursors (R.sheet row.now).text cursors.new }
+    requires { IsRowLine (R.sheet row.now) line.now }
+    ensures { WritesLines (S.sent sink.old) begun.old result (S.sent sink.new) begun.new
+        (row_line (R.sheet row.now) line.now.index ∷ []) }
 {
     write_break(sink, begun)?;
-    write_row_line(sink, row, cursors, index)
+    write_row_line(sink, row, line)
 }
 
 /// The last horizontal line, and its text with a line feed before it, if the buffer could hold
@@ -249,26 +247,22 @@ impl<C: TableColumns> LinePrinter<C> {
         &mut self,
         sink: &mut S,
         row: &R,
-        cursors: &mut [Cursor<'a>],
-        line: RowLine,
+        line: &RowLine<'_, 'a>,
     ) -> Result<(), TableError>
         requires kept { IsCacheOf (C.sheet self.old.columns) self.old.kept }
         requires over { (R.sheet row.now).columns ≡ C.sheet self.old.columns }
-        requires index_in { line.index < line.height }
-        requires height { line.height ≡ (R.sheet row.now).height }
-        requires cursors { AreCursors (R.sheet row.now).text cursors.old }
+        requires line { IsRowLine (R.sheet row.now) line.now }
         ensures printed { WritesLines (S.sent sink.old) self.old.begun result (S.sent sink.new)
-            self.new.begun (row_line (R.sheet row.now) line.index ∷ []) }
+            self.new.begun (row_line (R.sheet row.now) line.now.index ∷ []) }
         ensures same { self.new.columns ≡ self.old.columns }
         ensures kept { IsCacheOf (C.sheet self.new.columns) self.new.kept }
-        ensures cursors { AreCursors (R.sheet row.now).text cursors.new }
     {
         if let Some(template) = &mut self.kept.row
-            && template.fill_line(row, cursors, line)
+            && template.fill_line(row, line)
         {
             return write_feed_and_line(sink, &mut self.begun, template.text());
         }
-        write_unfilled_line(sink, &mut self.begun, row, cursors, line.index)
+        write_unfilled_line(sink, &mut self.begun, row, line)
     }
 
     /// Writes the lines of a row of any height.
@@ -291,9 +285,17 @@ impl<C: TableColumns> LinePrinter<C> {
     {
         let count = cursors.len().min(row.count_columns());
         let cursors = &mut cursors[..count];
-        forget_cursors(cursors);
+        let top = are_top(row);
+        begin_cursors(cursors, row, top);
         'lines: for index in 0..height {
-            self.write_row_line(sink, row, cursors, RowLine { index, height })?;
+            advance_cursors(cursors, index);
+            let line = RowLine {
+                index,
+                height,
+                top,
+                cursors,
+            };
+            self.write_row_line(sink, row, &line)?;
         }
         Ok(())
     }
@@ -316,7 +318,7 @@ impl<C: TableColumns> LinePrinter<C> {
     {
         let height = row.height();
         if height == 1 {
-            return self.write_row_line(sink, row, &mut [], RowLine { index: 0, height });
+            return self.write_row_line(sink, row, &RowLine::only());
         }
         self.write_lines(sink, row, cursors, height)
     }

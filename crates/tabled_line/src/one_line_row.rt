@@ -1,18 +1,20 @@
-//! Rows of one line with spaces around each text, as most rows are: they are written text by text,
-//! with one cached string for all that is between two texts.
+//! Lines of a row with spaces around each text, as most are: they are written text by text, with
+//! one cached string for all that is between two texts.
 ghost use Rattle.std.specs.Prelude.{◌≡◌, ◌<◌, ◌++◌, IfSome, take, true};
 ghost use Rattle.std.specs.Str.{is_utf8};
 ghost use Rattle.tabled_config.specs.Frame.{has_bar};
 ghost use Rattle.tabled_config.specs.declared.frame.Frame.{Frame};
 ghost use Rattle.tabled_line.specs.Fill.{fill};
 ghost use Rattle.tabled_line.specs.Row.{cell_piece, piece, row_cells, separator_text};
+ghost use Rattle.tabled_line.specs.RowLines.{IsRowLine};
 ghost use Rattle.tabled_line.specs.SendsBut.{WritesBut};
 ghost use Rattle.tabled_line.specs.Sent.{Sent, Writes};
 
 use crate::buffer::FixedBuffer;
 use crate::fill::write_spaces;
 use crate::placement::{KnownPlacements, RowPlacements, place_text};
-use crate::row::{CellLine, Row, write_cell};
+use crate::row::{Row, write_cell};
+use crate::row_line::RowLine;
 use crate::rules::write_bar;
 use crate::text_sink::TextSink;
 use tabled_base::TableError;
@@ -99,9 +101,10 @@ impl ColumnSeparator {
 
 /// The state of a line between two of its cells.
 #[derive(Clone, Copy)]
-struct SpacedLine<'r> {
+struct SpacedLine<'s, 'a> {
+    line: RowLine<'s, 'a>,
     /// The separator between two texts.
-    separator: SeparatorText<'r>,
+    separator: SeparatorText<'s>,
     /// The pending spaces: those after the last text, which are written together with the next
     /// separator.
     behind: usize,
@@ -111,7 +114,7 @@ struct SpacedLine<'r> {
 #[inline(always)]
 fn write_separator<S: TextSink>(
     sink: &mut S,
-    line: &SpacedLine<'_>,
+    line: &SpacedLine<'_, '_>,
     column: usize,
     before: usize,
 ) -> Result<(), TableError>
@@ -133,76 +136,79 @@ fn write_next_text<'a, R: Row<'a>, S: TextSink, A: RowPlacements>(
     sink: &mut S,
     row: &R,
     placements: &A,
-    line: &SpacedLine<'_>,
+    spaced: &SpacedLine<'_, 'a>,
     column: usize,
 ) -> Result<usize, TableError>
     requires inside { column < (R.sheet row.now).columns.count }
-    requires height { (R.sheet row.now).height ≡ 1 }
-    requires bar { line.now.separator.bar ≡ (R.sheet row.now).columns.frame.inner }
+    requires line { IsRowLine (R.sheet row.now) spaced.now.line }
+    requires bar { spaced.now.separator.bar ≡ (R.sheet row.now).columns.frame.inner }
     requires describes { A.describes placements.now (R.sheet row.now) }
-    ensures { WritesBut (S.sent sink.old) result (S.sent sink.new)
-        (fill 32 line.now.behind ++ cell_piece (R.sheet row.now) 0 column) }
+    ensures { WritesBut (S.sent sink.old) result (S.sent sink.new) (fill 32 spaced.now.behind
+        ++ cell_piece (R.sheet row.now) spaced.now.line.index column) }
 {
-    match place_text(row, placements, column, row.width(column)) {
+    match place_text(row, placements, &spaced.line, column, row.width(column)) {
         Some(placed) => {
-            write_separator(sink, line, column, placed.before)?;
+            write_separator(sink, spaced, column, placed.before)?;
             sink.write_text(placed.text)?;
             Ok(placed.behind)
         }
         None => {
-            write_spaces(sink, line.behind)?;
+            write_spaces(sink, spaced.behind)?;
             let style = match placements.style(column) {
                 Some(style) => style,
                 None => row.styles().at(column),
             };
-            let first = CellLine {
-                column,
-                style,
-                index: 0,
-                height: 1,
-            };
-            write_cell(sink, row, &mut [], &first)?;
+            write_cell(sink, row, &spaced.line, column, style)?;
             Ok(0)
         }
     }
 }
 
-/// Writes the cells of a row of one line, at their placements.
+/// Writes the cells of a line, at their placements.
 #[inline(always)]
 fn write_spaced_cells<'a, R: Row<'a>, S: TextSink, A: RowPlacements + Drop>(
     sink: &mut S,
     row: &R,
     placements: A,
+    line: &RowLine<'_, 'a>,
     separator: SeparatorText<'_>,
 ) -> Result<(), TableError>
-    requires height { (R.sheet row.now).height ≡ 1 }
+    requires line { IsRowLine (R.sheet row.now) line.now }
     requires bar { separator.bar ≡ (R.sheet row.now).columns.frame.inner }
     requires describes { A.describes placements (R.sheet row.now) }
     ensures { Writes (S.sent sink.old) result (S.sent sink.new)
-        (row_cells (R.sheet row.now) 0) }
+        (row_cells (R.sheet row.now) line.now.index) }
 {
+    let line = *line;
     let mut behind = 0;
     'cells: for column in 0..row.count_drawn() {
-        let line = SpacedLine { separator, behind };
-        behind = write_next_text(sink, row, &placements, &line, column)?;
+        let spaced = SpacedLine {
+            line,
+            separator,
+            behind,
+        };
+        behind = write_next_text(sink, row, &placements, &spaced, column)?;
     }
     write_spaces(sink, behind)
 }
 
-/// Writes the cells of a row of one line, by what is known of their placements.
+/// Writes the cells of a line, by what is known of their placements.
 pub(crate) fn write_spaced_row<'a, R: Row<'a>, S: TextSink>(
     sink: &mut S,
     row: &R,
+    line: &RowLine<'_, 'a>,
     separator: SeparatorText<'_>,
 ) -> Result<(), TableError>
-    requires height { (R.sheet row.now).height ≡ 1 }
+    requires line { IsRowLine (R.sheet row.now) line.now }
     requires bar { separator.bar ≡ (R.sheet row.now).columns.frame.inner }
     ensures { Writes (S.sent sink.old) result (S.sent sink.new)
-        (row_cells (R.sheet row.now) 0) }
+        (row_cells (R.sheet row.now) line.now.index) }
 {
     match row.placements() {
-        KnownPlacements::Cached(cells) => write_spaced_cells(sink, row, cells, separator),
-        KnownPlacements::Uniform(uniform) => write_spaced_cells(sink, row, uniform, separator),
-        KnownPlacements::Styled => write_spaced_cells(sink, row, row.styles(), separator),
+        KnownPlacements::Cached(cells) => write_spaced_cells(sink, row, cells, line, separator),
+        KnownPlacements::Uniform(uniform) => {
+            write_spaced_cells(sink, row, uniform, line, separator)
+        }
+        KnownPlacements::Styled => write_spaced_cells(sink, row, row.styles(), line, separator),
     }
 }

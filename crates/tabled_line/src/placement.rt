@@ -1,16 +1,17 @@
-//! The placements of the texts in a row of one line, from what is known of the row.
+//! The placements of the texts in a line of a row, from what is known of the row.
 ghost use Rattle.std.specs.Prelude.{◌≡◌, ◌+◌, ◌<◌, ℕ, IfSome};
 ghost use Rattle.tabled_config.specs.declared.spanned.CellStyle.{CellStyle};
 ghost use Rattle.tabled_line.specs.PlacedText.{IsPlacedText};
 ghost use Rattle.tabled_line.specs.Placements.{IsPlacementIn, IsUniform};
+ghost use Rattle.tabled_line.specs.RowLines.{IsRowLine};
 
 use crate::block::before_text;
 use crate::row::Row;
+use crate::row_line::RowLine;
 use crate::row_template::Slot;
 use tabled_config::{AlignmentHorizontal, CellStyle, Indent, RowStyles, Sides};
 
-/// Where a text is in its column, in a row of one line. Side padding is spaces, and there is no top
-/// padding.
+/// Where a text is in its column. Side padding is spaces, and there is no top padding.
 #[derive(Clone, Copy)]
 pub struct Placement {
     /// The columns of left padding.
@@ -38,7 +39,7 @@ pub struct UniformPlacement {
     horizontal: AlignmentHorizontal,
 }
 
-/// What is known of the placements of the texts in a row of one line.
+/// What is known of the placements of the texts in a row.
 #[derive(Clone, Copy)]
 pub enum KnownPlacements<'a> {
     /// The placement and offset of each text, which are cached.
@@ -115,7 +116,7 @@ pub(crate) struct PlacedText<'a> {
     pub behind: usize,
 }
 
-/// A source of the placements in a row of one line.
+/// A source of the placements in a row.
 pub(crate) trait RowPlacements {
     ghost use Rattle.std.specs.Prelude.{◌^◌};
     ghost use Rattle.tabled_line.specs.Placements.{IsDescribedColumn, IsPlacementIn};
@@ -206,35 +207,32 @@ impl<'a> RowPlacements for RowStyles<'a> {
     }
 }
 
-/// Places the first line of the text in a column of `width` columns. `None` if there is no
-/// placement, the line doesn't fit, or a later line is wider.
+/// Places the line of the text of a cell in a column of `width` columns. `None` if there is no
+/// placement, the text doesn't fit, or `RowLine::text_line` returns no line.
 #[inline(always)]
 pub(crate) fn place_text<'c, R: Row<'c>, A: RowPlacements>(
     row: &R,
     placements: &A,
+    line: &RowLine<'_, 'c>,
     column: usize,
     width: usize,
 ) -> Option<PlacedText<'c>>
     requires describes { A.describes placements.now (R.sheet row.now) }
     requires inside { column < (R.sheet row.now).columns.count }
     requires width { width ≡ (R.sheet row.now).columns.width column }
-    requires height { (R.sheet row.now).height ≡ 1 }
-    ensures { IfSome result (IsPlacedText (R.sheet row.now) column) }
+    requires line { IsRowLine (R.sheet row.now) line.now }
+    ensures { IfSome result (IsPlacedText (R.sheet row.now) line.now.index column) }
 {
     let placement = placements.at(column, width)?;
-    let content = row.content(column);
-    let (text, columns) = content.first_line();
-    if content.columns != columns {
-        return None;
-    }
-    let free = placement.content_width.checked_sub(columns)?;
+    let text_line = line.text_line(row, column)?;
+    let free = placement.content_width.checked_sub(text_line.widest)?;
     let shift = before_text(placement.horizontal, free);
     let before = placement.before + shift;
     Some(PlacedText {
         before,
         shift,
-        text,
-        columns,
-        behind: width - before - columns,
+        text: text_line.text,
+        columns: text_line.columns,
+        behind: width - before - text_line.columns,
     })
 }

@@ -1,17 +1,16 @@
 //! The trait of rows, and writing one line of a row.
-ghost use Rattle.std.specs.Prelude.{◌≡◌, ◌<◌, ◌≤◌, ℕ, [], IfSome};
+ghost use Rattle.std.specs.Prelude.{◌≡◌, ◌<◌, ◌≤◌, ℕ, []};
 ghost use Rattle.tabled_config.specs.RowStyles.{style_in};
 ghost use Rattle.tabled_line.specs.Placements.{AreKnown};
-ghost use Rattle.tabled_line.specs.Cursors.{AreCursors, IsBegun};
-ghost use Rattle.tabled_line.specs.PlacedText.{IsSpacedLine};
-ghost use Rattle.tabled_line.specs.Row.{RowSheet, block_line, cell_piece, row_cells, row_line};
+ghost use Rattle.tabled_line.specs.Row.{RowSheet, cell_piece, row_cells, row_line};
+ghost use Rattle.tabled_line.specs.RowLines.{IsRowLine};
 ghost use Rattle.tabled_line.specs.Sent.{Sent, Writes};
 
 use crate::block::CellBlock;
 use crate::content::Content;
-use crate::cursor::{BegunCell, Cursor, LinePlace, keep_cell};
 use crate::one_line_row::{ColumnSeparator, write_spaced_row};
-use crate::placement::{KnownPlacements, PlacedText};
+use crate::placement::KnownPlacements;
+use crate::row_line::RowLine;
 use crate::rules::{write_bar, write_left_edge, write_right_edge};
 use crate::text_sink::TextSink;
 use tabled_base::TableError;
@@ -34,11 +33,11 @@ pub trait Row<'a> {
     fn frame(&self) -> &Frame
         ensures { result.now ≡ (sheet self.now).columns.frame };
 
-    /// Returns the separator between two texts, for a row of one line.
+    /// Returns the separator between two texts.
     fn separator(&self) -> &ColumnSeparator
         ensures { result.now.bar ≡ (sheet self.now).columns.frame.inner };
 
-    /// Returns what is known of the placements, for a row of one line. `Styled` is always right.
+    /// Returns what is known of the placements. `Styled` is always right.
     fn placements(&self) -> KnownPlacements<'_>
         ensures { AreKnown (sheet self.now).style (sheet self.now).columns result };
 
@@ -66,150 +65,63 @@ pub trait Row<'a> {
             → cell_piece (sheet self.now) index column ≡ [] };
 }
 
-/// A line of a row: its index, and the height of the row.
-#[derive(Clone, Copy)]
-pub(crate) struct RowLine {
-    pub index: usize,
-    pub height: usize,
-}
-
-/// A line of a cell: its column, its style, the index of the line, and the height of the row.
-#[derive(Clone, Copy)]
-pub(crate) struct CellLine {
-    pub column: usize,
-    pub style: CellStyle,
-    pub index: usize,
-    pub height: usize,
-}
-
-/// Returns the cell of a column as its cursor left it, else from its first line on.
-#[inline(always)]
-fn begun_cell<'a, R: Row<'a>>(row: &R, cursors: &[Cursor<'a>], column: usize) -> BegunCell<'a>
-    requires column_in { column < (R.sheet row.now).columns.count }
-    requires cursors { AreCursors (R.sheet row.now).text cursors.now }
-    ensures { IsBegun ((R.sheet row.now).text column) result }
-{
-    if column < cursors.len()
-        && let Some(cell) = &cursors[column].cell
-    {
-        return *cell;
-    }
-    let content = row.content(column);
-    BegunCell {
-        content,
-        place: LinePlace::start(content.text),
-    }
-}
-
-/// Writes a line of a cell, after the vertical line before it. The cursor of its column moves to
-/// the next one.
+/// Writes a line of a cell with a style, after the vertical line before it.
 pub(crate) fn write_cell<'a, R: Row<'a>, S: TextSink>(
     sink: &mut S,
     row: &R,
-    cursors: &mut [Cursor<'a>],
-    line: &CellLine,
+    line: &RowLine<'_, 'a>,
+    column: usize,
+    style: CellStyle,
 ) -> Result<(), TableError>
-    requires column_in { line.now.column < (R.sheet row.now).columns.count }
-    requires style { line.now.style ≡ (R.sheet row.now).style line.now.column }
-    requires index_in { line.now.index < line.now.height }
-    requires height { line.now.height ≡ (R.sheet row.now).height }
-    requires cursors { AreCursors (R.sheet row.now).text cursors.old }
-    ensures printed { Writes (S.sent sink.old) result (S.sent sink.new)
-        (cell_piece (R.sheet row.now) line.now.index line.now.column) }
-    ensures cursors { AreCursors (R.sheet row.now).text cursors.new }
+    requires inside { column < (R.sheet row.now).columns.count }
+    requires style { style ≡ (R.sheet row.now).style column }
+    requires line { IsRowLine (R.sheet row.now) line.now }
+    ensures { Writes (S.sent sink.old) result (S.sent sink.new)
+        (cell_piece (R.sheet row.now) line.now.index column) }
 {
     let frame = row.frame();
-    write_bar(sink, frame.has_bar(line.column), frame.inner.main)?;
-    let mut cell = begun_cell(row, cursors, line.column);
-    let block = CellBlock {
-        style: line.style,
-        width: row.width(line.column),
+    write_bar(sink, frame.has_bar(column), frame.inner.main)?;
+    let cell = CellBlock {
+        style,
+        width: row.width(column),
         height: line.height,
-        content: cell.content,
+        content: row.content(column),
     };
-    block.write_line(sink, &mut cell.place, line.index)?;
-    keep_cell(cursors, line.column, cell);
-    Ok(())
+    cell.write_line(sink, &line.cursor(&cell, column), line.index)
 }
 
-/// Places a line of a cell in a column of `width` columns. `None` if it has a fill other than
-/// spaces, or the text doesn't fit. The cursor of its column moves to the next one.
-#[inline(always)]
-pub(crate) fn place_cell<'a, R: Row<'a>>(
-    row: &R,
-    cursors: &mut [Cursor<'a>],
-    line: &CellLine,
-    width: usize,
-) -> Option<PlacedText<'a>>
-    requires column_in { line.now.column < (R.sheet row.now).columns.count }
-    requires style { line.now.style ≡ (R.sheet row.now).style line.now.column }
-    requires index_in { line.now.index < line.now.height }
-    requires height { line.now.height ≡ (R.sheet row.now).height }
-    requires width { width ≡ (R.sheet row.now).columns.width line.now.column }
-    requires cursors { AreCursors (R.sheet row.now).text cursors.old }
-    ensures placed { IfSome result (IsSpacedLine (block_line (R.sheet row.now) line.now.index
-        line.now.column) ((R.sheet row.now).columns.width line.now.column)) }
-    ensures cursors { AreCursors (R.sheet row.now).text cursors.new }
-{
-    let mut cell = begun_cell(row, cursors, line.column);
-    let block = CellBlock {
-        style: line.style,
-        width,
-        height: line.height,
-        content: cell.content,
-    };
-    let placed = block.place_line(&mut cell.place, line.index);
-    keep_cell(cursors, line.column, cell);
-    placed
-}
-
-/// Writes the cells of a line. Those of a row of one line mostly need no blocks.
+/// Writes the cells of a line. Most need no blocks.
 fn write_cells<'a, R: Row<'a>, S: TextSink>(
     sink: &mut S,
     row: &R,
-    cursors: &mut [Cursor<'a>],
-    index: usize,
+    line: &RowLine<'_, 'a>,
 ) -> Result<(), TableError>
-    requires index_in { index < (R.sheet row.now).height }
-    requires cursors { AreCursors (R.sheet row.now).text cursors.old }
-    ensures printed { Writes (S.sent sink.old) result (S.sent sink.new)
-        (row_cells (R.sheet row.now) index) }
-    ensures cursors { AreCursors (R.sheet row.now).text cursors.new }
+    requires { IsRowLine (R.sheet row.now) line.now }
+    ensures { Writes (S.sent sink.old) result (S.sent sink.new)
+        (row_cells (R.sheet row.now) line.now.index) }
 {
-    let height = row.height();
-    if height == 1
-        && let Some(separator) = row.separator().text()
-    {
-        return write_spaced_row(sink, row, separator);
+    if let Some(separator) = row.separator().text() {
+        return write_spaced_row(sink, row, line, separator);
     }
     let styles = row.styles();
     'cells: for column in 0..row.count_drawn() {
-        let line = CellLine {
-            column,
-            style: styles.at(column),
-            index,
-            height,
-        };
-        write_cell(sink, row, cursors, &line)?;
+        write_cell(sink, row, line, column, styles.at(column))?;
     }
     Ok(())
 }
 
-/// Writes the line of a row at `index`. The cursors are in the texts of its cells.
-pub fn write_row_line<'a, R: Row<'a>, S: TextSink>(
+/// Writes a line of a row.
+pub(crate) fn write_row_line<'a, R: Row<'a>, S: TextSink>(
     sink: &mut S,
     row: &R,
-    cursors: &mut [Cursor<'a>],
-    index: usize,
+    line: &RowLine<'_, 'a>,
 ) -> Result<(), TableError>
-    requires index_in { index < (R.sheet row.now).height }
-    requires cursors { AreCursors (R.sheet row.now).text cursors.old }
-    ensures printed { Writes (S.sent sink.old) result (S.sent sink.new)
-        (row_line (R.sheet row.now) index) }
-    ensures cursors { AreCursors (R.sheet row.now).text cursors.new }
+    requires { IsRowLine (R.sheet row.now) line.now }
+    ensures { Writes (S.sent sink.old) result (S.sent sink.new)
+        (row_line (R.sheet row.now) line.now.index) }
 {
     let frame = row.frame();
     write_left_edge(sink, frame, frame.left.main)?;
-    write_cells(sink, row, cursors, index)?;
+    write_cells(sink, row, line)?;
     write_right_edge(sink, frame, frame.right.main)
 }

@@ -2,20 +2,19 @@
 //! each line of a row are copied into its slots.
 ghost use Rattle.std.specs.Prelude.{◌≡◌, ◌+◌, ◌<◌, ◌≤◌, ◌^◌, ◌++◌, [], ◌∷◌, length, take, drop, ℕ};
 ghost use Rattle.std.specs.Prelude.{IfOk, IfSome, IsUtf8, MatchOption, string_bytes, true};
-ghost use Rattle.tabled_config.specs.RowStyles.{style_in};
 ghost use Rattle.tabled_line.specs.BlankRow.{blank_row, first_offset};
-ghost use Rattle.tabled_line.specs.Cursors.{AreCursors};
 ghost use Rattle.tabled_line.specs.Slots.{AreSlots, IsTemplateOf};
 ghost use Rattle.tabled_line.specs.Row.{piece, row_line};
+ghost use Rattle.tabled_line.specs.RowLines.{IsRowLine};
 
-use crate::cursor::Cursor;
 use crate::placement::{KnownPlacements, RowPlacements, place_text};
-use crate::row::{CellLine, Row, RowLine, place_cell};
+use crate::row::Row;
+use crate::row_line::RowLine;
 use crate::rules::{TableColumns, write_left_edge, write_right_edge, write_rule_pieces};
 use crate::text_sink::TextSink;
 use std::alloc::Global;
 use tabled_base::TableError;
-use tabled_config::{HorizontalLine, RowStyles, VerticalLine};
+use tabled_config::{HorizontalLine, VerticalLine};
 
 /// After this many lines in succession that couldn't be filled in, the template is given up.
 const TRIES: usize = 16;
@@ -123,20 +122,21 @@ fn copy_at(line: &mut [u8], place: usize, text: &str)
     line[place..end].copy_from_slice(text.as_bytes());
 }
 
-/// Copies the texts of a row into a blank row, at their placements. Returns `false` if a text has
-/// no placement, doesn't fit, or hasn't as many bytes as columns.
+/// Copies the texts in a line of a row into a blank row, at their placements. Returns `false` if a
+/// text has no placement, doesn't fit, or hasn't as many bytes as columns.
 #[inline(always)]
 fn fill_placed_texts<'a, R: Row<'a>, A: RowPlacements + Drop>(
     line: &mut [u8],
     slots: &[Slot],
     row: &R,
     placements: A,
+    at: &RowLine<'_, 'a>,
 ) -> bool
-    requires height { (R.sheet row.now).height ≡ 1 }
+    requires at { IsRowLine (R.sheet row.now) at.now }
     requires blank { line.old ≡ blank_row (R.sheet row.now).columns }
     requires slots { AreSlots (R.sheet row.now).columns slots.now }
     requires describes { A.describes placements (R.sheet row.now) }
-    ensures laid { result ≡ true → line.new ≡ row_line (R.sheet row.now) 0 }
+    ensures laid { result ≡ true → line.new ≡ row_line (R.sheet row.now) at.now.index }
     ensures utf8 { IsUtf8 line.old → IsUtf8 line.new }
 {
     if slots.is_empty() {
@@ -145,7 +145,7 @@ fn fill_placed_texts<'a, R: Row<'a>, A: RowPlacements + Drop>(
     let first = slots[0].place;
     'texts: for column in 0..slots.len() {
         let slot = slots[column];
-        let Some(placed) = place_text(row, &placements, column, slot.width) else {
+        let Some(placed) = place_text(row, &placements, at, column, slot.width) else {
             return false;
         };
         if placed.text.len() != placed.columns {
@@ -157,92 +157,21 @@ fn fill_placed_texts<'a, R: Row<'a>, A: RowPlacements + Drop>(
     true
 }
 
-/// Copies the texts of a row into a blank row, with the style of each looked up.
+/// Copies the texts in a line of a row into a blank row, with the style of each looked up.
 #[inline(never)]
-fn fill_styled_texts<'a, R: Row<'a>>(line: &mut [u8], slots: &[Slot], row: &R) -> bool
-    requires height { (R.sheet row.now).height ≡ 1 }
-    requires blank { line.old ≡ blank_row (R.sheet row.now).columns }
-    requires slots { AreSlots (R.sheet row.now).columns slots.now }
-    ensures laid { result ≡ true → line.new ≡ row_line (R.sheet row.now) 0 }
-    ensures utf8 { IsUtf8 line.old → IsUtf8 line.new }
-{
-    fill_placed_texts(line, slots, row, row.styles())
-}
-
-/// A line of a row, and the styles of its cells.
-#[derive(Drop)]
-struct StyledLine<'s> {
-    styles: RowStyles<'s>,
-    at: RowLine,
-}
-
-/// Copies the line of each cell into a blank row. Returns `false` if a cell has a fill other than
-/// spaces there, or its line doesn't fit or hasn't as many bytes as columns.
-#[inline(always)]
-fn fill_cell_lines<'a, R: Row<'a>>(
+fn fill_styled_texts<'a, R: Row<'a>>(
     line: &mut [u8],
     slots: &[Slot],
     row: &R,
-    cursors: &mut [Cursor<'a>],
-    styled: &StyledLine<'_>,
+    at: &RowLine<'_, 'a>,
 ) -> bool
-    requires index_in { styled.now.at.index < styled.now.at.height }
-    requires height { styled.now.at.height ≡ (R.sheet row.now).height }
-    requires styles { (column : ℕ) → column < (R.sheet row.now).columns.count
-        → style_in styled.now.styles column ≡ (R.sheet row.now).style column }
+    requires at { IsRowLine (R.sheet row.now) at.now }
     requires blank { line.old ≡ blank_row (R.sheet row.now).columns }
     requires slots { AreSlots (R.sheet row.now).columns slots.now }
-    requires cursors { AreCursors (R.sheet row.now).text cursors.old }
-    ensures laid { result ≡ true → line.new ≡ row_line (R.sheet row.now) styled.now.at.index }
+    ensures laid { result ≡ true → line.new ≡ row_line (R.sheet row.now) at.now.index }
     ensures utf8 { IsUtf8 line.old → IsUtf8 line.new }
-    ensures cursors { AreCursors (R.sheet row.now).text cursors.new }
 {
-    'cells: for column in 0..slots.len() {
-        let slot = slots[column];
-        let cell = CellLine {
-            column,
-            style: styled.styles.at(column),
-            index: styled.at.index,
-            height: styled.at.height,
-        };
-        let Some(placed) = place_cell(row, cursors, &cell, slot.width) else {
-            return false;
-        };
-        if placed.text.len() != placed.columns {
-            return false;
-        }
-        let start = slot.place + placed.before;
-        copy_at(line, start, placed.text);
-    }
-    true
-}
-
-/// Copies the line of each cell into a blank row. The loop is inlined twice, so that a style that
-/// all cells share isn't copied for each of them.
-#[inline(never)]
-fn fill_lines<'a, R: Row<'a>>(
-    line: &mut [u8],
-    slots: &[Slot],
-    row: &R,
-    cursors: &mut [Cursor<'a>],
-    at: RowLine,
-) -> bool
-    requires index_in { at.index < at.height }
-    requires height { at.height ≡ (R.sheet row.now).height }
-    requires blank { line.old ≡ blank_row (R.sheet row.now).columns }
-    requires slots { AreSlots (R.sheet row.now).columns slots.now }
-    requires cursors { AreCursors (R.sheet row.now).text cursors.old }
-    ensures laid { result ≡ true → line.new ≡ row_line (R.sheet row.now) at.index }
-    ensures utf8 { IsUtf8 line.old → IsUtf8 line.new }
-    ensures cursors { AreCursors (R.sheet row.now).text cursors.new }
-{
-    match row.styles() {
-        RowStyles::Alike(style) => {
-            let styles = RowStyles::Alike(style);
-            fill_cell_lines(line, slots, row, cursors, &StyledLine { styles, at })
-        }
-        styles => fill_cell_lines(line, slots, row, cursors, &StyledLine { styles, at }),
-    }
+    fill_placed_texts(line, slots, row, row.styles(), at)
 }
 
 /// Copies the texts in a line of a row into a blank row. Returns whether all could be copied.
@@ -251,25 +180,18 @@ fn fill_cells<'a, R: Row<'a>>(
     line: &mut [u8],
     slots: &[Slot],
     row: &R,
-    cursors: &mut [Cursor<'a>],
-    at: RowLine,
+    at: &RowLine<'_, 'a>,
 ) -> bool
-    requires index_in { at.index < at.height }
-    requires height { at.height ≡ (R.sheet row.now).height }
+    requires at { IsRowLine (R.sheet row.now) at.now }
     requires blank { line.old ≡ blank_row (R.sheet row.now).columns }
     requires slots { AreSlots (R.sheet row.now).columns slots.now }
-    requires cursors { AreCursors (R.sheet row.now).text cursors.old }
-    ensures laid { result ≡ true → line.new ≡ row_line (R.sheet row.now) at.index }
+    ensures laid { result ≡ true → line.new ≡ row_line (R.sheet row.now) at.now.index }
     ensures utf8 { IsUtf8 line.old → IsUtf8 line.new }
-    ensures cursors { AreCursors (R.sheet row.now).text cursors.new }
 {
-    if at.height != 1 {
-        return fill_lines(line, slots, row, cursors, at);
-    }
     match row.placements() {
-        KnownPlacements::Cached(cells) => fill_placed_texts(line, slots, row, cells),
-        KnownPlacements::Uniform(uniform) => fill_placed_texts(line, slots, row, uniform),
-        KnownPlacements::Styled => fill_styled_texts(line, slots, row),
+        KnownPlacements::Cached(cells) => fill_placed_texts(line, slots, row, cells, at),
+        KnownPlacements::Uniform(uniform) => fill_placed_texts(line, slots, row, uniform, at),
+        KnownPlacements::Styled => fill_styled_texts(line, slots, row, at),
     }
 }
 
@@ -306,30 +228,22 @@ impl RowTemplate {
         })
     }
 
-    /// Fills in a line of a row. Returns whether this succeeded; if not, the line must
-    /// be written without the template.
+    /// Fills in a line of a row. Returns whether this succeeded; if not, the line must be written
+    /// without the template.
     #[inline(always)]
-    pub fn fill_line<'a, R: Row<'a>>(
-        &mut self,
-        row: &R,
-        cursors: &mut [Cursor<'a>],
-        at: RowLine,
-    ) -> bool
+    pub fn fill_line<'a, R: Row<'a>>(&mut self, row: &R, at: &RowLine<'_, 'a>) -> bool
         requires known { IsTemplateOf (R.sheet row.now).columns self.old }
-        requires index_in { at.index < at.height }
-        requires height { at.height ≡ (R.sheet row.now).height }
-        requires cursors { AreCursors (R.sheet row.now).text cursors.old }
+        requires at { IsRowLine (R.sheet row.now) at.now }
         ensures known { IsTemplateOf (R.sheet row.now).columns self.new }
         ensures laid { result ≡ true
-            → self.new.line.items ≡ 10 ∷ row_line (R.sheet row.now) at.index }
-        ensures utf8 { result ≡ true → IsUtf8 (row_line (R.sheet row.now) at.index) }
-        ensures cursors { AreCursors (R.sheet row.now).text cursors.new }
+            → self.new.line.items ≡ 10 ∷ row_line (R.sheet row.now) at.now.index }
+        ensures utf8 { result ≡ true → IsUtf8 (row_line (R.sheet row.now) at.now.index) }
     {
-        if self.tries == 0 {
+        if self.tries == 0 || (at.height != 1 && !at.top) {
             return false;
         }
         self.line.copy_from_slice(self.blank.as_bytes());
-        let laid = fill_cells(&mut self.line[1..], &self.slots, row, cursors, at);
+        let laid = fill_cells(&mut self.line[1..], &self.slots, row, at);
         self.tries = if laid { TRIES } else { self.tries - 1 };
         laid
     }

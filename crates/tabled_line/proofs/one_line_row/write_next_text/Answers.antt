@@ -12,7 +12,7 @@ returns-in_err-write_separator-in-Some g c =
     let frame = (g.R.Row.sheet c.args.row.now).columns.frame in
     but-stopped _ _ (placed.text.now ++ fill 32 placed.behind) (sends-none _)
     (c.in_err-write_separator-in-Some.ensures frame c.requires.bar) c.from_residual.ensures.1
-    (spaced-parts (g.R.Row.sheet c.args.row.now) c.args.column placed c.args.line.now.behind c.in-Some.ensures)
+    (spaced-parts (g.R.Row.sheet c.args.row.now) c.args.spaced.now.line.index c.args.column placed c.args.spaced.now.behind c.in-Some.ensures)
 
 pub returns-in_err-write_text-in-Some : goal.returns-in_err-write_text-in-Some
 returns-in_err-write_text-in-Some g c =
@@ -21,7 +21,7 @@ returns-in_err-write_text-in-Some g c =
     but-stopped _ _ (fill 32 placed.behind) (c.in_ok-write_separator-in-Some.ensures frame c.requires.bar)
     c.in_err-write_text-in-Some.ensures.written
     c.from_residual-in_err-write_text-in-Some.ensures.1
-    (spaced-parts (g.R.Row.sheet c.args.row.now) c.args.column placed c.args.line.now.behind c.in-Some.ensures)
+    (spaced-parts (g.R.Row.sheet c.args.row.now) c.args.spaced.now.line.index c.args.column placed c.args.spaced.now.behind c.in-Some.ensures)
 
 pub returns-in_ok-write_text-in-Some : goal.returns-in_ok-write_text-in-Some
 returns-in_ok-write_text-in-Some g c =
@@ -31,19 +31,19 @@ returns-in_ok-write_text-in-Some g c =
       sent = _;
       sends = further (c.in_ok-write_separator-in-Some.ensures frame c.requires.bar) c.in_ok-write_text-in-Some.ensures.written refl;
       whole = append_assoc _ placed.text.now (fill 32 placed.behind)
-          ∙ sym (spaced-parts (g.R.Row.sheet c.args.row.now) c.args.column placed c.args.line.now.behind c.in-Some.ensures);
+          ∙ sym (spaced-parts (g.R.Row.sheet c.args.row.now) c.args.spaced.now.line.index c.args.column placed c.args.spaced.now.behind c.in-Some.ensures);
     }
 
 pub returns-in_err-write_spaces-in-None : goal.returns-in_err-write_spaces-in-None
 returns-in_err-write_spaces-in-None g c =
-    but-stopped _ _ (cell_piece (g.R.Row.sheet c.args.row.now) 0 c.args.column) (sends-none _) c.in_err-write_spaces-in-None.ensures
+    but-stopped _ _ (cell_piece (g.R.Row.sheet c.args.row.now) c.args.spaced.now.line.index c.args.column) (sends-none _) c.in_err-write_spaces-in-None.ensures
     c.from_residual-in_err-write_spaces-in-None.ensures.1 refl
 
 pub returns-in_err-write_cell-in-None : goal.returns-in_err-write_cell-in-None
 returns-in_err-write_cell-in-None g c =
-    but-stopped _ _ _ c.in_ok-write_spaces-in-None.ensures c.in_err-write_cell-in-None.ensures.printed
-    c.from_residual-in_err-write_cell-in-None.ensures.1 (ap (λ u. fill 32 c.args.line.now.behind ++ u) (sym (append-nil _)))
+    but-stopped _ _ _ c.in_ok-write_spaces-in-None.ensures c.in_err-write_cell-in-None.ensures
+    c.from_residual-in_err-write_cell-in-None.ensures.1 (ap (λ u. fill 32 c.args.spaced.now.behind ++ u) (sym (append-nil _)))
 
 pub returns-in_ok-write_cell-in-None : goal.returns-in_ok-write_cell-in-None
 returns-in_ok-write_cell-in-None g c =
-    owes-nothing _ (further c.in_ok-write_spaces-in-None.ensures c.in_ok-write_cell-in-None.ensures.printed refl)
+    owes-nothing _ (further c.in_ok-write_spaces-in-None.ensures c.in_ok-write_cell-in-None.ensures refl)

@@ -6,4 +6,4 @@ use Rattle.tabled_line.proofs.one_line_row.write_spaced_cells.Given as goal
 abbrev pub invariant-cells : goal.invariant-cells
 invariant-cells g l =
     SendsBut (g.S.TextSink.sent l.initial.sink) (g.S.TextSink.sent l.sink) l.behind
-    (flat_map (cell_piece (g.R.Row.sheet l.row) 0) (range_with_len 0 l.column))
+    (flat_map (cell_piece (g.R.Row.sheet l.row) l.line.index) (range_with_len 0 l.column))

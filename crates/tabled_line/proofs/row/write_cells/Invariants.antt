@@ -1,13 +1,9 @@
 use Rattle.std.specs.List.{flat_map, range_with_len}
-use Rattle.tabled_line.specs.Cursors.{AreCursors}
 use Rattle.tabled_line.specs.Row.{cell_piece}
 use Rattle.tabled_line.specs.Sent.{Sends}
 use Rattle.tabled_line.proofs.row.write_cells.Given as goal
 
 abbrev pub invariant-cells : goal.invariant-cells
 invariant-cells g l =
-    record {
-      printed : Sends (g.S.TextSink.sent l.initial.sink) (g.S.TextSink.sent l.sink)
-          (flat_map (cell_piece (g.R.Row.sheet l.row) l.index) (range_with_len 0 l.column));
-      cursors : AreCursors (g.R.Row.sheet l.row).text l.cursors;
-    }
+    Sends (g.S.TextSink.sent l.initial.sink) (g.S.TextSink.sent l.sink)
+    (flat_map (cell_piece (g.R.Row.sheet l.row) l.line.index) (range_with_len 0 l.column))

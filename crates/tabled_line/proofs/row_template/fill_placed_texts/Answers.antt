@@ -8,12 +8,12 @@ pub returns-then-is_empty-clause-laid : goal.returns-then-is_empty-clause-laid
 returns-then-is_empty-clause-laid g c = λ _.
     let rs = g.R.Row.sheet c.args.row.now in
     let none : length c.args.slots.now ≡ 0 = eqb-true (length c.args.slots.now) 0 (sym c.is_empty.ensures ∙ c.if-is_empty.true) in
-    laid-to-end (none-laid rs 0 _ c.requires.blank) (omega (arith, none, slots-count rs.columns c.args.slots.now c.requires.slots))
+    laid-to-end (none-laid rs c.args.at.now.index _ c.requires.blank) (omega (arith, none, slots-count rs.columns c.args.slots.now c.requires.slots))
 
 pub texts-init : goal.texts-init
 texts-init g c =
     record {
-      laid = none-laid (g.R.Row.sheet c.args.row.now) 0 _ c.requires.blank;
+      laid = none-laid (g.R.Row.sheet c.args.row.now) c.args.at.now.index _ c.requires.blank;
       utf8 = λ u. u;
     }
 
@@ -22,7 +22,7 @@ place_text-requires g c = λ κs.
     let rs = g.R.Row.sheet c.args.row.now in
     let within : c.texts.column < rs.columns.count = omega (arith, c.texts-test.true, slots-count rs.columns c.args.slots.now c.requires.slots) in
     let slot = slot-is rs.columns c.args.slots.now c.texts.column c.requires.slots within in
-    ((refl, tt), (c.requires.describes, (within, (ap (λ s. s.width) slot, c.requires.height))))
+    ((refl, tt), (c.requires.describes, (within, (ap (λ s. s.width) slot, c.requires.at))))
 
 pub text_offset-start-requires : goal.text_offset-start-requires
 text_offset-start-requires g c =
@@ -36,6 +36,7 @@ text_offset-start-requires g c =
     record {
       text = record {
         row = rs;
+        index = c.args.at.now.index;
         known = c.requires.describes;
         inside = within;
         listed = listed;

@@ -5,6 +5,6 @@ use Rattle.tabled_line.proofs.row_template.fill_placed_texts.Given as goal
 abbrev pub invariant-texts : goal.invariant-texts
 invariant-texts g l =
     record {
-      laid : IsLaidTo (g.R.Row.sheet l.row) 0 l.line l.column;
+      laid : IsLaidTo (g.R.Row.sheet l.row) l.at.index l.line l.column;
       utf8 : IsUtf8 l.fn.line → IsUtf8 l.line;
     }

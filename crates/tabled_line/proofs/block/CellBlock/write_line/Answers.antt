@@ -1,19 +1,24 @@
+use Rattle.std.proofs.Common.{ap, sym, ◌∙◌}
+use Rattle.std.specs.Option.{option_map}
 use Rattle.tabled_line.proofs.Blocks.{block-above, block-text, block-below}
 use Rattle.tabled_line.proofs.block.CellBlock.write_line.Goals as goal
 
-pub returns-then-index-above-clause-printed : goal.returns-then-index-above-clause-printed
-returns-then-index-above-clause-printed g c =
-    let l = rw c.lines_above.ensures.value at c.if-index-above.true in
+pub returns-then-index-above : goal.returns-then-index-above
+returns-then-index-above g c =
+    let l = rw c.text_start-above.ensures at c.if-index-above.true in
     rw (block-above c.args.self.now.style c.args.self.now.width c.args.self.now.height c.args.self.now.content.text.now c.args.index c.requires.index l) c.write_fill.ensures
 
-pub returns-in-Some-clause-printed : goal.returns-in-Some-clause-printed
-returns-in-Some-clause-printed g c =
-    let l = rw c.lines_above.ensures.value at c.if-index-above.false in
-    let e = rw c.lines_above.ensures.value at c.in-Some.ensures.line in
+pub write_text_line-requires : goal.write_text_line-requires
+write_text_line-requires g c = rw c.in-Some.is at c.requires.cursor.columns_are
+
+pub returns-in-Some : goal.returns-in-Some
+returns-in-Some g c =
+    let l = rw c.text_start-above.ensures at c.if-index-above.false in
+    let e = ap (option_map (λ line. line.0.now)) (sym c.in-Some.is) ∙ c.requires.cursor.line_is l in
     rw (block-text c.args.self.now.style c.args.self.now.width c.args.self.now.height c.args.self.now.content.text.now c.args.index c.in-Some.line.now c.requires.index l e) c.write_text_line.ensures
 
-pub returns-in-None-clause-printed : goal.returns-in-None-clause-printed
-returns-in-None-clause-printed g c =
-    let l = rw c.lines_above.ensures.value at c.if-index-above.false in
-    let e = rw c.lines_above.ensures.value at c.in-None.ensures.line in
+pub returns-in-None : goal.returns-in-None
+returns-in-None g c =
+    let l = rw c.text_start-above.ensures at c.if-index-above.false in
+    let e = ap (option_map (λ line. line.0.now)) (sym c.in-None.is) ∙ c.requires.cursor.line_is l in
     rw (block-below c.args.self.now.style c.args.self.now.width c.args.self.now.height c.args.self.now.content.text.now c.args.index c.requires.index l e) c.write_fill-in-None.ensures

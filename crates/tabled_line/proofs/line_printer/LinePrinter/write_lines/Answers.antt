@@ -1,4 +1,5 @@
-use Rattle.std.proofs.Common.{map, subst, ◌∙◌}
+use Rattle.std.proofs.Common.{◌≡◌, ◌+◌, ◌-◌, ap, arith, map, refl, subst, sym, ◌∙◌}
+use Rattle.tabled_line.specs.Cursors.{AreAt}
 use Rattle.std.specs.List.{range_with_len}
 use Rattle.tabled_line.specs.Leading.{WritesLines}
 use Rattle.tabled_line.specs.Row.{row_line, row_lines}
@@ -16,9 +17,27 @@ returns-in_err-write_row_line-clause-printed g c =
 
 pub lines-preserved : goal.lines-preserved
 lines-preserved g c =
+    let next : c.lines.index ≡ c.lines.index + 1 - 1 = omega arith in
     record {
       printed = lines-further c.lines.invariant.printed c.in_ok-write_row_line.ensures.printed (map-more (row_line (g.R.Row.sheet c.args.row.now)) _);
       same = c.in_ok-write_row_line.ensures.same ∙ c.lines.invariant.same;
       kept = c.in_ok-write_row_line.ensures.kept;
-      cursors = c.in_ok-write_row_line.ensures.cursors;
+      cursors = subst (λ i. AreAt (g.R.Row.sheet c.args.row.now) i c.advance_cursors.new.cursors) next (c.advance_cursors.ensures (g.R.Row.sheet c.args.row.now) c.lines.invariant.cursors);
     }
+
+pub write_row_line-requires : goal.write_row_line-requires
+write_row_line-requires g c = λ κs. (
+  (refl, tt),
+  (
+    c.lines.invariant.kept,
+    (
+      c.requires.over ∙ ap g.C.TableColumns.sheet (sym c.lines.invariant.same),
+      record {
+        index_in = c.lines-test.true;
+        height_is = c.requires.height;
+        top_is = c.are_top-top.ensures;
+        cursors_are = c.advance_cursors.ensures (g.R.Row.sheet c.args.row.now) c.lines.invariant.cursors;
+      },
+    ),
+  ),
+)

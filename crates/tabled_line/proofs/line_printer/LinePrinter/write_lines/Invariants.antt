@@ -1,8 +1,8 @@
-use Rattle.std.proofs.Common.{◌≡◌, map}
+use Rattle.std.proofs.Common.{◌≡◌, ◌-◌, map}
 use Rattle.std.specs.List.{range_with_len}
 use Rattle.tabled_line.specs.Leading.{LineSends}
 use Rattle.tabled_line.specs.LineCache.{IsCacheOf}
-use Rattle.tabled_line.specs.Cursors.{AreCursors}
+use Rattle.tabled_line.specs.Cursors.{AreAt}
 use Rattle.tabled_line.specs.Row.{row_line}
 use Rattle.tabled_line.proofs.line_printer.LinePrinter.write_lines.Given as goal
 
@@ -13,5 +13,5 @@ invariant-lines g l =
           (map (row_line (g.R.Row.sheet l.row)) (range_with_len 0 l.index));
       same : l.self.columns ≡ l.initial.self.columns;
       kept : IsCacheOf (g.C.TableColumns.sheet l.self.columns) l.self.kept;
-      cursors : AreCursors (g.R.Row.sheet l.row).text l.cursors;
+      cursors : AreAt (g.R.Row.sheet l.row) (l.index - 1) l.cursors;
     }

@@ -9,6 +9,6 @@ text-requires g c = subst IsUtf8 (sym (c.fill_line.ensures.laid c.if-fill_line.t
 
 pub returns-clause-printed : goal.returns-clause-printed
 returns-clause-printed g c =
-    let line : drop 1 c.text.result.now ≡ row_line (g.R.Row.sheet c.args.row.now) c.args.line.index =
+    let line : drop 1 c.text.result.now ≡ row_line (g.R.Row.sheet c.args.row.now) c.args.line.now.index =
     ap (drop 1) (c.text.ensures ∙ c.fill_line.ensures.laid c.if-fill_line.true) in
     rw line at c.write_feed_and_line.ensures

@@ -1,0 +1,50 @@
+use Rattle.std.proofs.Common.{◌≡◌, ◌+◌, ◌-◌, ◌≤◌, [], drop, sym, ap, ◌∙◌, arith}
+use Rattle.tabled_text.specs.Lines.{lines_in}
+use Rattle.tabled_text.specs.Measure.{lines_of}
+use Rattle.tabled_line.proofs.Moving.{drop-next, drop-past, line-at, no-line-at}
+use Rattle.tabled_line.proofs.cursor.Cursor.advance.Goals as goal
+
+pub returns-then-self-gt0 : goal.returns-then-self-gt0
+returns-then-self-gt0 c text above index h =
+    let some = c.if-self-gt0.true in
+    let same : index - above ≡ index + 1 - above = omega (arith, h.above_is, some) in
+    record {
+      ahead = record {
+        above_is = omega (arith, h.above_is);
+        rest_is = h.rest_is ∙ ap (λ k. drop k (lines_of text)) same;
+        widest_is = h.widest_is;
+      };
+      line_is = λ past. absurd (omega (arith, h.above_is, some, past));
+      columns_are = tt;
+    }
+
+pub returns-in_default : goal.returns-in_default
+returns-in_default c text above index h =
+    let none = c.if-self-gt0.false in
+    let next : index - above + 1 ≡ index + 1 - above = omega (arith, h.above_is, none) in
+    let past : [] ≡ drop (index - above) (lines_of text) = sym (ap lines_in c.in_default.is) ∙ h.rest_is in
+    record {
+      ahead = record {
+        above_is = omega (arith, h.above_is, none);
+        rest_is = ap lines_in c.in_default.is ∙ drop-past (lines_of text) (index - above) past ∙ ap (λ k. drop k (lines_of text)) next;
+        widest_is = h.widest_is;
+      };
+      line_is = λ _. no-line-at (lines_of text) (index - above) past;
+      columns_are = tt;
+    }
+
+pub returns : goal.returns
+returns c text above index h =
+    let none = c.if-self-gt0.false in
+    let next : index - above + 1 ≡ index + 1 - above = omega (arith, h.above_is, none) in
+    let line = c.split_line.result.0.now in
+    let left = sym c.split_line.ensures ∙ ap lines_in (sym c.in-Some.is) ∙ h.rest_is in
+    record {
+      ahead = record {
+        above_is = omega (arith, h.above_is, none);
+        rest_is = drop-next (lines_of text) (index - above) line _ left ∙ ap (λ k. drop k (lines_of text)) next;
+        widest_is = h.widest_is;
+      };
+      line_is = λ _. line-at (lines_of text) (index - above) line _ left;
+      columns_are = c.measure_line.ensures;
+    }

@@ -1,0 +1,12 @@
+use Rattle.std.proofs.Common.{◌≡◌, ◌≤◌, ◌<◌, ℕ, List, length}
+use Rattle.tabled_line.specs.Cursors.{IsAhead, IsAt, cursor_of}
+use Rattle.tabled_line.proofs.cursor.advance_cursors.Given as goal
+
+abbrev pub invariant-columns : goal.invariant-columns
+invariant-columns l =
+    record {
+      same : length l.cursors ≡ length l.initial.cursors;
+      moved : (k : ℕ) → k < l.column → (text : List ℕ) (above index : ℕ)
+          → IsAhead text above index (cursor_of l.initial.cursors k) → IsAt text above index (cursor_of l.cursors k);
+      left : (k : ℕ) → l.column ≤ k → cursor_of l.cursors k ≡ cursor_of l.initial.cursors k;
+    }

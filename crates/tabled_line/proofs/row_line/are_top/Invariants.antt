@@ -1,0 +1,6 @@
+use Rattle.std.proofs.Common.{◌<◌, ℕ}
+use Rattle.tabled_line.specs.RowLines.{IsTop}
+use Rattle.tabled_line.proofs.row_line.are_top.Given as goal
+
+abbrev pub invariant-columns : goal.invariant-columns
+invariant-columns g l = (k : ℕ) → k < l.column → IsTop ((g.R.Row.sheet l.row).style k)

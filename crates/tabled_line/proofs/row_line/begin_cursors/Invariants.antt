@@ -1,0 +1,10 @@
+use Rattle.std.proofs.Common.{◌≡◌, ◌<◌, ℕ, length}
+use Rattle.tabled_line.specs.Cursors.{IsCursor, cursor_of}
+use Rattle.tabled_line.proofs.row_line.begin_cursors.Given as goal
+
+abbrev pub invariant-columns : goal.invariant-columns
+invariant-columns g l =
+    record {
+      same : length l.cursors ≡ length l.initial.cursors;
+      begun : (k : ℕ) → k < l.column → IsCursor (g.R.Row.sheet l.row) 0 k (cursor_of l.cursors k);
+    }
