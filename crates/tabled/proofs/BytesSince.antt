@@ -284,11 +284,6 @@ pub puts_writes : {T : Type 0} (a b : Sent) (r : Result T TableError) (text : Li
 puts_writes a b (Ok x) text h = h.added
 puts_writes a b (Err e) text h = record { front = h.front; rest = h.rest; whole = h.whole; added = h.added }
 
-pub puts_begun : {T E : Type 0} (old new : Option (List ℕ)) (r : Result T E) (e : E) (text : List ℕ) → IsErrAnd r
-    (λ d. d ≡ e) → Begins old new text → Puts old r new text
-puts_begun old new (Ok x) e text h b = absurd h
-puts_begun old new (Err d) e text h b = b
-
 pub begun_none : (c : Option (List ℕ)) (text : List ℕ) → Begins c c text
 begun_none c text = record { front = []; rest = text; whole = refl; added = Appends-nil c c (Keeps-same c) }
 

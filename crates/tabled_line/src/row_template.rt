@@ -16,7 +16,8 @@ use std::alloc::Global;
 use tabled_base::TableError;
 use tabled_config::{HorizontalLine, VerticalLine};
 
-/// After this many lines in succession that couldn't be filled in, the template is given up.
+/// The template is given up after half as many lines that couldn't be filled in. Each line that is
+/// filled in makes up for half of one that wasn't.
 const TRIES: usize = 16;
 
 /// The most columns of a template, not counting vertical lines. A longer one isn't worth the
@@ -203,7 +204,7 @@ pub(crate) struct RowTemplate {
     /// Where the cells of the blank row begin.
     slots: Vec<Slot>,
     line: Vec<u8>,
-    /// How many more lines in succession may fail before the template is given up.
+    /// Twice the number of lines that may still fail before the template is given up.
     tries: usize,
 }
 
@@ -244,7 +245,11 @@ impl RowTemplate {
         }
         self.line.copy_from_slice(self.blank.as_bytes());
         let laid = fill_cells(&mut self.line[1..], &self.slots, row, at);
-        self.tries = if laid { TRIES } else { self.tries - 1 };
+        self.tries = if laid {
+            self.tries.saturating_add(1).min(TRIES)
+        } else {
+            self.tries.saturating_sub(2)
+        };
         laid
     }
 
