@@ -7,7 +7,7 @@ pub mod Each
 pub mod Fills
 pub mod SeparatorTexts
 pub mod Joined
-pub mod LaidSpots
+pub mod LaidSlots
 pub mod Laying
 pub mod Leading
 pub mod LeadingFeeds

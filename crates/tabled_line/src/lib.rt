@@ -24,7 +24,7 @@
 //! - `row`: the trait of a row, and writing one of its lines.
 //! - `row_line`: a line of a row, and the lines of the texts in it.
 //! - `placement`: where texts are in their columns.
-//! - `one_line_row`: lines written text by text, with separators between them.
+//! - `spaced_line`: lines written text by text, with separators between them.
 //! - `row_template`: a blank row that the texts of each row are copied into.
 //! - `laws`: facts about the lines of a row.
 //!
@@ -42,12 +42,12 @@ mod io_sink;
 pub mod laws;
 mod line_printer;
 mod new_config;
-mod one_line_row;
 mod placement;
 mod row;
 mod row_line;
 mod row_template;
 mod rules;
+mod spaced_line;
 mod text_sink;
 
 pub use block::{CellBlock, before_text};
@@ -57,9 +57,9 @@ pub use fill::{write_char, write_fill, write_indent, write_padded_text};
 pub use io_sink::{IoSink, WriterSink};
 pub use line_printer::{LinePrinter, write_break};
 pub use new_config::new_compact_config;
-pub use one_line_row::ColumnSeparator;
 pub use placement::{CellPlacement, KnownPlacements, Placement, UniformPlacement};
 pub use row::Row;
 pub use row_template::{bar_length, next_offset};
 pub use rules::{TableColumns, count_drawn, write_bar, write_left_edge, write_right_edge};
+pub use spaced_line::ColumnSeparator;
 pub use text_sink::TextSink;

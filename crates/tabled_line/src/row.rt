@@ -8,7 +8,7 @@ ghost use Rattle.tabled_line.specs.Sent.{Sent, Writes};
 
 use crate::block::CellBlock;
 use crate::content::Content;
-use crate::one_line_row::{ColumnSeparator, write_spaced_row};
+use crate::spaced_line::{ColumnSeparator, write_spaced_row};
 use crate::placement::KnownPlacements;
 use crate::row_line::RowLine;
 use crate::rules::{write_bar, write_left_edge, write_right_edge};

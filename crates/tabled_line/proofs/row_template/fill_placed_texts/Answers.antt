@@ -1,7 +1,7 @@
 use Rattle.std.proofs.Common.{◌≡◌, ◌+◌, ◌<◌, length, ap, refl, sym, ◌∙◌, arith}
 use Rattle.std.proofs.lemmas.Bool.{eqb-true}
 use Rattle.tabled_line.proofs.Laying.{stands-long}
-use Rattle.tabled_line.proofs.LaidSpots.{laid-to-end, none-laid, slot-is, slot-stands, slots-count, text-fits, text-laid, text-utf8}
+use Rattle.tabled_line.proofs.LaidSlots.{laid-to-end, none-laid, slot-is, slot-stands, slots-count, text-fits, text-laid, text-utf8}
 use Rattle.tabled_line.proofs.row_template.fill_placed_texts.Goals as goal
 
 pub returns-then-is_empty-clause-laid : goal.returns-then-is_empty-clause-laid

@@ -1,5 +1,5 @@
 use Rattle.std.specs.Prelude.{IsUtf8}
-use Rattle.tabled_line.proofs.LaidSpots.{IsLaidTo}
+use Rattle.tabled_line.proofs.LaidSlots.{IsLaidTo}
 use Rattle.tabled_line.proofs.row_template.fill_placed_texts.Given as goal
 
 abbrev pub invariant-texts : goal.invariant-texts

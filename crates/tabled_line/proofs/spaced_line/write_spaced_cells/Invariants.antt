@@ -1,7 +1,7 @@
 use Rattle.std.specs.List.{flat_map, range_with_len}
 use Rattle.tabled_line.specs.Row.{cell_piece}
 use Rattle.tabled_line.specs.SendsBut.{SendsBut}
-use Rattle.tabled_line.proofs.one_line_row.write_spaced_cells.Given as goal
+use Rattle.tabled_line.proofs.spaced_line.write_spaced_cells.Given as goal
 
 abbrev pub invariant-cells : goal.invariant-cells
 invariant-cells g l =

@@ -2,7 +2,7 @@ use Rattle.std.proofs.Common.{refl, ◌<◌, arith}
 use Rattle.tabled_line.specs.Row.{cell_piece}
 use Rattle.tabled_line.proofs.Each.{each-first, each-more, each-rest}
 use Rattle.tabled_line.proofs.Owing.{owes-finished, owes-further, owes-start, owes-stopped}
-use Rattle.tabled_line.proofs.one_line_row.write_spaced_cells.Goals as goal
+use Rattle.tabled_line.proofs.spaced_line.write_spaced_cells.Goals as goal
 
 pub cells-init : goal.cells-init
 cells-init g c = owes-start _ refl

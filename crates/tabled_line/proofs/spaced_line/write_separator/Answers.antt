@@ -3,7 +3,7 @@ use Rattle.tabled_line.specs.Fill.{fill}
 use Rattle.tabled_line.specs.Row.{piece}
 use Rattle.tabled_line.proofs.Bars.{bar-before, bar-first}
 use Rattle.tabled_line.proofs.Sending.{finished, sends-none, stopped-first}
-use Rattle.tabled_line.proofs.one_line_row.write_separator.Goals as goal
+use Rattle.tabled_line.proofs.spaced_line.write_separator.Goals as goal
 
 pub returns-then-column-gt0 : goal.returns-then-column-gt0
 returns-then-column-gt0 g c = λ frame bar.

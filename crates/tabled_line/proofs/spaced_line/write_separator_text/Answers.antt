@@ -2,7 +2,7 @@ use Rattle.std.proofs.Common.{◌++◌, append_assoc, refl, sym}
 use Rattle.tabled_line.specs.Fill.{fill}
 use Rattle.tabled_line.specs.Row.{piece}
 use Rattle.tabled_line.proofs.Sending.{finished, further, stopped, stopped-first}
-use Rattle.tabled_line.proofs.one_line_row.write_separator_text.Goals as goal
+use Rattle.tabled_line.proofs.spaced_line.write_separator_text.Goals as goal
 
 pub returns-in_err-write_spaces : goal.returns-in_err-write_spaces
 returns-in_err-write_spaces g c =

@@ -4,7 +4,7 @@ use Rattle.tabled_line.specs.Row.{cell_piece}
 use Rattle.tabled_line.proofs.Owing.{but-stopped, owes-nothing}
 use Rattle.tabled_line.proofs.Sending.{further, sends-none}
 use Rattle.tabled_line.proofs.Placing.{spaced-parts}
-use Rattle.tabled_line.proofs.one_line_row.write_next_text.Goals as goal
+use Rattle.tabled_line.proofs.spaced_line.write_next_text.Goals as goal
 
 pub returns-in_err-write_separator-in-Some : goal.returns-in_err-write_separator-in-Some
 returns-in_err-write_separator-in-Some g c =
