@@ -8,10 +8,10 @@ ghost use Rattle.tabled_line.specs.Sent.{Sent, Writes};
 
 use crate::block::CellBlock;
 use crate::content::Content;
-use crate::spaced_line::{ColumnSeparator, write_spaced_row};
 use crate::placement::KnownPlacements;
 use crate::row_line::RowLine;
 use crate::rules::{write_bar, write_left_edge, write_right_edge};
+use crate::spaced_line::{ColumnSeparator, write_spaced_row};
 use crate::text_sink::TextSink;
 use tabled_base::TableError;
 use tabled_config::{CellStyle, Frame, RowStyles};
