@@ -1,6 +1,6 @@
 //! Sizes that never change (`ConstDimension`, `StaticDimension`, `ZeroDimension`).
-ghost use Rattle.std.specs.Prelude.{◌≡◌, ◌⊎◌, IfErr, IfOk, OnErr, Some, is_some, true, ℕ};
-ghost use Rattle.tabled_base.specs.declared.error.TableError.TheVariants.{Memory};
+ghost use Rattle.std.specs.Prelude.{◌≡◌, ◌⊎◌, IfErr, IfOk, OnErr, OnOk, Some, is_some, true, ℕ};
+ghost use Rattle.tabled_base.specs.declared.error.TableError.TheVariants.{Memory, Range};
 ghost use Rattle.tabled_size.specs.declared.const_dimension.ConstSize.TheVariants.{List as Listed};
 ghost use Rattle.tabled_size.specs.declared.const_dimension.ConstSize.TheVariants.{Value};
 ghost use Rattle.tabled_size.specs.FixedSizes.{HasList, IsSameValue, listed_at, size_at, value_at};
@@ -114,7 +114,9 @@ impl<R, C, const COLUMNS: usize, const ROWS: usize> Estimate<R, C>
     ghost estimates = { λ s records config t. t ≡ s };
 
     fn estimate(&mut self, _records: &R, _config: &C) -> Result<(), TableError>
-        ensures same { self.new ≡ self.old }
+        ensures ok { OnOk result (self.new ≡ self.old) }
+        ensures err { OnErr result (self.new ≡ self.old) }
+        ensures only { IfErr result (λ e. (e ≡ Memory) ⊎ ((e ≡ Range) × ⊥)) }
         ensures never { OnErr result ⊥ }
     {
         Ok(())
@@ -235,7 +237,9 @@ impl<R, C> Estimate<R, C> for StaticDimension {
     ghost estimates = { λ s records config t. t ≡ s };
 
     fn estimate(&mut self, _records: &R, _config: &C) -> Result<(), TableError>
-        ensures same { self.new ≡ self.old }
+        ensures ok { OnOk result (self.new ≡ self.old) }
+        ensures err { OnErr result (self.new ≡ self.old) }
+        ensures only { IfErr result (λ e. (e ≡ Memory) ⊎ ((e ≡ Range) × ⊥)) }
         ensures never { OnErr result ⊥ }
     {
         Ok(())
@@ -283,7 +287,9 @@ impl<R, C> Estimate<R, C> for ZeroDimension {
     ghost estimates = { λ s records config t. t ≡ s };
 
     fn estimate(&mut self, _records: &R, _config: &C) -> Result<(), TableError>
-        ensures same { self.new ≡ self.old }
+        ensures ok { OnOk result (self.new ≡ self.old) }
+        ensures err { OnErr result (self.new ≡ self.old) }
+        ensures only { IfErr result (λ e. (e ≡ Memory) ⊎ ((e ≡ Range) × ⊥)) }
         ensures never { OnErr result ⊥ }
     {
         Ok(())
