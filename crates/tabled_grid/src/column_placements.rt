@@ -1,5 +1,4 @@
-//! The placements of all columns in rows of one line, computed once for rows with the same
-//! settings.
+//! The placements of all columns, computed once for rows with the same settings.
 ghost use Rattle.std.specs.Prelude.{◌≡◌, ◌≤◌, IfSome, length};
 ghost use Rattle.tabled_config.specs.Settings.{style_at};
 ghost use Rattle.tabled_grid.specs.ColumnStyles.{columns_by, placements_of};
@@ -61,9 +60,9 @@ pub(crate) enum ColumnPlacements {
 }
 
 impl ColumnPlacements {
-    /// Returns the placements of a row of `columns` cells, for rows of one line. `None` if a width
-    /// is missing, a text has no placement, an offset overflows, or there are more than
-    /// `FEW_COLUMNS` columns and memory for them can't be allocated.
+    /// Returns the placements of a row of `columns` cells. `None` if a width is missing, a text has
+    /// no placement, an offset overflows, or there are more than `FEW_COLUMNS` columns and memory
+    /// for them can't be allocated.
     pub fn new<D: Dimension>(
         memory: Option<Global>,
         config: &SpannedConfig,

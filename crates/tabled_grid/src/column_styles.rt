@@ -42,7 +42,7 @@ pub(crate) struct ColumnStyles {
     everywhere: bool,
     // Cached only with an allocator.
     styles: Option<Vec<CellStyle>>,
-    // The placements for rows of one line, if each text is known to have one.
+    // The placements, if each text is known to have one.
     placements: Option<ColumnPlacements>,
 }
 
@@ -92,8 +92,8 @@ impl ColumnStyles {
         }
     }
 
-    /// Returns the placements of a row of one line, if they are cached and the row is known to have
-    /// the same settings.
+    /// Returns the placements of a row's cells, if they are cached and the row is known to have the
+    /// same settings.
     pub fn placements_in_row(&self, config: &SpannedConfig, row: usize) -> Option<&[CellPlacement]>
         ensures { (width : ℕ → ℕ) (columns : ℕ) → AreStyles config.now width columns self.now
             → IfSome result (λ placements. ArePlacements (style_at config.now row)

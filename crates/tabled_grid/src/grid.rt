@@ -16,7 +16,7 @@ use crate::column_styles::ColumnStyles;
 use std::alloc::Global;
 use std::marker::Model;
 use tabled_base::PeekableRecords;
-use tabled_config::{Frame, HorizontalLine, RowStyles, SpannedConfig};
+use tabled_config::{CellStyle, Frame, HorizontalLine, RowStyles, SpannedConfig};
 use tabled_line::{CellPlacement, ColumnSeparator, UniformPlacement};
 use tabled_size::Dimension;
 
@@ -38,6 +38,8 @@ pub(crate) struct Grid<'a, R: PeekableRecords, D: Dimension> {
     pub separator: ColumnSeparator,
     /// The placement of all texts, if nothing was set for a part of the table.
     pub uniform: Option<UniformPlacement>,
+    // The style of all cells, if nothing was set for a part of the table.
+    shared: Option<CellStyle>,
     by_column: Option<ColumnStyles>,
 }
 
@@ -53,7 +55,9 @@ impl<'a, R: PeekableRecords, D: Dimension> Model for Grid<'a, R, D> {
         → IsUniform (style_at g.config.now row column) uniform)
         × IfSome g.by_column (let count = columns (R.cells g.records.now) in
         AreStyles g.config.now (slice_index (reached (D.width_at g.dimension.now) count)) count)
-        × (g.between ≡ if_any (inner_line g.config.now.borders)) };
+        × (g.between ≡ if_any (inner_line g.config.now.borders))
+        × IfSome g.shared (λ style. (row column : ℕ)
+        → style_at g.config.now row column ≡ style) };
 }
 
 /// Returns the placement that all texts share, if nothing was set for a part of the table.
@@ -92,6 +96,7 @@ impl<'a, R: PeekableRecords, D: Dimension> Grid<'a, R, D> {
             between: config.borders.line_at(2, 1),
             separator: ColumnSeparator::new(around.inner),
             uniform: uniform_of_table(config),
+            shared: config.shared_style(),
             by_column,
         }
     }
@@ -100,6 +105,9 @@ impl<'a, R: PeekableRecords, D: Dimension> Grid<'a, R, D> {
         ensures { (column : ℕ) → column < columns self.now.cells
             → style_in result column ≡ style_at self.now.config row column }
     {
+        if let Some(style) = self.shared {
+            return RowStyles::Alike(style);
+        }
         if let Some(kept) = &self.by_column
             && let Some(styles) = kept.in_row(self.config, row)
         {
@@ -108,7 +116,7 @@ impl<'a, R: PeekableRecords, D: Dimension> Grid<'a, R, D> {
         self.config.styles_in(row)
     }
 
-    /// Returns the placement and offset of each cell of a row of one line, if they are cached.
+    /// Returns the placement and offset of each cell of a row, if they are cached.
     #[inline(always)]
     pub fn placements(&self, row: usize) -> Option<&[CellPlacement]>
         ensures { IfSome result (λ placements. ArePlacements (style_at self.now.config row)
