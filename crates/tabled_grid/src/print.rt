@@ -9,11 +9,12 @@ ghost use Rattle.tabled_size.specs.Holds.{IsSized};
 
 use crate::checks::{check_narrow, check_sizes, check_totals};
 use crate::grid::Grid;
+use crate::parts::GridRow;
 use crate::picture::write_picture;
 use std::alloc::Global;
 use tabled_base::{PeekableRecords, TableError};
 use tabled_config::SpannedConfig;
-use tabled_line::{Cursor, FEW_CURSORS, MANY_CURSORS, TextSink};
+use tabled_line::{Cursor, FEW_CURSORS, MANY_CURSORS, Row, TextSink};
 use tabled_size::{Dimension, is_empty};
 
 /// Writes a picture with cursors for many columns. They take 56 KiB of stack, which other calls
@@ -31,9 +32,21 @@ fn write_with_many_cursors<'a, R: PeekableRecords, D: Dimension, S: TextSink>(
     write_picture(sink, grid, &mut [Cursor::nowhere(); MANY_CURSORS], whole)
 }
 
-/// Prints a table whose sizes hold its cells. With an allocator, each column has a cursor: they are
-/// allocated for more than `MANY_CURSORS` columns. `Range`: a total passes `usize::MAX`; nothing is
-/// written.
+/// Whether a row has several lines.
+fn has_tall_row<'a, R: PeekableRecords, D: Dimension>(grid: &'a Grid<'a, R, D>) -> bool
+    requires { IsSized grid.now }
+{
+    'rows: for row in 0..grid.records.count_rows() {
+        if (GridRow { grid, row }).height() > 1 {
+            return true;
+        }
+    }
+    false
+}
+
+/// Prints a table whose sizes hold its cells. With an allocator, each column has a cursor if a row
+/// has several lines: they are allocated for more than `MANY_CURSORS` columns. `Range`: a total
+/// passes `usize::MAX`; nothing is written.
 #[tactic(auto, unfolding(crate::specs::Picture::picture))]
 pub(crate) fn print_checked<'a, R: PeekableRecords, D: Dimension, S: TextSink>(
     memory: Option<Global>,
@@ -54,7 +67,7 @@ pub(crate) fn print_checked<'a, R: PeekableRecords, D: Dimension, S: TextSink>(
         );
     }
     match memory {
-        Some(alloc) if columns > MANY_CURSORS => {
+        Some(alloc) if columns > MANY_CURSORS && has_tall_row(grid) => {
             let mut cursors = vec![in alloc; Cursor::nowhere(); columns]?;
             write_picture(sink, grid, &mut cursors, total_width)
         }
