@@ -60,15 +60,6 @@ impl<'a, R: PeekableRecords, D: Dimension> Model for Grid<'a, R, D> {
         → style_at g.config.now row column ≡ style) };
 }
 
-/// Returns the placement that all texts share, if nothing was set for a part of the table.
-fn uniform_of_table(config: &SpannedConfig) -> Option<UniformPlacement>
-    ensures { IfSome result (λ uniform. (row column : ℕ)
-        → IsUniform (style_at config.now row column) uniform) }
-{
-    let style = config.shared_style()?;
-    UniformPlacement::new(&style)
-}
-
 impl<'a, R: PeekableRecords, D: Dimension> Grid<'a, R, D> {
     /// Borrows records, settings and sizes, and looks up what all rows share.
     pub fn new(
@@ -82,6 +73,7 @@ impl<'a, R: PeekableRecords, D: Dimension> Grid<'a, R, D> {
     {
         let around = config.frame();
         let rows = records.count_rows();
+        let shared = config.shared_style();
         // Without settings for columns, most rows have one style that is looked up directly.
         let by_column = match config.row_style(rows) {
             Some(_) => None,
@@ -95,8 +87,11 @@ impl<'a, R: PeekableRecords, D: Dimension> Grid<'a, R, D> {
             around,
             between: config.borders.line_at(2, 1),
             separator: ColumnSeparator::new(around.inner),
-            uniform: uniform_of_table(config),
-            shared: config.shared_style(),
+            uniform: match &shared {
+                Some(style) => UniformPlacement::new(style),
+                None => None,
+            },
+            shared,
             by_column,
         }
     }
