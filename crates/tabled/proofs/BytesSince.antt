@@ -11,7 +11,7 @@ use Rattle.tabled_base.specs.declared.error.TableError.TheVariants.{Writer}
 use Rattle.tabled_line.specs.Sent.{IsCause, Rose, Sent, Sends, Stops, Writes}
 use Rattle.tabled_line.proofs.Sending.{Appends-nil, Appends-then, Keeps-same}
 use Rattle.tabled.specs.BlockSent.{Advances, Block, begins, block_sent, sent_since, since}
-use Rattle.tabled.specs.Output.{Begins, Puts, Handed}
+use Rattle.tabled.specs.Output.{Begins, Puts, IsPartlyWritten}
 use Rattle.std.proofs.Math.Seq.{take-append-add, take-append_seam}
 
 -- ---- bytes that wait behind a writer
@@ -341,8 +341,8 @@ puts_err {T} {E} old new r e text h b = let P : Result T E → Type 0 = λ x. Pu
 
 -- ---- lines that a writer is handed
 
-pub handed_more : (a b c : Option (List ℕ)) (text rest next : List ℕ) (n : ℕ) → Handed a b text rest → Appends b c (take n rest) → next ≡ drop n rest
-    → Handed a c text next
+pub handed_more : (a b c : Option (List ℕ)) (text rest next : List ℕ) (n : ℕ) → IsPartlyWritten a b text rest → Appends b c (take n rest) → next ≡ drop n rest
+    → IsPartlyWritten a c text next
 handed_more a b c text rest next n h took e = record {
   front = h.front ++ take n rest;
   whole = append_assoc h.front (take n rest) next ∙ ap (λ u. h.front ++ (take n rest ++ u)) e ∙ ap (λ u. h.front ++ u) (take-append-drop n rest) ∙ h.whole;
@@ -350,7 +350,7 @@ handed_more a b c text rest next n h took e = record {
 }
 
 -- a writer that took nothing more
-pub handed_part : (a b c : Option (List ℕ)) (text rest : List ℕ) → Handed a b text rest → Keeps b c → Begins a c text
+pub handed_part : (a b c : Option (List ℕ)) (text rest : List ℕ) → IsPartlyWritten a b text rest → Keeps b c → Begins a c text
 handed_part a b c text rest h keeps = record {
   front = h.front;
   rest = rest;

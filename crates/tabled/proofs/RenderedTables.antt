@@ -32,7 +32,7 @@ use Rattle.tabled.specs.Rendered.{Halts, IsRendered, IsRenderedOf, PassesRange, 
 use Rattle.std.specs.List.{slice_index_or}
 use Rattle.std.proofs.lemmas.List.{get_or_default}
 use Rattle.tabled_grid.specs.ApartSheet.{IsApartConfig}
-use Rattle.tabled_grid.specs.Printed.{IsRefused, Prints}
+use Rattle.tabled_grid.specs.Printed.{IsFailure, Prints}
 use Rattle.tabled_grid.proofs.EstimatedSizes.{holds_estimated, sized_estimated}
 use Rattle.tabled_set.proofs.ExactTotals.{changed_empty}
 use Rattle.tabled_set.specs.Narrowed.{for_content_size}
@@ -150,7 +150,7 @@ prints_made plan whole estimates t old (Err e) new m h =
     )) o)
     h.1
   where
-    refused : (d : TableError) → IsRefused t d → new ≡ old
+    refused : (d : TableError) → IsFailure t d → new ≡ old
         → ((d ≡ Memory) × (new ≡ old))
         ⊎ ((is_empty whole.cells ≡ false)
         × (((d ≡ Range) × (new ≡ old) × PassesRange (IsPlannedOf plan whole) whole) ⊎ BreaksOff (IsPlannedOf plan whole) (IsBestOf plan whole) (λ e. ⊥) old d new))

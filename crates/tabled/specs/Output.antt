@@ -32,7 +32,7 @@ pub record Begins (old new : Option (List ℕ)) (text : List ℕ) : Type 0 where
   pub added : Appends old new front
 
 -- the bytes, if known, grow by a text without its rest
-pub record Handed (old new : Option (List ℕ)) (text rest : List ℕ) : Type 0 where
+pub record IsPartlyWritten (old new : Option (List ℕ)) (text rest : List ℕ) : Type 0 where
   pub front : List ℕ
   pub whole : front ++ rest ≡ text
   pub added : Appends old new front

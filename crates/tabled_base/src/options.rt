@@ -14,7 +14,7 @@ pub trait TableOption<R, C, D> {
     ghost changes: { Self → R → C → D → R → C → D → Type 0 };
 
     // The same relation for a change that fails with an error. By default no change fails.
-    ghost refuses: { Self → TableError → R → C → D → R → C → D
+    ghost fails: { Self → TableError → R → C → D → R → C → D
         → Type 0 } = { λ _ _ _ _ _ _ _ _. ⊥ };
 
     // Holds if a sum or product of the change exceeds `usize::MAX`. By default none does.
@@ -33,7 +33,7 @@ pub trait TableOption<R, C, D> {
             records.old cfg.old dims.old records.new cfg.new dims.new) }
         ensures promised { OnOk result (promises self
             records.old cfg.old dims.old records.new cfg.new dims.new) }
-        ensures err { IfErr result (λ e. refuses self e
+        ensures err { IfErr result (λ e. fails self e
             records.old cfg.old dims.old records.new cfg.new dims.new) }
         ensures only { IfErr result (λ e. (e ≡ Memory) ⊎ (e ≡ Range)) }
         ensures range { IfErr result (λ e. e ≡ Range → out_of_range self
@@ -51,7 +51,7 @@ pub trait CellOption<R, C> {
     ghost changes: { Self → R → C → Entity → R → C → Type 0 };
 
     // The same relation for a change that fails with an error. By default no change fails.
-    ghost refuses: { Self → TableError → R → C → Entity → R → C → Type 0 } = { λ _ _ _ _ _ _ _. ⊥ };
+    ghost fails: { Self → TableError → R → C → Entity → R → C → Type 0 } = { λ _ _ _ _ _ _ _. ⊥ };
 
     // Holds if a sum or product of the change exceeds `usize::MAX`. By default none does.
     ghost out_of_range: { Self → R → C → Entity → Type 0 } = { λ _ _ _ _. ⊥ };
@@ -64,7 +64,7 @@ pub trait CellOption<R, C> {
     fn change(&self, records: &mut R, cfg: &mut C, entity: Entity) -> Result<(), TableError>
         ensures ok { OnOk result (changes self.now
             records.old cfg.old entity records.new cfg.new) }
-        ensures err { IfErr result (λ e. refuses self.now e
+        ensures err { IfErr result (λ e. fails self.now e
             records.old cfg.old entity records.new cfg.new) }
         ensures only { IfErr result (λ e. (e ≡ Memory) ⊎ (e ≡ Range)) }
         ensures range { IfErr result (λ e. e ≡ Range

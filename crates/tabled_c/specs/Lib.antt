@@ -1,3 +1,3 @@
-pub mod Answers
+pub mod ReturnsText
 pub mod Asked
 pub mod Printed

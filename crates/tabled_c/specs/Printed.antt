@@ -19,7 +19,7 @@ use Rattle.tabled.specs.Rendered.{PassesRange}
 use Rattle.tabled_c.specs.declared.arguments.StyleName.{StyleName}
 use Rattle.tabled_c.specs.declared.error_code.ErrorCode.{ErrorCode}
 use Rattle.tabled_c.specs.declared.error_code.ErrorCode.TheVariants.{Memory, Range, NoText, NoStyle, NoPlan}
-use Rattle.tabled_c.specs.Answers.{code_of}
+use Rattle.tabled_c.specs.ReturnsText.{code_of}
 use Rattle.tabled_c.specs.Asked.{Asks, style_of, style_word}
 
 -- the table of a text in a style, with estimated sizes

@@ -1,6 +1,6 @@
 //! The negative results of the exported functions.
 ghost use Rattle.std.specs.Prelude.{◌≡◌};
-ghost use Rattle.tabled_c.specs.Answers.{code_of};
+ghost use Rattle.tabled_c.specs.ReturnsText.{code_of};
 
 #[derive(Clone, Copy, Debug)]
 pub(crate) enum ErrorCode {

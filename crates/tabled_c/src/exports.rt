@@ -1,7 +1,7 @@
 //! The exported functions. A slice is a pointer and a length.
 ghost use Rattle.std.specs.Prelude.{◌<◌};
 ghost use Rattle.tabled_text.specs.Cut.{NeedsFill};
-ghost use Rattle.tabled_c.specs.Answers.{Answers, IsPut};
+ghost use Rattle.tabled_c.specs.ReturnsText.{ReturnsText, IsPut};
 ghost use Rattle.tabled_c.specs.Printed.{IsCutText, IsMeasured, IsTable, IsTableCause, IsTextCause};
 ghost use Rattle.tabled_c.specs.Printed.{IsWrappedText};
 
@@ -23,8 +23,8 @@ fn put(text: &str, buffer: &mut [u8]) -> isize
     bytes.len() as isize
 }
 
-/// Prints tab-separated rows as a table into `room`. Returns the number of bytes needed, or an
-/// error code below 0. If `room` is too small, nothing is written.
+/// Prints tab-separated rows as a table into `buffer`. Returns the number of bytes needed, or an
+/// error code below 0. If `buffer` is too small, nothing is written.
 ///
 /// - `style`: `ascii`, `modern`, `extended`, `markdown`, `psql` or `empty`.
 /// - `kind`: 0 prints the table as it is. Wider tables are fitted into `columns`: 1 wraps their
@@ -39,11 +39,11 @@ pub extern "C" fn fanlightnard_print(
     kind: u32,
     order: u32,
     columns: usize,
-    room: &mut [u8],
+    buffer: &mut [u8],
 ) -> isize
-    ensures { Answers (IsTable text.now style.now kind order columns)
+    ensures { ReturnsText (IsTable text.now style.now kind order columns)
         (IsTableCause text.now style.now kind order columns)
-        room.old result room.new }
+        buffer.old result buffer.new }
 {
     let Some(name) = style_named(style) else {
         return ErrorCode::NoStyle.code();
@@ -56,7 +56,7 @@ pub extern "C" fn fanlightnard_print(
     };
     let mut out = String::new(alloc);
     match render_styled(alloc, text, style_of(name), plan, &mut out) {
-        Ok(()) => put(out.as_str(), room),
+        Ok(()) => put(out.as_str(), buffer),
         Err(TableError::Range) => ErrorCode::Range.code(),
         Err(_) => ErrorCode::Memory.code(),
     }
@@ -77,29 +77,29 @@ pub extern "C" fn fanlightnard_measure(text: &[u8]) -> isize
     columns as isize
 }
 
-/// Cuts a text to `columns` and writes it to `room`. Returns the number of bytes needed, or an
-/// error code below 0. If `room` is too small, nothing is written.
+/// Cuts a text to `columns` and writes it to `buffer`. Returns the number of bytes needed, or an
+/// error code below 0. If `buffer` is too small, nothing is written.
 #[unsafe(no_mangle)]
 pub extern "C" fn fanlightnard_cut(
     alloc: Global,
     text: &[u8],
     columns: usize,
-    room: &mut [u8],
+    buffer: &mut [u8],
 ) -> isize
-    ensures { Answers (IsCutText columns text.now)
-        (IsTextCause text.now (NeedsFill columns text.now)) room.old result room.new }
+    ensures { ReturnsText (IsCutText columns text.now)
+        (IsTextCause text.now (NeedsFill columns text.now)) buffer.old result buffer.new }
 {
     let Ok(text) = from_utf8(text) else {
         return ErrorCode::NoText.code();
     };
     match cut_str(alloc, text, columns) {
-        Ok(cut) => put(cut.as_str(), room),
+        Ok(cut) => put(cut.as_str(), buffer),
         Err(_) => ErrorCode::Memory.code(),
     }
 }
 
-/// Wraps a text to `columns` and writes it to `room`. Returns the number of bytes needed, or an
-/// error code below 0. If `room` is too small, nothing is written.
+/// Wraps a text to `columns` and writes it to `buffer`. Returns the number of bytes needed, or an
+/// error code below 0. If `buffer` is too small, nothing is written.
 ///
 /// - `words`: wrap between words where possible.
 #[unsafe(no_mangle)]
@@ -108,16 +108,16 @@ pub extern "C" fn fanlightnard_wrap(
     text: &[u8],
     columns: usize,
     words: bool,
-    room: &mut [u8],
+    buffer: &mut [u8],
 ) -> isize
-    ensures { Answers (IsWrappedText columns words text.now)
-        (IsTextCause text.now (0 < columns)) room.old result room.new }
+    ensures { ReturnsText (IsWrappedText columns words text.now)
+        (IsTextCause text.now (0 < columns)) buffer.old result buffer.new }
 {
     let Ok(text) = from_utf8(text) else {
         return ErrorCode::NoText.code();
     };
     match wrap_text(alloc, text, columns, words) {
-        Ok(wrapped) => put(wrapped.as_str(), room),
+        Ok(wrapped) => put(wrapped.as_str(), buffer),
         Err(_) => ErrorCode::Memory.code(),
     }
 }

@@ -10,7 +10,7 @@ use Rattle.tabled_line.proofs.Leading.{lines-finished, lines-text}
 use Rattle.tabled_line.proofs.Sending.{sends-along, sends-none}
 use Rattle.tabled_compact.specs.CompactCells.{CompactSheet}
 use Rattle.tabled_compact.specs.CompactLines.{compact_lines, compact_text, rows_lines, rows_text, tail_lines}
-use Rattle.tabled_compact.specs.Printed.{IsPrintable, IsPrinted, IsRefused, PrintsCompact}
+use Rattle.tabled_compact.specs.Printed.{IsPrintable, IsPrinted, IsFailure, PrintsCompact}
 use Rattle.tabled_compact.specs.RowsPut.{PutsRows}
 use Rattle.tabled_compact.specs.Shown.{AreEnough, AreWanted, IsSpent, has_rows, in_window, shown, spanned, wanted}
 use Rattle.tabled_compact.specs.declared.window.Window.{Window}
@@ -126,7 +126,7 @@ module _ (t : CompactSheet) (w : Window) (comes : List (List (List ℕ)) → Boo
   -- the table can't be printed
   pub prints-refused : {T : Type 0} (error : TableError) (r : Result T TableError)
       → MatchResult r (λ _. (length rows ≤ w.skip) × (whole ≡ true)) (λ e. (length rows ≡ w.skip + 1) × (e ≡ error))
-      → (IsSpent w → ⊥) → IsRefused t error → PrintsCompact t w comes old r old
+      → (IsSpent w → ⊥) → IsFailure t error → PrintsCompact t w comes old r old
   prints-refused error (Ok x) found still cause =
       let none = all-shown ∙ window-none w rows found.0 in
       let few = found.0 in
@@ -140,7 +140,7 @@ module _ (t : CompactSheet) (w : Window) (comes : List (List (List ℕ)) → Boo
         sends = nothing-sent t (shown t.count w rows) old none;
       }
   prints-refused error (Err d) found still cause =
-      let R : TableError → Type 0 = λ k. IsRefused t k in
+      let R : TableError → Type 0 = λ k. IsFailure t k in
       let first = found.0 in
       record {
         rows = rows;

@@ -6,17 +6,17 @@ use Rattle.tabled_line.specs.Sent.{Sent}
 use Rattle.tabled_line.specs.WriterSent.{named_sent}
 use Rattle.tabled_line.proofs.Writers.{LeavesSo, byte_of, writer-leaves, writer-sends}
 use Rattle.tabled_compact.specs.CompactCells.{CompactSheet}
-use Rattle.tabled_compact.specs.Printed.{BuildsCompact, IsEnded, IsRefused, IsRefusedEarly, IsStopped, PrintsCompact}
+use Rattle.tabled_compact.specs.Printed.{BuildsCompact, IsEnded, IsFailure, FailsEarly, IsStopped, PrintsCompact}
 use Rattle.tabled_compact.specs.declared.window.Window.{Window}
 
-not_writer : (t : CompactSheet) (e : TableError) → IsRefused t e → e ≡ Writer → ⊥
-not_writer t e h k = let P : TableError → Type 0 = λ x. IsRefused t x in subst P k h
+not_writer : (t : CompactSheet) (e : TableError) → IsFailure t e → e ≡ Writer → ⊥
+not_writer t e h k = let P : TableError → Type 0 = λ x. IsFailure t x in subst P k h
 
 -- why a compact table isn't printed whole, for another sink
 ended-so : {a b a' b' : Sent} {e : TableError} (t : CompactSheet) (w : Window) (comes : List (List (List ℕ)) → Bool → Type 0)
     → LeavesSo a b e a' b' → IsEnded t w comes a e b → IsEnded t w comes a' e b'
 ended-so {a} {b} {a'} {b'} {e} t w comes so p =
-    let early : IsRefusedEarly t w p.rows a e b → IsRefusedEarly t w p.rows a' e b' =
+    let early : FailsEarly t w p.rows a e b → FailsEarly t w p.rows a' e b' =
     λ q. record { first = q.first; cause = q.cause; same = so.same (not_writer t e q.cause) q.same } in
     let stopped : IsStopped t w p.rows p.whole a e b → IsStopped t w p.rows p.whole a' e b' =
     λ q. record {

@@ -11,10 +11,10 @@ use Rattle.tabled_compact.specs.declared.window.Window.{Window}
 
 -- why printing a table that shows a row fails: a width is missing; or none is, and the total width
 -- exceeds the greatest `usize`
-abbrev pub IsRefused : CompactSheet → TableError → Type 0
-IsRefused t ShortWidths = length t.widths < t.count
-IsRefused t Range = (t.count ≤ length t.widths) × (2 ^ 64 ≤ compact_width t)
-IsRefused t _ = ⊥
+abbrev pub IsFailure : CompactSheet → TableError → Type 0
+IsFailure t ShortWidths = length t.widths < t.count
+IsFailure t Range = (t.count ≤ length t.widths) × (2 ^ 64 ≤ compact_width t)
+IsFailure t _ = ⊥
 
 -- the table can be printed
 pub record IsPrintable (t : CompactSheet) : Type 0 where
@@ -34,9 +34,9 @@ pub record IsPrinted (t : CompactSheet) (w : Window) (comes : List (List (List �
 
 -- an error before the first byte: the first row that is shown was read, and the table can't be
 -- printed
-pub record IsRefusedEarly (t : CompactSheet) (w : Window) (rows : List (List (List ℕ))) (old : Sent) (error : TableError) (new : Sent) : Type 0 where
+pub record FailsEarly (t : CompactSheet) (w : Window) (rows : List (List (List ℕ))) (old : Sent) (error : TableError) (new : Sent) : Type 0 where
   pub first : length rows ≡ w.skip + 1
-  pub cause : IsRefused t error
+  pub cause : IsFailure t error
   pub same : new ≡ old
 
 -- the table can be printed, and the sink failed: a beginning was written of the lines of the rows
@@ -53,7 +53,7 @@ pub record IsEnded (t : CompactSheet) (w : Window) (comes : List (List (List ℕ
   pub came : comes rows whole
   pub taken : AreWanted t.count w rows
   pub filled : has_rows (shown t.count w rows) ≡ true
-  pub ends : IsRefusedEarly t w rows old error new ⊎ IsStopped t w rows whole old error new
+  pub ends : FailsEarly t w rows old error new ⊎ IsStopped t w rows whole old error new
 
 -- what a call that prints a compact table leaves
 abbrev pub PrintsCompact : {T : Type 0} → CompactSheet → Window → (List (List (List ℕ)) → Bool → Type 0) → Sent → Result T TableError → Sent → Type 0

@@ -10,7 +10,7 @@ ghost use Rattle.tabled_line.specs.Sent.{Sent, Writes};
 ghost use Rattle.tabled_compact.specs.CompactCells.{columns_of, sheet_by};
 ghost use Rattle.tabled_compact.specs.CompactLines.{above, compact_width, part_front, row_part};
 ghost use Rattle.tabled_compact.specs.CompactLines.{separator, tail_lines};
-ghost use Rattle.tabled_compact.specs.Printed.{IsPrintable, IsRefused, PrintsCompact};
+ghost use Rattle.tabled_compact.specs.Printed.{IsPrintable, IsFailure, PrintsCompact};
 ghost use Rattle.tabled_compact.specs.RowsPut.{PutsRows};
 ghost use Rattle.tabled_compact.specs.Shown.{Came, IsSpent, window_after};
 
@@ -69,7 +69,7 @@ impl<'a, D: Dimension> RowPrinter<'a, D> {
         ensures printable { OnOk result
             (IsPrintable (sheet_by config.now (D.width_at dimension.now) count)) }
         ensures err { IfErr result
-            (IsRefused (sheet_by config.now (D.width_at dimension.now) count)) }
+            (IsFailure (sheet_by config.now (D.width_at dimension.now) count)) }
     {
         let columns = CompactColumns::new(config, dimension, count)?;
         match line_total(&columns) {

@@ -205,7 +205,7 @@ impl<I: Drop, D: Drop> CompactTable<I, D> {
             table ≡ record self { config = table.config; dimension = table.dimension }) }
         ensures err { IfErr result (λ e.
             (after : EmptyRecords) × (config : CompactConfig) × (sizes : D)
-            × O.refuses option e no_records self.config self.dimension after config sizes) }
+            × O.fails option e no_records self.config self.dimension after config sizes) }
         ensures only { IfErr result (λ e. (e ≡ Memory) ⊎ (e ≡ Range)) }
         ensures range { IfErr result (λ e. e ≡ Range
             → O.out_of_range option no_records self.config self.dimension) }

@@ -43,7 +43,7 @@ impl<R, D> TableOption<R, ColoredConfig, D> for SpannedConfig {
 impl<R, D> TableOption<R, ColoredConfig, D> for &SpannedConfig {
     ghost changes = { λ option r c d. Becomes (colored option.now) r d };
 
-    ghost refuses = { λ option e. Stays e };
+    ghost fails = { λ option e. Stays e };
 
     fn change(self, _: &mut R, cfg: &mut ColoredConfig, _: &mut D) -> Result<(), TableError> {
         *cfg = ColoredConfig::new(self.clone()?);
@@ -131,7 +131,7 @@ impl<R, D> TableOption<R, ColoredConfig, D> for Style {
     ghost changes = { λ option r c d. Becomes (colored (with_style c.config option)) r d };
 
     // Only a style with a line by index allocates.
-    ghost refuses = { λ option e r c d r' c' d'.
+    ghost fails = { λ option e r c d r' c' d'.
         IsSome option.below_first × Stays e r c d r' c' d' };
 
     fn change(self, _: &mut R, cfg: &mut ColoredConfig, _: &mut D) -> Result<(), TableError> {

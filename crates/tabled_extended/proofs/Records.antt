@@ -73,22 +73,22 @@ so_far-all {answers} {fields} {records} {n} {a} {b} {q} h e = record {
   sends = lines-text {T = Unit {0}} a b q (Ok tt) (flat_map (λ lines. lines) h.parts) h.sends;
 }
 
-pub so_far-stopped : {answers : ℕ → List ℕ → Type 0} {refuses : ℕ → Type 0} {fields : List (List ℕ)} {records : List (List (List ℕ))} {n : ℕ} {a b c : Sent} {q : Bool}
+pub so_far-stopped : {answers : ℕ → List ℕ → Type 0} {fails : ℕ → Type 0} {fields : List (List ℕ)} {records : List (List (List ℕ))} {n : ℕ} {a b c : Sent} {q : Bool}
     (r : Bool) (e : TableError) → PrintedSoFar answers fields records n a false b q → n < length records
-    → PrintsRecord {T = Unit {0}} (answers n) (refuses n) (λ label. record_lines (widest fields) (widest_value records) fields label (get_or records n []))
+    → PrintsRecord {T = Unit {0}} (answers n) (fails n) (λ label. record_lines (widest fields) (widest_value records) fields label (get_or records n []))
     b q (Err e) c r
-    → EndsBefore answers refuses fields records a e c ⊎ EndsWithin answers fields records a e c
-so_far-stopped {answers} {refuses} {fields} {records} {n} {a} {b} {c} {q} r e h l (inl w) =
+    → EndsBefore answers fails fields records a e c ⊎ EndsWithin answers fields records a e c
+so_far-stopped {answers} {fails} {fields} {records} {n} {a} {b} {c} {q} r e h l (inl w) =
     let s : Sends a b (text_of h.parts) = lines-text {T = Unit {0}} a b q (Ok tt) (flat_map (λ lines. lines) h.parts) h.sends in
     inl (record {
       parts = h.parts;
       within = omega (arith, h.many);
-      refused = subst refuses (sym h.many) w.1;
+      refused = subst fails (sym h.many) w.1;
       lines = h.lines;
       memory = w.0;
       sends = subst (λ (x : Sent). Sends a x (text_of h.parts)) (sym w.2) s;
     })
-so_far-stopped {answers} {refuses} {fields} {records} {n} {a} {b} {c} {q} r e h l (inr w) =
+so_far-stopped {answers} {fails} {fields} {records} {n} {a} {b} {c} {q} r e h l (inr w) =
     let last : List (List ℕ) = record_lines (widest fields) (widest_value records) fields w.0 (get_or records n []) in
     let whole : flat_map (λ lines. lines) (h.parts ++ last ∷ []) ≡ flat_map (λ lines. lines) h.parts ++ last =
     flat_map-append (λ lines. lines) h.parts (last ∷ []) ∙ ap (λ u. flat_map (λ lines. lines) h.parts ++ u) (append-nil last) in
@@ -108,20 +108,20 @@ pub record-printed : (answers : List ℕ → Type 0) (refused : Type 0) (lines :
 record-printed answers refused lines a b p q (Ok x) label printed g h e = (label, g, subst (λ l. LineSends a p b q l) e h)
 record-printed answers refused lines a b p q (Err d) label printed g h e = inr (label, g, subst (λ l. LineStops a p d b l) e h)
 
-pub records-stopped : {answers : ℕ → List ℕ → Type 0} (refuses : ℕ → Type 0) {fields : List (List ℕ)} {records : List (List (List ℕ))} {n : ℕ} {a b c : Sent} {q : Bool}
+pub records-stopped : {answers : ℕ → List ℕ → Type 0} (fails : ℕ → Type 0) {fields : List (List ℕ)} {records : List (List (List ℕ))} {n : ℕ} {a b c : Sent} {q : Bool}
     (r : Bool) (res : Result (Unit {0}) TableError) (e : TableError) (f v : ℕ) → f ≡ widest fields → v ≡ widest_value records
     → PrintedSoFar answers fields records n a false b q → n < length records
     → (IsTooWide fields records → ⊥)
-    → PrintsRecord {T = Unit {0}} (answers n) (refuses n) (λ label. record_lines f v fields label (get_or records n [])) b q (Err e) c r
-    → IsErrAnd res (λ d. d ≡ e) → PrintsRecords answers refuses fields records a res c
-records-stopped refuses r (Ok x) e f v ef ev h l w k i = absurd i
-records-stopped {answers} refuses {fields} {records} {n} {a} {b} {c} {q} r (Err d) e f v ef ev h l w k i =
-    let k₁ = subst (λ (x : ℕ). PrintsRecord {T = Unit {0}} (answers n) (refuses n) (λ label. record_lines x v fields label (get_or records n [])) b q (Err e) c r) ef k in
-    let k₂ = subst (λ (x : ℕ). PrintsRecord {T = Unit {0}} (answers n) (refuses n)
+    → PrintsRecord {T = Unit {0}} (answers n) (fails n) (λ label. record_lines f v fields label (get_or records n [])) b q (Err e) c r
+    → IsErrAnd res (λ d. d ≡ e) → PrintsRecords answers fails fields records a res c
+records-stopped fails r (Ok x) e f v ef ev h l w k i = absurd i
+records-stopped {answers} fails {fields} {records} {n} {a} {b} {c} {q} r (Err d) e f v ef ev h l w k i =
+    let k₁ = subst (λ (x : ℕ). PrintsRecord {T = Unit {0}} (answers n) (fails n) (λ label. record_lines x v fields label (get_or records n [])) b q (Err e) c r) ef k in
+    let k₂ = subst (λ (x : ℕ). PrintsRecord {T = Unit {0}} (answers n) (fails n)
     (λ label. record_lines (widest fields) x fields label (get_or records n [])) b q (Err e) c r) ev k₁ in
     inr (
       w,
       so_far-stopped r d h l
-          (subst (λ (x : TableError). PrintsRecord {T = Unit {0}} (answers n) (refuses n)
+          (subst (λ (x : TableError). PrintsRecord {T = Unit {0}} (answers n) (fails n)
           (λ label. record_lines (widest fields) (widest_value records) fields label (get_or records n [])) b q (Err x) c r) (sym i) k₂),
     )

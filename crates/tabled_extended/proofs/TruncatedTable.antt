@@ -2,12 +2,12 @@
 use Rattle.std.proofs.Common.{◌≡◌, ℕ, List, [], ◌∷◌, Option, Some, None, Ok, Err, Result, refl, sym, subst}
 use Rattle.std.specs.Prelude.{OnOk}
 use Rattle.std.specs.List.{AllZip}
-use Rattle.tabled_set.specs.CellChanges.{in_room}
+use Rattle.tabled_set.specs.CellChanges.{if_sized}
 use Rattle.tabled_extended.specs.Truncated.{AreTruncated, IsTruncated}
 use Rattle.tabled_extended.specs.declared.truncating.TextWidths.{TextWidths}
 
 pub ok_both : {T E : Type 0} (r : Result T E) (suffix : List ℕ) (text_widths : TextWidths) (fields : List (List ℕ)) (records : List (List (List ℕ)))
-    (fields' : List (List ℕ)) (records' : List (List (List ℕ))) → AllZip (in_room (IsTruncated suffix) text_widths.fields) fields fields'
+    (fields' : List (List ℕ)) (records' : List (List (List ℕ))) → AllZip (if_sized (IsTruncated suffix) text_widths.fields) fields fields'
     → OnOk r (AllZip (AllZip (IsTruncated suffix text_widths.values)) records records') → OnOk r (AreTruncated suffix text_widths fields records fields' records')
 ok_both (Ok x) suffix text_widths fields records fields' records' f h = record { each_field = f; each_value = h }
 ok_both (Err d) suffix text_widths fields records fields' records' f h = h
@@ -23,15 +23,15 @@ each_itself R f [] = tt
 each_itself R f (x ∷ xs) = (f x, each_itself R f xs)
 
 pub in_some : (change : ℕ → List ℕ → List ℕ → Type 0) (room : Option ℕ) (n : ℕ) → room ≡ Some n → (old new : List (List ℕ))
-    → AllZip (change n) old new → AllZip (in_room change room) old new
+    → AllZip (change n) old new → AllZip (if_sized change room) old new
 in_some change room n e old new h =
-    each_as (change n) (in_room change room) (λ x y r. subst (λ (o : Option ℕ). in_room change o x y) (sym e) r) old new h
+    each_as (change n) (if_sized change room) (λ x y r. subst (λ (o : Option ℕ). if_sized change o x y) (sym e) r) old new h
 
 none_of : (room : Option ℕ) → ((n : ℕ) → room ≡ Some n → ⊥) → room ≡ None
 none_of None h = refl
 none_of (Some n) h = absurd (h n refl)
 
 pub in_none : (change : ℕ → List ℕ → List ℕ → Type 0) (room : Option ℕ) → ((n : ℕ) → room ≡ Some n → ⊥) → (old : List (List ℕ))
-    → AllZip (in_room change room) old old
+    → AllZip (if_sized change room) old old
 in_none change room none old =
-    each_itself (in_room change room) (λ x. subst (λ (o : Option ℕ). in_room change o x x) (sym (none_of room none)) refl) old
+    each_itself (if_sized change room) (λ x. subst (λ (o : Option ℕ). if_sized change o x x) (sym (none_of room none)) refl) old

@@ -19,11 +19,11 @@ pub record PrintsAll (answers : ℕ → List ℕ → Type 0) (fields : List (Lis
   pub sends : Sends old new (text_of parts)
 
 -- the template failed with `Memory` where it may fail, and exactly the records before were printed
-pub record EndsBefore (answers : ℕ → List ℕ → Type 0) (refuses : ℕ → Type 0) (fields : List (List ℕ)) (records : List (List (List ℕ)))
+pub record EndsBefore (answers : ℕ → List ℕ → Type 0) (fails : ℕ → Type 0) (fields : List (List ℕ)) (records : List (List (List ℕ)))
     (old : Sent) (error : TableError) (new : Sent) : Type 0 where
   pub parts : List (List (List ℕ))
   pub within : length parts < length records
-  pub refused : refuses (length parts)
+  pub refused : fails (length parts)
   pub lines : AreRecordLines answers fields records parts
   pub memory : error ≡ Memory
   pub sends : Sends old new (text_of parts)
@@ -41,10 +41,10 @@ pub record EndsWithin (answers : ℕ → List ℕ → Type 0) (fields : List (Li
 -- template or the sink failed
 abbrev pub PrintsRecords : {T : Type 0} → (ℕ → List ℕ → Type 0) → (ℕ → Type 0) → List (List ℕ) → List (List (List ℕ)) → Sent
     → Result T TableError → Sent → Type 0
-PrintsRecords answers refuses fields records old (Ok _) new = (IsTooWide fields records → ⊥) × PrintsAll answers fields records old new
-PrintsRecords answers refuses fields records old (Err e) new =
+PrintsRecords answers fails fields records old (Ok _) new = (IsTooWide fields records → ⊥) × PrintsAll answers fields records old new
+PrintsRecords answers fails fields records old (Err e) new =
     ((e ≡ Range) × IsTooWide fields records × (new ≡ old))
-    ⊎ ((IsTooWide fields records → ⊥) × (EndsBefore answers refuses fields records old e new ⊎ EndsWithin answers fields records old e new))
+    ⊎ ((IsTooWide fields records → ⊥) × (EndsBefore answers fails fields records old e new ⊎ EndsWithin answers fields records old e new))
 
 -- ---- for private functions
 

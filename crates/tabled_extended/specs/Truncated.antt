@@ -5,7 +5,7 @@ use Rattle.std.specs.Prelude.{length}
 use Rattle.std.specs.List.{AllZip}
 use Rattle.tabled_base.specs.declared.error.TableError.{TableError}
 use Rattle.tabled_base.specs.declared.error.TableError.TheVariants.{Memory}
-use Rattle.tabled_set.specs.CellChanges.{in_room}
+use Rattle.tabled_set.specs.CellChanges.{if_sized}
 use Rattle.tabled_set.specs.Truncated.{suffix_columns}
 use Rattle.tabled_text.specs.Cut.{IsCut, IsLongestReached, missing_columns}
 use Rattle.tabled_extended.specs.RecordLines.{widest}
@@ -55,7 +55,7 @@ pub record TakesMemory (suffix : List ℕ) (n : ℕ) (text : List ℕ) : Type 0 
   pub some_left : 0 < length front + (missing_columns n front off + length suffix)
 
 -- an allocation failed, and the text is unchanged
-pub record IsRefused (suffix : List ℕ) (n : ℕ) (text answer : List ℕ) : Type 0 where
+pub record IsFailure (suffix : List ℕ) (n : ℕ) (text answer : List ℕ) : Type 0 where
   pub takes : TakesMemory suffix n text
   pub stays : answer ≡ text
 
@@ -75,7 +75,7 @@ pub record IsStopped {A : Type 0} (change stop : A → A → Type 0) (old new : 
 
 -- the values of a record, and the records, up to a text for which an allocation failed
 abbrev pub StopsInRecord : List ℕ → ℕ → List (List ℕ) → List (List ℕ) → Type 0
-StopsInRecord suffix n old new = IsStopped (IsTruncated suffix n) (IsRefused suffix n) old new
+StopsInRecord suffix n old new = IsStopped (IsTruncated suffix n) (IsFailure suffix n) old new
 
 abbrev pub StopsInRecords : List ℕ → ℕ → List (List (List ℕ)) → List (List (List ℕ)) → Type 0
 StopsInRecords suffix n old new = IsStopped (AllZip (IsTruncated suffix n)) (StopsInRecord suffix n) old new
@@ -85,7 +85,7 @@ StopsInRecords suffix n old new = IsStopped (AllZip (IsTruncated suffix n)) (Sto
 -- fields and values are truncated to their widths
 pub record AreTruncated (suffix : List ℕ) (text_widths : TextWidths) (fields : List (List ℕ)) (records : List (List (List ℕ)))
     (fields' : List (List ℕ)) (records' : List (List (List ℕ))) : Type 0 where
-  pub each_field : AllZip (in_room (IsTruncated suffix) text_widths.fields) fields fields'
+  pub each_field : AllZip (if_sized (IsTruncated suffix) text_widths.fields) fields fields'
   pub each_value : AllZip (AllZip (IsTruncated suffix text_widths.values)) records records'
 
 -- an allocation failed: for a field, with all records unchanged, or for a value, with the fields
@@ -93,7 +93,7 @@ pub record AreTruncated (suffix : List ℕ) (text_widths : TextWidths) (fields :
 abbrev pub StopsTruncating : List ℕ → TextWidths → List (List ℕ) → List (List (List ℕ)) → List (List ℕ) → List (List (List ℕ)) → Type 0
 StopsTruncating suffix text_widths fields records fields' records' =
     ((n : ℕ) × (text_widths.fields ≡ Some n) × StopsInRecord suffix n fields fields' × (records' ≡ records))
-    ⊎ (AllZip (in_room (IsTruncated suffix) text_widths.fields) fields fields' × StopsInRecords suffix text_widths.values records records')
+    ⊎ (AllZip (if_sized (IsTruncated suffix) text_widths.fields) fields fields' × StopsInRecords suffix text_widths.values records records')
 
 -- the table has text widths for `max` columns, and they do what `leaves` says
 pub record InTextWidths (max : ℕ) (suffix : List ℕ) (fields : List (List ℕ)) (records : List (List (List ℕ))) (leaves : TextWidths → Type 0) : Type 0 where

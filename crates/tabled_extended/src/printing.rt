@@ -144,7 +144,7 @@ fn write_record<F: Template, S: TextSink>(
     index: usize,
 ) -> Result<(), TableError>
     requires { index < length table.now.records.items }
-    ensures { PrintsRecord (F.answers table.now.template index) (F.refuses table.now.template index)
+    ensures { PrintsRecord (F.answers table.now.template index) (F.fails table.now.template index)
         (λ label. record_lines widths.field widths.value table.now.fields.items label
         (slice_index_or (row_texts table.now.records.items) index []))
         (S.sent sink.old) begun.old result (S.sent sink.new) begun.new }
@@ -183,7 +183,7 @@ impl<F: Template> ExtendedTable<F> {
     /// - `Memory`: the template failed. All records before that one are written.
     /// - The error of the sink: a beginning of the text is written.
     pub fn write_to<S: TextSink>(&self, sink: &mut S) -> Result<(), TableError>
-        ensures { PrintsRecords (F.answers self.now.template) (F.refuses self.now.template)
+        ensures { PrintsRecords (F.answers self.now.template) (F.fails self.now.template)
             self.now.fields.items (row_texts self.now.records.items)
             (S.sent sink.old) result (S.sent sink.new) }
     {

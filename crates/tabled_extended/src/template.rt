@@ -17,14 +17,14 @@ pub trait Template {
     ghost answers: { Self → ℕ → List ℕ → Type 0 };
 
     // Whether the template may fail for the record at the index.
-    ghost refuses: { Self → ℕ → Type 0 };
+    ghost fails: { Self → ℕ → Type 0 };
 
     /// Returns the label of the record at an index, from 0. Fails only with `Memory`, and only
-    /// where `refuses` allows it.
+    /// where `fails` allows it.
     fn label(&self, alloc: Global, index: usize) -> Result<String, TableError>
         ensures text { IfOk result (λ text. answers self.now index (string_bytes text)) }
         ensures only { IfErr result (λ e. e ≡ Memory) }
-        ensures refused { OnErr result (refuses self.now index) };
+        ensures refused { OnErr result (fails self.now index) };
 }
 
 /// Labels the record at index i with `[ RECORD i ]`.
@@ -35,7 +35,7 @@ impl Template for RecordTemplate {
     ghost answers = { λ _ index text. text ≡ record_label index };
 
     // Its labels are never empty, so each of them is allocated.
-    ghost refuses = { λ _ _. ⊤ };
+    ghost fails = { λ _ _. ⊤ };
 
     fn label(&self, alloc: Global, index: usize) -> Result<String, TableError> {
         Ok(format!(in alloc; "[ RECORD {index} ]")?)
@@ -94,7 +94,7 @@ impl<G: LabelFn> Template for FnTemplate<G> {
         × (text ≡ string_bytes answer) };
 
     // Exactly where the function may fail.
-    ghost refuses = { λ g index. (error : AllocError) × G.gives g index (Err error) };
+    ghost fails = { λ g index. (error : AllocError) × G.gives g index (Err error) };
 
     fn label(&self, _alloc: Global, index: usize) -> Result<String, TableError> {
         Ok(self.g.text_at(index)?)

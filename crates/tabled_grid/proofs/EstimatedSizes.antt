@@ -9,7 +9,7 @@ use Rattle.tabled_size.specs.Estimates.{IsTooHigh, IsTooWide, column_width, esti
 use Rattle.tabled_size.specs.Sheet.{estimated}
 use Rattle.tabled_size.proofs.Passing.{too_high_passes, too_wide_passes, width_at, width_ge}
 use Rattle.tabled_size.specs.Holds.{Holds, IsSized}
-use Rattle.tabled_grid.specs.Printed.{IsRefused, IsOutOfRange}
+use Rattle.tabled_grid.specs.Printed.{IsFailure, IsOutOfRange}
 
 -- the estimated sizes reach to the last column and the last row
 pub sized_estimated : (cells : List (List (List ℕ))) (config : SpannedConfig) → IsSized (estimated cells config)
@@ -24,7 +24,7 @@ pub holds_estimated : (cells : List (List (List ℕ))) (config : SpannedConfig) 
 holds_estimated cells config row column r c = rw (width_at cells config column c) (width_ge cells config row column r)
 
 -- so that a table with them is refused for the range alone
-pub refused_estimated : (cells : List (List (List ℕ))) (config : SpannedConfig) (e : TableError) → IsRefused (estimated cells config) e → (e ≡ Range) × IsOutOfRange (estimated cells config)
+pub refused_estimated : (cells : List (List (List ℕ))) (config : SpannedConfig) (e : TableError) → IsFailure (estimated cells config) e → (e ≡ Range) × IsOutOfRange (estimated cells config)
 refused_estimated cells config Memory h = absurd h
 refused_estimated cells config Writer h = absurd h
 refused_estimated cells config ShortWidths h = let sized = (sized_estimated cells config).columns in absurd (omega arith)

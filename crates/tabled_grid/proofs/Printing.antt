@@ -6,7 +6,7 @@ use Rattle.tabled_base.specs.declared.error.TableError.TheVariants.{Memory, Shor
 use Rattle.tabled_config.specs.declared.spanned.SpannedConfig.{SpannedConfig}
 use Rattle.tabled_size.specs.Sheet.{Sheet, estimated, is_empty}
 use Rattle.tabled_grid.specs.Picture.{picture, table_text}
-use Rattle.tabled_grid.specs.Printed.{Ends, IsPrintable, IsRefused, Prints}
+use Rattle.tabled_grid.specs.Printed.{Ends, IsPrintable, IsFailure, Prints}
 use Rattle.tabled_line.specs.Sent.{Sends, Sent, Stops}
 use Rattle.tabled_grid.proofs.EstimatedSizes.{refused_estimated}
 use Rattle.tabled_line.proofs.Sending.{sends-none, sends-along}
@@ -20,11 +20,11 @@ pub prints_nothing : (t : Sheet) (a : Sent) → is_empty t.cells ≡ true → ((
 prints_nothing t a e = (inl e, sends-along a a [] (table_text t) (sends-none a) (sym (picture_none t e)))
 
 -- refused before anything was written
-refused_early : (t : Sheet) (a : Sent) (e : TableError) → is_empty t.cells ≡ false → (e ≡ Memory) ⊎ IsRefused t e → (is_empty t.cells ≡ false) × Ends true t a e a
+refused_early : (t : Sheet) (a : Sent) (e : TableError) → is_empty t.cells ≡ false → (e ≡ Memory) ⊎ IsFailure t e → (is_empty t.cells ≡ false) × Ends true t a e a
 refused_early t a e filled cause = (filled, ⊎_elim (λ m. inr (inl (refl, m, refl))) (λ r. inl (r, refl)) cause)
 
 -- the same, of a function that hands a refusal on
-pub refused_so : {T : Type 0} (t : Sheet) (a : Sent) (r : Result T TableError) (e : TableError) → is_empty t.cells ≡ false → (e ≡ Memory) ⊎ IsRefused t e → IsErrAnd r (λ d. d ≡ e) → Prints true t a r a
+pub refused_so : {T : Type 0} (t : Sheet) (a : Sent) (r : Result T TableError) (e : TableError) → is_empty t.cells ≡ false → (e ≡ Memory) ⊎ IsFailure t e → IsErrAnd r (λ d. d ≡ e) → Prints true t a r a
 refused_so t a (Ok x) e filled cause h = absurd h
 refused_so t a (Err d) e filled cause h =
     let P : TableError → Type 0 = λ k. (is_empty t.cells ≡ false) × Ends true t a k a in

@@ -21,12 +21,12 @@ IsOutOfRange t =
     (2 ^ 64 ≤ filled_width t.config (columns t.cells) t.widths) ⊎ (2 ^ 64 ≤ filled_height t.config (length t.cells) t.heights)
 
 -- why a table with a row and a column fails: the errors in the order in which they are checked
-abbrev pub IsRefused : Sheet → TableError → Type 0
-IsRefused t ShortWidths = length t.widths < columns t.cells
-IsRefused t ShortHeights = (columns t.cells ≤ length t.widths) × (length t.heights < length t.cells)
-IsRefused t (Narrow row column) = IsSized t × IsFirstNarrow t row column
-IsRefused t Range = IsSized t × Holds t × IsOutOfRange t
-IsRefused t _ = ⊥
+abbrev pub IsFailure : Sheet → TableError → Type 0
+IsFailure t ShortWidths = length t.widths < columns t.cells
+IsFailure t ShortHeights = (columns t.cells ≤ length t.widths) × (length t.heights < length t.cells)
+IsFailure t (Narrow row column) = IsSized t × IsFirstNarrow t row column
+IsFailure t Range = IsSized t × Holds t × IsOutOfRange t
+IsFailure t _ = ⊥
 
 -- a table with a row and a column, whose sizes hold its cells
 pub record IsChecked (t : Sheet) : Type 0 where
@@ -45,7 +45,7 @@ pub record IsPrintable (t : Sheet) : Type 0 where
 -- text
 abbrev pub Ends : Bool → Sheet → Sent → TableError → Sent → Type 0
 Ends estimates t old error new =
-    (IsRefused t error × (new ≡ old))
+    (IsFailure t error × (new ≡ old))
     ⊎ (((estimates ≡ true) × (error ≡ Memory) × (new ≡ old)) ⊎ (IsPrintable t × Stops old error new (table_text t)))
 
 -- what a call that prints a table leaves, by its result; it allocates if `estimates` is true. On

@@ -11,7 +11,7 @@ ghost use Rattle.tabled_size.specs.Totals.{filled_width};
 ghost use Rattle.tabled_size.specs.Holds.{Holds, IsHeld, IsSized};
 ghost use Rattle.tabled_grid.specs.Narrow.{IsHeldIn, IsNarrow, IsNarrowIn};
 ghost use Rattle.tabled_grid.specs.Picture.{columns_of};
-ghost use Rattle.tabled_grid.specs.Printed.{IsInRange, IsRefused};
+ghost use Rattle.tabled_grid.specs.Printed.{IsInRange, IsFailure};
 
 use crate::grid::Grid;
 use tabled_base::{PeekableRecords, Position, TableError};
@@ -128,7 +128,7 @@ pub(crate) fn check_sizes<R: PeekableRecords, D: Dimension>(
     grid: &Grid<'_, R, D>,
 ) -> Result<(), TableError>
     ensures ok { OnOk result (IsSized grid.now) }
-    ensures err { IfErr result (IsRefused grid.now) }
+    ensures err { IfErr result (IsFailure grid.now) }
 {
     check_widths(grid.dimension, grid.records.count_columns())?;
     check_heights(grid.dimension, grid.records.count_rows())
@@ -143,7 +143,7 @@ pub(crate) fn check_totals<R: PeekableRecords, D: Dimension>(
     ensures width { IfOk result (λ n. n ≡ filled_width grid.now.config
         (columns grid.now.cells) grid.now.widths) }
     ensures in_range { OnOk result (IsInRange grid.now) }
-    ensures err { IfErr result (IsRefused grid.now) }
+    ensures err { IfErr result (IsFailure grid.now) }
 {
     let width = filled_width(grid.config, grid.records.count_columns(), grid.dimension);
     let height = filled_height(grid.config, grid.records.count_rows(), grid.dimension);
@@ -166,7 +166,7 @@ pub(crate) fn check_stored<R: PeekableRecords>(
 ) -> Result<(), TableError>
     requires { is_stored stored.now ≡ false }
     ensures { let t = effective (R.cells records.now) config.now stored.now in
-        MatchResult result (λ _. IsSized t × Holds t) (IsRefused t) }
+        MatchResult result (λ _. IsSized t × Holds t) (IsFailure t) }
 {
     match stored.get_widths() {
         Some(_) => {

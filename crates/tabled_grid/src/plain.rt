@@ -6,7 +6,7 @@ ghost use Rattle.tabled_text.specs.Plain.{IsAdditiveColumn, IsPlain};
 ghost use Rattle.tabled_config.specs.Settings.{frame, rule_at, style_at};
 ghost use Rattle.tabled_config.specs.declared.borders.HorizontalLine.{HorizontalLine};
 ghost use Rattle.tabled_size.specs.PlainCells.{ArePlain};
-ghost use Rattle.tabled_line.specs.Apart.{AreApartCells, ArePaddedLeft, HasGaps, HasSteadyBars};
+ghost use Rattle.tabled_line.specs.Apart.{AreApartCells, ArePaddedLeft, HasSeparators, HasSteadyBars};
 ghost use Rattle.tabled_line.specs.Apart.{IsApartFrame, IsApartStyle};
 ghost use Rattle.tabled_line.specs.Plain.{IsPlainFrame, IsPlainRule, IsPlainStyle};
 ghost use Rattle.tabled_grid.specs.ApartSheet.{IsApartConfig};
@@ -159,8 +159,8 @@ fn has_steady_bars(config: &SpannedConfig, row: usize, columns: usize) -> bool
 }
 
 /// Whether there is a vertical line or padding between each two cells of a row.
-fn has_gaps(config: &SpannedConfig, row: usize, columns: usize) -> bool
-    ensures { IsTrue result ↔ HasGaps (frame config.now) columns (style_at config.now row) }
+fn has_separators(config: &SpannedConfig, row: usize, columns: usize) -> bool
+    ensures { IsTrue result ↔ HasSeparators (frame config.now) columns (style_at config.now row) }
 {
     config.frame().inner.there
         || has_left_padding(config, row, columns)
@@ -179,7 +179,7 @@ fn are_apart_cells(config: &SpannedConfig, row: usize, columns: usize) -> bool
 {
     are_apart_styles_in(config, row, columns)
         && has_steady_bars(config, row, columns)
-        && has_gaps(config, row, columns)
+        && has_separators(config, row, columns)
 }
 
 fn are_apart_rows(config: &SpannedConfig, rows: usize, columns: usize) -> bool

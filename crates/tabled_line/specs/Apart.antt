@@ -42,8 +42,8 @@ HasSteadyBars frame count style = (IsSeparatorColumn frame.left.main × IsSepara
 
 -- between each two cells there is a vertical line, left padding of each cell, or right padding of
 -- each cell
-abbrev pub HasGaps : Frame → ℕ → (ℕ → CellStyle) → Type 0
-HasGaps frame count style =
+abbrev pub HasSeparators : Frame → ℕ → (ℕ → CellStyle) → Type 0
+HasSeparators frame count style =
     (frame.inner.there ≡ true)
     ⊎ (ArePaddedLeft count style ⊎ ((c : ℕ) → c < count → 0 < (style c).padding.right.size))
 
@@ -52,7 +52,7 @@ HasGaps frame count style =
 pub record AreApartCells (frame : Frame) (count : ℕ) (style : ℕ → CellStyle) : Type 0 where
   pub styles : (c : ℕ) → c < count → IsApartStyle (style c)
   pub bars : HasSteadyBars frame count style
-  pub gaps : HasGaps frame count style
+  pub gaps : HasSeparators frame count style
 
 -- a row of separated cells, with such a frame
 pub record IsApartRow (row : RowSheet) : Type 0 where

@@ -76,28 +76,28 @@ right-bare t corner main right c m r =
     behind-nothing _ _ (begun-none (used_main t corner main) right used r)
     (ended-none (used_after (used_main t corner main) right) (used-none (used_main t corner main) right used r))
 
-abbrev IsBare : Option Around → Type 0
-IsBare a = unwrap_or a nothing_around ≡ nothing_around
+abbrev IsZeroWidth : Option Around → Type 0
+IsZeroWidth a = unwrap_or a nothing_around ≡ nothing_around
 
-if-bare : (b : Bool) (a : Option Around) → IsBare a → IsBare (cond b a None)
+if-bare : (b : Bool) (a : Option Around) → IsZeroWidth a → IsZeroWidth (cond b a None)
 if-bare true a h = h
 if-bare false a h = refl
 
 across-bare : (t : DrawingPlan) (corner main right : Option Mark) (r : Rectangle) (s : RunSide) (x : ℕ) → IsNoMark corner → IsNoMark main → IsNoMark right
-    → IsBare (across t corner main right r s x)
+    → IsZeroWidth (across t corner main right r s x)
 across-bare t corner main right r Before x c m e = if-bare (has_left t.borders) (Some (begun None corner)) (begun-none None corner refl c)
 across-bare t corner main right r Inside x c m e = main-bare t corner main r x c m
 across-bare t corner main right r Behind x c m e =
     if-bare (is_last_column t r) (Some (right_around t corner main right)) (right-bare t corner main right c m e)
 across-bare t corner main right r Outside x c m e = refl
 
-beside-bare : (t : DrawingPlan) (r : Rectangle) (s : RunSide) → AreNoMarks t.line_marks → IsBare (beside t r s)
+beside-bare : (t : DrawingPlan) (r : Rectangle) (s : RunSide) → AreNoMarks t.line_marks → IsZeroWidth (beside t r s)
 beside-bare t r Before h = if-bare (has_left t.borders) (Some (alone t.line_marks.left)) (alone-none t.line_marks.left h.left)
 beside-bare t r Inside h = refl
 beside-bare t r Behind h = if-bare (is_last_column t r) (Some (alone t.line_marks.right)) (alone-none t.line_marks.right h.right)
 beside-bare t r Outside h = refl
 
-text-bare : (t : DrawingPlan) (r : Rectangle) (s : RunSide) (x : ℕ) → AreNoMarks t.line_marks → IsBare (around_text t r s x)
+text-bare : (t : DrawingPlan) (r : Rectangle) (s : RunSide) (x : ℕ) → AreNoMarks t.line_marks → IsZeroWidth (around_text t r s x)
 text-bare t r Before x h =
     if-bare (has_top t.borders) _
     (across-bare t t.line_marks.top_left t.line_marks.top t.line_marks.top_right r (run_side r.x r.width x) x h.top_left h.top h.top_right)
@@ -110,11 +110,11 @@ text-bare t r Outside x h = refl
 
 -- ---- at a place
 
-none-bare : (b : Bool) (a : Option Around) → IsBare a → IsBare (cond b None a)
+none-bare : (b : Bool) (a : Option Around) → IsZeroWidth a → IsZeroWidth (cond b None a)
 none-bare true a h = refl
 none-bare false a h = h
 
-first-bare : (a : Option Around) (rest : Around) → IsBare a → rest ≡ nothing_around → unwrap_or a rest ≡ nothing_around
+first-bare : (a : Option Around) (rest : Around) → IsZeroWidth a → rest ≡ nothing_around → unwrap_or a rest ≡ nothing_around
 first-bare None rest h e = e
 first-bare (Some a) rest h e = h
 

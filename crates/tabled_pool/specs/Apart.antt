@@ -9,14 +9,14 @@ use Rattle.tabled_pool.specs.Plain.{HasSettings, IsAdditivePool}
 use Rattle.tabled_pool.specs.Pool.{borders_of, style_of}
 
 -- texts side by side have a vertical border or side padding between them
-abbrev pub HasGap : Borders ℕ → CellStyle → Type 0
-HasGap b style = (has_left b ≡ true) ⊎ ((0 < style.padding.left.size) ⊎ (0 < style.padding.right.size))
+abbrev pub HasSeparator : Borders ℕ → CellStyle → Type 0
+HasSeparator b style = (has_left b ≡ true) ⊎ ((0 < style.padding.left.size) ⊎ (0 < style.padding.right.size))
 
 -- borders, padding and margin are separators of one column, a border or padding is between texts
 -- side by side, and nothing is coloured
 pub record IsApartPool (t : PoolTable) : Type 0 where
   pub settings : HasSettings IsSeparatorColumn t
-  pub gap : HasGap (borders_of t) (style_of t.config)
+  pub gap : HasSeparator (borders_of t) (style_of t.config)
 
 -- the columns of what is drawn add up: the settings separate any texts, or texts and settings are
 -- additive

@@ -6,7 +6,7 @@ ghost use Rattle.tabled_pool.specs.Tree.{tree_of, trees, EachText, EachTextIn};
 ghost use Rattle.tabled_pool.specs.Characters.{EachCharacter, EachFill, IsOfKind};
 ghost use Rattle.tabled_pool.specs.Plain.{HasSettings, IsPlainPool};
 ghost use Rattle.tabled_pool.specs.Pool.{borders_of, style_of};
-ghost use Rattle.tabled_pool.specs.Apart.{HasGap, IsApartPool, IsStraightPool};
+ghost use Rattle.tabled_pool.specs.Apart.{HasSeparator, IsApartPool, IsStraightPool};
 ghost use Rattle.std.specs.Option.{option_map};
 ghost use Rattle.tabled_config.specs.Compact.{each_side};
 ghost use Rattle.tabled_pool.specs.Colours.{line_marks_of, mark_of, marks_of, no_mark};
@@ -142,8 +142,8 @@ impl PoolTable {
             && self.is_uncolored()
     }
 
-    fn has_gap(&self) -> bool
-        ensures { IsTrue result ↔ HasGap (borders_of self.now) (style_of self.now.config) }
+    fn has_separator(&self) -> bool
+        ensures { IsTrue result ↔ HasSeparator (borders_of self.now) (style_of self.now.config) }
     {
         let padding = self.config.get_padding();
         self.config.get_borders().has_left() || padding.left.size > 0 || padding.right.size > 0
@@ -174,6 +174,6 @@ impl PoolTable {
     pub fn is_apart(&self) -> bool
         ensures { IsTrue result ↔ IsApartPool self.now }
     {
-        self.has_settings(CharacterKind::Separator) && self.has_gap()
+        self.has_settings(CharacterKind::Separator) && self.has_separator()
     }
 }

@@ -10,7 +10,7 @@ use Rattle.tabled_priority.specs.Permitted.{at}
 use Rattle.tabled_priority.specs.Laws.Grown.{IsMinGrown-still, IsRoundGrown-still}
 use Rattle.tabled_priority.specs.Laws.Round.{IsRoundShrunk-still}
 use Rattle.tabled_priority.specs.Laws.Shrunk.{IsMaxShrunk-still, at-le-sum}
-use Rattle.tabled_priority.specs.Schedule.{CanChange, HasRoom, IsChanged, IsReached, IsScheduled}
+use Rattle.tabled_priority.specs.Schedule.{CanChange, StaysInRange, IsChanged, IsReached, IsScheduled}
 use Rattle.tabled_priority.specs.Schedule.{IsSpan, IsSpanBy, amount_by, first_level, last_level}
 use Rattle.tabled_priority.specs.Schedule.{share, start_of, total_amount}
 use Rattle.tabled_priority.specs.Shrunk.{place_after}
@@ -28,7 +28,7 @@ pub record AreSizes (old mins : List ℕ) : Type 0 where
 
 -- what is wanted, of what columns take up to the greatest level
 pub wanted_by : (k : Schedule) (old mins : List ℕ) (by most wanted : ℕ) → AreSizes old mins
-    → by ≤ greatest_usize → HasRoom k old by
+    → by ≤ greatest_usize → StaysInRange k old by
     → most ≡ min (total_amount (first_level k old mins) (last_level k old mins) (length old) greatest_usize) greatest_usize
     → wanted ≡ min by most → wanted ≡ amount_by k old mins by
 wanted_by (Depths right) old mins by most wanted s b room m w =
@@ -56,7 +56,7 @@ still_by (Gains kept) old mins by z = IsRoundGrown-still kept old by z
 -- the level that was reached, and the columns that take one more
 pub record IsPlanned (k : Schedule) (old mins : List ℕ) (by level rest first last : ℕ) : Type 0 where
   pub sizes : AreSizes old mins
-  pub room : HasRoom k old by
+  pub room : StaysInRange k old by
   pub some : 0 < amount_by k old mins by
   pub most : amount_by k old mins by ≤ by
   pub below : level < greatest_usize

@@ -115,11 +115,11 @@ IsChanged (Heights _) value x new = new ≡ value + x
 IsChanged (Gains _) value x new = new ≡ value + x
 
 -- sizes that grow by an amount stay below 2 ^ 64
-abbrev pub HasRoom : Schedule → List ℕ → ℕ → Type 0
-HasRoom (Depths _) values by = ⊤
-HasRoom (Rounds _) values by = ⊤
-HasRoom (Heights _) values by = sum values + by < 2 ^ 64
-HasRoom (Gains _) values by = sum values + by < 2 ^ 64
+abbrev pub StaysInRange : Schedule → List ℕ → ℕ → Type 0
+StaysInRange (Depths _) values by = ⊤
+StaysInRange (Rounds _) values by = ⊤
+StaysInRange (Heights _) values by = sum values + by < 2 ^ 64
+StaysInRange (Gains _) values by = sum values + by < 2 ^ 64
 
 -- what is taken or added of an amount
 abbrev pub amount_by : Schedule → List ℕ → List ℕ → ℕ → ℕ

@@ -1,6 +1,6 @@
 //! Changes of all columns by a schedule.
 ghost use Rattle.std.specs.Prelude.{◌≡◌, ℕ, ◌+◌, ◌*◌, ◌<◌, ◌≤◌, length};
-ghost use Rattle.tabled_priority.specs.Schedule.{CanChange, HasRoom, IsChanged, IsScheduled};
+ghost use Rattle.tabled_priority.specs.Schedule.{CanChange, StaysInRange, IsChanged, IsScheduled};
 ghost use Rattle.tabled_priority.specs.Schedule.{IsSpan};
 ghost use Rattle.tabled_priority.specs.Schedule.{IsSpanBy, amount_by, columns_of, first_level};
 ghost use Rattle.tabled_priority.specs.Schedule.{first_of};
@@ -122,7 +122,7 @@ pub(crate) fn change_columns(
     by: usize,
     steps: &mut Steps,
 ) -> Change
-    requires { HasRoom schedule values.old by }
+    requires { StaysInRange schedule values.old by }
     ensures changed { IsScheduled schedule values.old mins.now by values.new result.kept }
     ensures amount { result.amount ≡ amount_by schedule values.old mins.now by }
     ensures visits { IsBounded values.old values.new steps.old.count steps.new.count }

@@ -6,7 +6,7 @@ ghost use Rattle.tabled_priority.specs.Schedule.{CanChange, IsChanged, columns_o
 ghost use Rattle.tabled_priority.specs.Schedule.{is_from_right, is_open};
 ghost use Rattle.tabled_priority.specs.Schedule.{last_of, open_of, first_level, last_level};
 ghost use Rattle.tabled_priority.specs.Schedule.{start_of, total_amount};
-ghost use Rattle.tabled_priority.specs.Schedule.{HasRoom, IsBase, IsReached, amount_by, total_of};
+ghost use Rattle.tabled_priority.specs.Schedule.{StaysInRange, IsBase, IsReached, amount_by, total_of};
 ghost use Rattle.tabled_priority.specs.Shrunk.{start};
 ghost use Rattle.tabled_priority.specs.Visits.{counted};
 
@@ -140,7 +140,7 @@ pub(crate) fn amount_by(
     by: usize,
     steps: &mut Steps,
 ) -> usize
-    requires { HasRoom schedule values.now by }
+    requires { StaysInRange schedule values.now by }
     ensures amount { result ≡ amount_by schedule values.now mins.now by }
     ensures most { result ≤ by }
     ensures enough { result ≤ total_amount (first_level schedule values.now mins.now)

@@ -9,7 +9,7 @@ use Rattle.std.specs.Prelude.{IsCharBoundary, IsUtf8}
 use Rattle.std.specs.List.{slice_range}
 use Rattle.tabled_text.specs.Measure.{lines_of, text_columns}
 use Rattle.tabled_text.proofs.PlainLines.{plain_line-nil}
-use Rattle.tabled_records.specs.Joined.{AreFilled, AreJoined, AreKept, AreLines, IsJoined, IsTold, begin, behind, texts_from}
+use Rattle.tabled_records.specs.Joined.{AreFilled, AreJoined, AreKept, AreLines, IsJoined, AreMeasures, begin, behind, texts_from}
 
 -- a place where a text may be cut stays one
 boundary-more : (whole more : List ℕ) (i : ℕ) → IsUtf8 more → IsCharBoundary whole i → IsCharBoundary (whole ++ more) i
@@ -183,7 +183,7 @@ on-either (Ok x) f g a b = f a
 on-either (Err e) f g a b = g b
 
 -- the empty text has no columns, and one line
-pub told_empty : {text : List ℕ} → text ≡ [] → IsTold text [] 0 1
+pub told_empty : {text : List ℕ} → text ≡ [] → AreMeasures text [] 0 1
 told_empty none = record {
   same = sym none;
   wide = sym (ap text_columns none ∙ ap (λ n. max n 0) plain_line-nil.columns);

@@ -50,7 +50,7 @@ pub record AreFilled (whole : List ℕ) (places : List (ℕ × ℕ)) (lines : Li
   pub few : length lines ≤ length places
 
 -- a text is returned with its columns and lines
-pub record IsTold (text told : List ℕ) (columns lines : ℕ) : Type 0 where
+pub record AreMeasures (text told : List ℕ) (columns lines : ℕ) : Type 0 where
   pub same : told ≡ text
   pub wide : columns ≡ text_columns text
   pub high : lines ≡ length (lines_of text)

@@ -6,7 +6,7 @@ ghost use Rattle.tabled_base.specs.Cells.{IsInside, cell_at};
 ghost use Rattle.tabled_base.specs.ShortOr.{FitsBehind};
 ghost use Rattle.tabled_base.specs.declared.error.TableError.TheVariants.{Memory};
 ghost use Rattle.tabled_records.specs.Changed.{text_of};
-ghost use Rattle.tabled_records.specs.Joined.{IsTold};
+ghost use Rattle.tabled_records.specs.Joined.{AreMeasures};
 
 use std::marker::Model;
 use std::str;
@@ -157,7 +157,7 @@ impl<'a> ChangedCell<'a> {
         at: Position,
     ) -> (&'b str, usize, usize)
         requires { IsInside (R.cells records.now) at.row at.column }
-        ensures { IsTold (text_of self.now (cell_at (R.cells records.now) at.row at.column))
+        ensures { AreMeasures (text_of self.now (cell_at (R.cells records.now) at.row at.column))
             result.0.now result.1 result.2 }
     {
         match self {

@@ -4,7 +4,7 @@ ghost use Rattle.std.specs.Prelude.{length, List, map};
 ghost use Rattle.std.specs.List.{slice_index_or};
 ghost use Rattle.tabled_base.specs.Cells.{IsInside, cell_at, with_record};
 ghost use Rattle.tabled_base.specs.declared.error.TableError.TheVariants.{Memory};
-ghost use Rattle.tabled_records.specs.Joined.{IsTold};
+ghost use Rattle.tabled_records.specs.Joined.{AreMeasures};
 ghost use Rattle.tabled_records.specs.JoinedRows.{AreRanges, rows_in};
 ghost use Rattle.std.specs.Iterator.{IsFiniteIterable};
 ghost use Rattle.tabled_base.specs.Given.{Given};
@@ -95,7 +95,7 @@ impl JoinedTexts {
     pub fn cell(&self, rows: &RowRanges, at: Position) -> (&str, usize, usize)
         requires ranges { AreRanges (length self.now) rows.now }
         requires inside { IsInside (rows_in self.now rows.now) at.row at.column }
-        ensures { IsTold (cell_at (rows_in self.now rows.now) at.row at.column)
+        ensures { AreMeasures (cell_at (rows_in self.now rows.now) at.row at.column)
             result.0.now result.1 result.2 }
     {
         match rows.cell(self.whole.as_str(), &self.ends, 0, at) {

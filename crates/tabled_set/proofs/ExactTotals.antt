@@ -14,7 +14,7 @@ use Rattle.tabled_priority.specs.Least.{HasLeastGreatest}
 use Rattle.tabled_priority.proofs.Optimal.{HasLeastGreatest-from_level, IsLevel-from_max}
 use Rattle.tabled_size.proofs.ShrunkTotals.{above_minimum, frame_width, narrowed_total}
 use Rattle.tabled_size.proofs.Totalling.{heights_length, widths_length}
-use Rattle.tabled_set.specs.CellChanges.{AreChanged, in_room}
+use Rattle.tabled_set.specs.CellChanges.{AreChanged, if_sized}
 use Rattle.tabled_set.proofs.ChangingCells.{columns-changed}
 use Rattle.tabled_set.proofs.Totals.{full_total}
 use Rattle.tabled_set.specs.Minimums.{emptied, minimums, side_padding}
@@ -25,8 +25,8 @@ use Rattle.tabled_set.specs.Priorities.{Shrinks, TakesFrom, TakesGreatest}
 use Rattle.tabled_set.proofs.Emptied.{emptied-columns, emptied-empty, minimums-le, minimums-length, side_padding-le}
 
 -- a text that is changed for a content size fits in it
-abbrev pub FindsRoom : (ℕ → List ℕ → List ℕ → Type 0) → Type 0
-FindsRoom change = (content_size : ℕ) (before after : List ℕ) → IsUtf8 before → change content_size before after → FitsIn content_size after
+abbrev pub CharsFit : (ℕ → List ℕ → List ℕ → Type 0) → Type 0
+CharsFit change = (content_size : ℕ) (before after : List ℕ) → IsUtf8 before → change content_size before after → FitsIn content_size after
 
 -- and is plain where it was
 abbrev pub KeepsPlain : (ℕ → List ℕ → List ℕ → Type 0) → Type 0
@@ -109,7 +109,7 @@ module _ {P : Type 0} (shrinks : Shrinks P) (s : P) (change : ℕ → List ℕ �
       let after = cell_at new row column in
       let inside : nat_lt column (length h.widths) ≡ true = lt-ltb column (length h.widths) (omega (arith, width_each)) in
       let above : nat_le (at (minimums cells config) column) (at h.widths column) ≡ true = le-leb (at (minimums cells config) column) (at h.widths column) (kept column) in
-      subst (λ b. in_room change (if b then Some (at h.widths column - side_padding config row column) else None) before after)
+      subst (λ b. if_sized change (if b then Some (at h.widths column - side_padding config row column) else None) before after)
       (and_from (nat_lt column (length h.widths)) (nat_le (at (minimums cells config) column) (at h.widths column)) inside above)
       (h.changed.cells row column (record { row_in = r; column_in = c }))
 
@@ -135,7 +135,7 @@ module _ {P : Type 0} (shrinks : Shrinks P) (s : P) (change : ℕ → List ℕ �
       subst (λ ws. change (at ws column - side_padding config row column) (cell_at cells row column) (cell_at new row column)) (sym new_widths) (changed_cell row column r c)
 
   -- where changed texts fit in their content sizes
-  module _ (content_sizes : FindsRoom change) (keeps : KeepsPlain change) (rectangular : IsRectangular cells) (texts : AreTexts cells)
+  module _ (content_sizes : CharsFit change) (keeps : KeepsPlain change) (rectangular : IsRectangular cells) (texts : AreTexts cells)
       (wider : n < total_width (effective cells config sizes)) (heights_clear : heights_of last ≡ None) where
     stays : (row column : ℕ) → row < length cells → column < columns cells → FitsIn (at h.widths column - side_padding config row column) (cell_at new row column)
     stays row column r c =

@@ -6,7 +6,7 @@ use Rattle.std.proofs.lemmas.List.{get_or-take, length-take}
 use Rattle.tabled_set.specs.Common.{at, cell_at, Sheet, SpannedConfig, columns, CompleteDimension, effective, effective_sizes}
 use Rattle.tabled_set.specs.Common.{estimated_heights, estimated_widths, filled_width, FitsMinimums, heights_of, is_empty, IsFilledIn}
 use Rattle.tabled_set.specs.Common.{IsTooWide, Memory, Range, TableError, total_width, widths_of}
-use Rattle.tabled_set.specs.CellChanges.{AreChanged, AreChangedBefore, NeedsMemoryIn, if_taken, in_room, WalkOrder, CellFilter}
+use Rattle.tabled_set.specs.CellChanges.{AreChanged, AreChangedBefore, NeedsMemoryIn, if_taken, if_sized, WalkOrder, CellFilter}
 use Rattle.tabled_set.specs.CellChanges.{ByColumn}
 use Rattle.tabled_set.specs.Narrowed.{is_permitted, content_width, less_padding, permitted_width, for_content_size, needs_for_content_size, IsNarrowed}
 use Rattle.tabled_set.specs.Narrowed.{Narrows, NarrowingOutOfRange, StopsNarrowing, WiderOutOfRange, IsFound}
@@ -33,13 +33,13 @@ permitted-content_size t widths mins column e = ⊎_elim
 
 -- cells that are changed for these content sizes are changed for those of their columns
 module _ (t : Sheet) (widths : List ℕ) {sizes : ℕ → ℕ → Option ℕ} (sized : (row column : ℕ) → sizes row column ≡ content_width t widths row column) where
-  pub sized-made : (change : ℕ → List ℕ → List ℕ → Type 0) {chosen : ℕ → ℕ → Bool} {old new : List (List (List ℕ))} → AreChanged chosen (λ row column. in_room change (sizes row column)) old new → AreChanged chosen (for_content_size change t widths) old new
+  pub sized-made : (change : ℕ → List ℕ → List ℕ → Type 0) {chosen : ℕ → ℕ → Bool} {old new : List (List (List ℕ))} → AreChanged chosen (λ row column. if_sized change (sizes row column)) old new → AreChanged chosen (for_content_size change t widths) old new
   sized-made change {chosen} {old} {new} h =
-      AreChanged-as h (λ r c inside taken made. subst (λ (o : Option ℕ). in_room change o (cell_at old r c) (cell_at new r c)) (sized r c) made)
+      AreChanged-as h (λ r c inside taken made. subst (λ (o : Option ℕ). if_sized change o (cell_at old r c) (cell_at new r c)) (sized r c) made)
 
   -- so where the changes stopped
   pub sized-before : (cell_filter : CellFilter) (in_place : ℕ → List ℕ → Type 0) (makes : ℕ → List ℕ → List ℕ → Type 0) {order : WalkOrder} {chosen : ℕ → ℕ → Bool} {old new : List (List (List ℕ))}
-      → AreChangedBefore order chosen (λ row column. NeedsMemoryIn cell_filter in_place (sizes row column)) (λ row column. in_room (if_taken cell_filter makes) (sizes row column)) old new
+      → AreChangedBefore order chosen (λ row column. NeedsMemoryIn cell_filter in_place (sizes row column)) (λ row column. if_sized (if_taken cell_filter makes) (sizes row column)) old new
       → AreChangedBefore order chosen (needs_for_content_size cell_filter in_place t widths) (for_content_size (if_taken cell_filter makes) t widths) old new
   sized-before cell_filter in_place makes {order} {chosen} {old} {new} h = record {
     row = h.row;

@@ -16,15 +16,15 @@ use Rattle.tabled_set.specs.Truncated.{IsAdditiveLimit, IsTruncated, SuffixLimit
 use Rattle.tabled_set.specs.Priorities.{Shrinks, TakesFrom, TakesGreatest}
 use Rattle.tabled_set.specs.Promised.{IsWiderThan, TruncatesAsPromised, WrapsAsPromised}
 use Rattle.tabled_set.proofs.TruncatedTexts.{longest_lines, longest_truncated, StaysWithin-truncated, fits-if_wider}
-use Rattle.tabled_set.proofs.ExactTotals.{FindsRoom, IsNarrowed-wider, KeepsPlain, changed_for_room, exact_total, leveled}
+use Rattle.tabled_set.proofs.ExactTotals.{CharsFit, IsNarrowed-wider, KeepsPlain, changed_for_room, exact_total, leveled}
 
 -- ---- changed texts stay in their content sizes
-FindsRoom-wrapping : (words : Bool) → FindsRoom (wrapping words)
-FindsRoom-wrapping words content_size before after p w = fits-wrapped content_size words before after w
+CharsFit-wrapping : (words : Bool) → CharsFit (wrapping words)
+CharsFit-wrapping words content_size before after p w = fits-wrapped content_size words before after w
 
-FindsRoom-truncating : (suffix : List ℕ) (limit : SuffixLimit) (multiline : Bool) → IsAdditive suffix → IsAdditiveLimit limit
-    → FindsRoom (if_wider (truncating suffix limit multiline))
-FindsRoom-truncating suffix limit multiline q l content_size before after p w = fits-if_wider content_size suffix limit multiline before after q l p w
+CharsFit-truncating : (suffix : List ℕ) (limit : SuffixLimit) (multiline : Bool) → IsAdditive suffix → IsAdditiveLimit limit
+    → CharsFit (if_wider (truncating suffix limit multiline))
+CharsFit-truncating suffix limit multiline q l content_size before after p w = fits-if_wider content_size suffix limit multiline before after q l p w
 
 -- ---- and plain where they were
 KeepsPlain-wrapping : (words : Bool) → KeepsPlain (wrapping words)
@@ -60,7 +60,7 @@ module _ {P : Type 0} (shrinks : Shrinks P) (s : P) (change : ℕ → List ℕ �
   heights_clear : heights_of last ≡ None
   heights_clear = cleared.heights ∙ ap (unless_cleared (clears_heights hint)) narrowed.cleared ∙ cleared_none (clears_heights hint)
 
-  exact_of : FindsRoom change → KeepsPlain change → IsRectangular cells → AreTexts cells → HasExactTotal n (effective cells config sizes) (effective new config last)
+  exact_of : CharsFit change → KeepsPlain change → IsRectangular cells → AreTexts cells → HasExactTotal n (effective cells config sizes) (effective new config last)
   exact_of content_sizes keeps rectangular texts =
       exact_total shrinks s change n cells config sizes new stored last takes wide.estimates narrowed widths_stay content_sizes keeps rectangular texts wide.wider heights_clear
 
@@ -85,7 +85,7 @@ module _ {P : Type 0} (shrinks : Shrinks P) (s : P) (n : ℕ)
       record {
         exact = λ takes wide texts.
             exact_of shrinks s change n cells config sizes new stored last (Some (Row 0)) refl narrows cleared takes wide
-            (FindsRoom-wrapping words) (KeepsPlain-wrapping words) rectangular texts;
+            (CharsFit-wrapping words) (KeepsPlain-wrapping words) rectangular texts;
         best = λ takes wide.
             let changed = cell_of shrinks s change n cells config sizes new stored last (Some (Row 0)) refl narrows cleared takes wide in
             record {
@@ -128,7 +128,7 @@ module _ {P : Type 0} (shrinks : Shrinks P) (s : P) (n : ℕ)
         record {
           exact = λ takes p l wide texts.
               exact_of shrinks s change n cells config sizes new stored last None refl narrows cleared takes wide
-              (FindsRoom-truncating suffix limit multiline p l) (KeepsPlain-truncating suffix limit multiline p l) rectangular texts;
+              (CharsFit-truncating suffix limit multiline p l) (KeepsPlain-truncating suffix limit multiline p l) rectangular texts;
           best = longest_of;
           least = λ greatest wide.
               least_of shrinks s change n cells config sizes new stored last None refl narrows cleared (takes_of greatest) wide greatest;

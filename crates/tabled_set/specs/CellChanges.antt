@@ -40,9 +40,9 @@ abbrev pub if_wider : (ℕ → List ℕ → List ℕ → Type 0) → ℕ → Lis
 if_wider change content_size before after = MatchBool (nat_lt content_size (text_columns before)) (change content_size before after) (after ≡ before)
 
 -- a text is changed for its content size; one without a content size isn't
-abbrev pub in_room : (ℕ → List ℕ → List ℕ → Type 0) → Option ℕ → List ℕ → List ℕ → Type 0
-in_room change None before after = after ≡ before
-in_room change (Some content_size) before after = change content_size before after
+abbrev pub if_sized : (ℕ → List ℕ → List ℕ → Type 0) → Option ℕ → List ℕ → List ℕ → Type 0
+if_sized change None before after = after ≡ before
+if_sized change (Some content_size) before after = change content_size before after
 
 -- changing a text needs an allocation: it passes the filter, and can't be changed in place
 pub record NeedsMemory (cell_filter : CellFilter) (in_place : ℕ → List ℕ → Type 0) (content_size : ℕ) (text : List ℕ) : Type 0 where
@@ -132,7 +132,7 @@ on_line order line places row column = line_of order row column == line && is_wi
 
 -- what a walk makes of a cell: one that has a content size and passes the filter is changed for it
 abbrev pub leaves : CellFilter → (ℕ → List ℕ → List ℕ → Type 0) → (ℕ → ℕ → Option ℕ) → ℕ → ℕ → List ℕ → List ℕ → Type 0
-leaves cell_filter change content_sizes row column before after = in_room (if_taken cell_filter change) (content_sizes row column) before after
+leaves cell_filter change content_sizes row column before after = if_sized (if_taken cell_filter change) (content_sizes row column) before after
 
 -- a cell has a content size, and changing it needs an allocation
 abbrev pub needs : CellFilter → (ℕ → List ℕ → Type 0) → (ℕ → ℕ → Option ℕ) → ℕ → ℕ → List ℕ → Type 0

@@ -3,7 +3,7 @@ use Rattle.std.specs.Prelude.{◌≡◌, ◌⊎◌, ◌<◌, ◌≤◌, ◌^◌,
 use Rattle.tabled_set.specs.Common.{at, CompleteDimension, effective, HasNoEstimate, heights_of, is_empty, IsFilledIn, IsPermitted}
 use Rattle.tabled_set.specs.Common.{IsTooWide, Memory, Sheet, SpannedConfig, TableError, total_width, widths_of, estimated}
 use Rattle.tabled_set.specs.Common.{estimated_heights, total_height}
-use Rattle.tabled_set.specs.CellChanges.{AreChanged, AreChangedBefore, if_taken, in_room, NeedsMemory, NeedsMemoryIn, ByColumn, CellFilter, never_in_place, ByRow}
+use Rattle.tabled_set.specs.CellChanges.{AreChanged, AreChangedBefore, if_taken, if_sized, NeedsMemory, NeedsMemoryIn, ByColumn, CellFilter, never_in_place, ByRow}
 use Rattle.tabled_set.specs.CellChanges.{Higher}
 use Rattle.tabled_set.specs.Increased.{StopsFilling}
 use Rattle.tabled_set.specs.Minimums.{emptied, minimums, side_padding}
@@ -36,7 +36,7 @@ pub record IsShrunkTo {P : Type 0} (shrinks : Shrinks P) (priority : P) (n : ℕ
 
 -- a cell of a column that isn't below its minimum is changed for its content width, another isn't
 abbrev pub for_content_size : (ℕ → List ℕ → List ℕ → Type 0) → Sheet → List ℕ → ℕ → ℕ → List ℕ → List ℕ → Type 0
-for_content_size change t widths row column before after = in_room change (content_width t widths row column) before after
+for_content_size change t widths row column before after = if_sized change (content_width t widths row column) before after
 
 -- changing such a cell needs an allocation
 abbrev pub needs_for_content_size : CellFilter → (ℕ → List ℕ → Type 0) → Sheet → List ℕ → ℕ → ℕ → List ℕ → Type 0

@@ -68,7 +68,7 @@ impl<W: Measurement<Height> + Drop, P: Peaker + Drop, R: PeekableRecords> TableO
         (W.measures s.size (R.cells r) c.config) (R.cells r) c.config d d'
         × ((r' ≡ r) × (c' ≡ c)) };
 
-    ghost refuses = { λ s e r c d r' c' d'. (is_empty (R.cells r) ≡ false)
+    ghost fails = { λ s e r c d r' c' d'. (is_empty (R.cells r) ≡ false)
         × ((r' ≡ r) × ((c' ≡ c) × (d' ≡ d))) };
 
     ghost out_of_range = { λ s r c d.
@@ -182,7 +182,7 @@ impl<W: Measurement<Height> + Drop, P: Peaker + Drop, R: RecordsMut> TableOption
         (W.measures s.size (R.cells r) c.config) (R.cells r) c.config d (R.cells r') d'
         × (c' ≡ c) };
 
-    ghost refuses = { λ s e r c d r' c' d'. (is_empty (R.cells r) ≡ false)
+    ghost fails = { λ s e r c d r' c' d'. (is_empty (R.cells r) ≡ false)
         × StopsLimiting P.shrinks s.priority
         (W.measures s.size (R.cells r) c.config) e (R.cells r) c.config (R.cells r')
         × ((c' ≡ c) × (d' ≡ d)) };

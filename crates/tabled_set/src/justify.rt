@@ -76,7 +76,7 @@ impl<W: Measurement<Width> + Drop, R: RecordsMut, D> TableOption<R, ColoredConfi
         (W.measures s.size (R.cells r) c.config) Global
         (R.cells r) (R.cells r') × ((c' ≡ c) × (d' ≡ d)) };
 
-    ghost refuses = { λ s e r c d r' c' d'. StopsEntity NotAsWide never_in_place IsJustified
+    ghost fails = { λ s e r c d r' c' d'. StopsEntity NotAsWide never_in_place IsJustified
         (W.measures s.size (R.cells r) c.config) Global e
         (R.cells r) (R.cells r') × ((c' ≡ c) × (d' ≡ d)) };
 

@@ -120,7 +120,7 @@ impl<W: Measurement<Width> + Drop, P: Peaker + Drop, R: PeekableRecords> TableOp
         (W.measures s.size (R.cells r) c.config) (R.cells r) c.config d d'
         × ((r' ≡ r) × (c' ≡ c)) };
 
-    ghost refuses = { λ s e r c d r' c' d'. (is_empty (R.cells r) ≡ false)
+    ghost fails = { λ s e r c d r' c' d'. (is_empty (R.cells r) ≡ false)
         × StopsIncreasing (W.measures s.size (R.cells r) c.config) e (R.cells r) c.config d d'
         × ((r' ≡ r) × (c' ≡ c)) };
 

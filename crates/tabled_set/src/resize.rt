@@ -65,7 +65,7 @@ impl<T: TextTransform, W: Measurement<T::Direction>, P, R: RecordsMut> CellOptio
     ghost changes = { λ s r c e r' c'. ChangesEntity (if_taken T.cell_filter (T.makes s.transform))
         (W.measures s.size (R.cells r) c.config) e (R.cells r) (R.cells r') × (c' ≡ c) };
 
-    ghost refuses = { λ s f r c e r' c'.
+    ghost fails = { λ s f r c e r' c'.
         StopsEntity T.cell_filter (T.shortens s.transform) (T.makes s.transform)
         (W.measures s.size (R.cells r) c.config) e f (R.cells r) (R.cells r') × (c' ≡ c) };
 

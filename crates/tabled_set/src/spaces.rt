@@ -191,7 +191,7 @@ impl<R> CellOption<R, ColoredConfig> for Padding {
     ghost changes = { λ s r c e r' c'. (r' ≡ r)
         × (c' ≡ colored (record c.config { padding = with_change c.config.padding e s.indent })) };
 
-    ghost refuses = { λ s f r c e r' c'. IsPart e × ((f ≡ Memory) × ((r' ≡ r) × (c' ≡ c))) };
+    ghost fails = { λ s f r c e r' c'. IsPart e × ((f ≡ Memory) × ((r' ≡ r) × (c' ≡ c))) };
 
     fn change(&self, _: &mut R, cfg: &mut ColoredConfig, entity: Entity) -> Result<(), TableError> {
         cfg.as_mut().set_padding(entity, self.indent)

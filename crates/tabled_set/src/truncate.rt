@@ -307,7 +307,7 @@ impl<'a, W: Measurement<Width> + Drop, P: Peaker + Drop, R: RecordsMut> TableOpt
         (W.measures s.size (R.cells r) c.config) (R.cells r) c.config d (R.cells r') d'
         × (c' ≡ c) };
 
-    ghost refuses = { λ s e r c d r' c' d'. let by = s.transform in (is_empty (R.cells r) ≡ false)
+    ghost fails = { λ s e r c d r' c' d'. let by = s.transform in (is_empty (R.cells r) ≡ false)
         × StopsNarrowing P.shrinks s.priority
         Wider (truncating_in_place by.suffix.now by.limit by.multiline)
         (truncating by.suffix.now by.limit by.multiline)

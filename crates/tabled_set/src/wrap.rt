@@ -109,7 +109,7 @@ impl<W: Measurement<Width> + Drop, P: Peaker + Drop, R: RecordsMut> TableOption<
         (W.measures s.size (R.cells r) c.config) (R.cells r) c.config d (R.cells r') d'
         × (c' ≡ c) };
 
-    ghost refuses = { λ s e r c d r' c' d'. (is_empty (R.cells r) ≡ false)
+    ghost fails = { λ s e r c d r' c' d'. (is_empty (R.cells r) ≡ false)
         × StopsNarrowing P.shrinks s.priority
         Every never_in_place (wrapping s.transform.keep_words)
         (W.measures s.size (R.cells r) c.config) e (R.cells r) c.config d (R.cells r') d'

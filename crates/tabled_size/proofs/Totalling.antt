@@ -10,7 +10,7 @@ use Rattle.tabled_size.specs.Estimates.{column_width, estimated_heights, estimat
 use Rattle.tabled_size.specs.Reached.{reached}
 use Rattle.tabled_size.specs.Entries.{stored_at}
 use Rattle.tabled_size.specs.Effective.{effective_sizes}
-use Rattle.tabled_size.specs.EffectiveTotals.{AnswersTotal}
+use Rattle.tabled_size.specs.EffectiveTotals.{ReturnsTotal}
 use Rattle.tabled_size.proofs.Reaching.{reached_filled, reached_effective}
 
 -- one size a column, and one a row
@@ -37,16 +37,16 @@ reached_stands stored sizes estimates count n s e =
 module _ (short : TableError) (total : ℕ → List ℕ → ℕ) where
   -- the answer by one list is that by an equal one
   pub total_moved : (m n : ℕ) (old new : List ℕ) (r : Result ℕ TableError) → m ≡ n → old ≡ new
-      → AnswersTotal short total m old r → AnswersTotal short total n new r
+      → ReturnsTotal short total m old r → ReturnsTotal short total n new r
   total_moved m n old new r e f h =
-      subst (λ k. AnswersTotal short total k new r) e (subst (λ sizes. AnswersTotal short total m sizes r) f h)
+      subst (λ k. ReturnsTotal short total k new r) e (subst (λ sizes. ReturnsTotal short total m sizes r) f h)
 
   -- sizes that can't be estimated
   pub total_refused : (TooGreat : Type 0) (count : ℕ) (sizes : List ℕ) (r : Result ℕ TableError) (e : TableError)
       → length sizes ≡ count → (TooGreat → 2 ^ 64 ≤ total count sizes) → (e ≡ Memory) ⊎ ((e ≡ Range) × TooGreat)
-      → IsErrAnd r (λ d. d ≡ e) → AnswersTotal short total count sizes r
+      → IsErrAnd r (λ d. d ≡ e) → ReturnsTotal short total count sizes r
   total_refused TooGreat count sizes (Ok n) e long passes cause h = absurd h
   total_refused TooGreat count sizes (Err d) e long passes cause h =
-      let P : TableError → Type 0 = λ k. AnswersTotal short total count sizes (Err k) in
+      let P : TableError → Type 0 = λ k. ReturnsTotal short total count sizes (Err k) in
       subst P (sym h)
       (⊎_elim (λ m. subst P (sym m) tt) (λ x. subst P (sym x.0) (omega (arith, long), passes x.1)) cause)

@@ -8,14 +8,14 @@ use Rattle.tabled_size.specs.Totals.{filled_height, filled_width}
 
 -- for a table with rows and columns: the total of its sizes, or an error. `Memory` is possible at any
 -- time; `short` if a size is missing; `Range` if the total exceeds `usize::MAX`.
-abbrev pub AnswersTotal : TableError → (ℕ → List ℕ → ℕ) → ℕ → List ℕ → Result ℕ TableError → Type 0
-AnswersTotal short total count sizes (Ok n) = (count ≤ length sizes) × (n ≡ total count sizes)
-AnswersTotal short total count sizes (Err Memory) = ⊤
-AnswersTotal short total count sizes (Err Range) = (count ≤ length sizes) × (2 ^ 64 ≤ total count sizes)
-AnswersTotal short total count sizes (Err e) = (e ≡ short) × (length sizes < count)
+abbrev pub ReturnsTotal : TableError → (ℕ → List ℕ → ℕ) → ℕ → List ℕ → Result ℕ TableError → Type 0
+ReturnsTotal short total count sizes (Ok n) = (count ≤ length sizes) × (n ≡ total count sizes)
+ReturnsTotal short total count sizes (Err Memory) = ⊤
+ReturnsTotal short total count sizes (Err Range) = (count ≤ length sizes) × (2 ^ 64 ≤ total count sizes)
+ReturnsTotal short total count sizes (Err e) = (e ≡ short) × (length sizes < count)
 
-abbrev pub AnswersWidth : SpannedConfig → ℕ → List ℕ → Result ℕ TableError → Type 0
-AnswersWidth config = AnswersTotal ShortWidths (filled_width config)
+abbrev pub ReturnsWidth : SpannedConfig → ℕ → List ℕ → Result ℕ TableError → Type 0
+ReturnsWidth config = ReturnsTotal ShortWidths (filled_width config)
 
-abbrev pub AnswersHeight : SpannedConfig → ℕ → List ℕ → Result ℕ TableError → Type 0
-AnswersHeight config = AnswersTotal ShortHeights (filled_height config)
+abbrev pub ReturnsHeight : SpannedConfig → ℕ → List ℕ → Result ℕ TableError → Type 0
+ReturnsHeight config = ReturnsTotal ShortHeights (filled_height config)

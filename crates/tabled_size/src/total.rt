@@ -9,7 +9,7 @@ ghost use Rattle.tabled_base.specs.declared.error.TableError.TheVariants.{ShortH
 ghost use Rattle.tabled_base.specs.declared.error.TableError.TheVariants.{ShortWidths};
 ghost use Rattle.tabled_priority.specs.Sums.{one_if, sum_below};
 ghost use Rattle.tabled_size.specs.Effective.{effective};
-ghost use Rattle.tabled_size.specs.EffectiveTotals.{AnswersHeight, AnswersWidth};
+ghost use Rattle.tabled_size.specs.EffectiveTotals.{ReturnsHeight, ReturnsWidth};
 ghost use Rattle.tabled_size.specs.Estimates.{IsTooHigh, IsTooWide, column_width};
 ghost use Rattle.tabled_size.specs.Estimates.{estimated_heights, estimated_widths};
 ghost use Rattle.tabled_size.specs.Reached.{reached};
@@ -147,7 +147,7 @@ fn reached_width<D: Dimension>(
     sizes: &D,
 ) -> Result<usize, TableError>
     ensures answers { let widths = reached (D.width_at sizes.now) columns in
-        AnswersWidth config.now columns widths result }
+        ReturnsWidth config.now columns widths result }
     ensures only { IfErr result (λ e. (e ≡ ShortWidths) ⊎ (e ≡ Range)) }
 {
     check_widths(sizes, columns)?;
@@ -160,7 +160,7 @@ fn reached_height<D: Dimension>(
     sizes: &D,
 ) -> Result<usize, TableError>
     ensures answers { let heights = reached (D.height_at sizes.now) rows in
-        AnswersHeight config.now rows heights result }
+        ReturnsHeight config.now rows heights result }
     ensures only { IfErr result (λ e. (e ≡ ShortHeights) ⊎ (e ≡ Range)) }
 {
     check_heights(sizes, rows)?;
@@ -180,7 +180,7 @@ pub fn total_width<R: PeekableRecords>(
     stored: &CompleteDimension,
 ) -> Result<usize, TableError>
     ensures empty { is_empty (R.cells records.now) ≡ true → result ≡ Ok 0 }
-    ensures filled { is_empty (R.cells records.now) ≡ false → AnswersWidth config.now
+    ensures filled { is_empty (R.cells records.now) ≡ false → ReturnsWidth config.now
         (columns (R.cells records.now))
         (effective (R.cells records.now) config.now stored.now).widths result }
     ensures memory { IfErr result (λ e. e ≡ Memory → widths_of stored.now ≡ None) }
@@ -214,7 +214,7 @@ pub fn total_height<R: PeekableRecords>(
     stored: &CompleteDimension,
 ) -> Result<usize, TableError>
     ensures empty { is_empty (R.cells records.now) ≡ true → result ≡ Ok 0 }
-    ensures filled { is_empty (R.cells records.now) ≡ false → AnswersHeight config.now
+    ensures filled { is_empty (R.cells records.now) ≡ false → ReturnsHeight config.now
         (length (R.cells records.now))
         (effective (R.cells records.now) config.now stored.now).heights result }
     ensures memory { IfErr result (λ e. e ≡ Memory → heights_of stored.now ≡ None) }

@@ -31,7 +31,7 @@ use Rattle.tabled_size.specs.Stored.{heights_of, is_stored, widths_of}
 use Rattle.tabled_size.specs.TextCells.{AreTexts}
 use Rattle.tabled_line.specs.Sent.{Sent}
 use Rattle.tabled_grid.specs.Picture.{picture}
-use Rattle.tabled_grid.specs.Printed.{IsRefused, Prints}
+use Rattle.tabled_grid.specs.Printed.{IsFailure, Prints}
 use Rattle.tabled_grid.proofs.Printing.{refused_so}
 use Rattle.tabled_table.specs.TableSheet.{cells_of, sheet}
 use Rattle.tabled_table.specs.declared.table.Table.{Table}
@@ -238,10 +238,10 @@ shown_unchanged table width None fill e =
 shown_unchanged table width (Some alignment) fill e = let no : true ≡ false = e in absurd (cc)
 
 -- a call that is refused for its cause before it prints
-refused_any : {T : Type 0} (b : Bool) (t : Sheet) (a : Sent) (r : Result T TableError) (e : TableError) → is_empty t.cells ≡ false → IsRefused t e
+refused_any : {T : Type 0} (b : Bool) (t : Sheet) (a : Sent) (r : Result T TableError) (e : TableError) → is_empty t.cells ≡ false → IsFailure t e
     → IsErrAnd r (λ d. d ≡ e) → Prints b t a r a
 refused_any b t a (Ok x) e filled cause h = absurd h
-refused_any b t a (Err d) e filled cause h = (filled, inl (subst (IsRefused t) (sym h) cause, refl))
+refused_any b t a (Err d) e filled cause h = (filled, inl (subst (IsFailure t) (sym h) cause, refl))
 
 module _ {T : Type 0} (table : Table) (width : Option ℕ) (align : Option AlignmentHorizontal) (fill : ℕ) (a : Sent) where
   -- one whose missing columns can't be told
@@ -259,8 +259,8 @@ module _ {T : Type 0} (table : Table) (width : Option ℕ) (align : Option Align
       short : (e ≡ ShortWidths) × (length (sheet table).widths < columns (cells_of table)) → Prints (takes_memory table width align) (shown table width align fill) a r a
       short s =
           let same = shown_widths table.config.config align fill (missing_columns table width) (cells_of table) table.dimension in
-          let few : IsRefused (shown table width align fill) ShortWidths = subst (λ w. length w < columns (cells_of table)) (sym same) s.1 in
-          refused_any _ (shown table width align fill) a r e filled (subst (IsRefused (shown table width align fill)) (sym s.0) few) h
+          let few : IsFailure (shown table width align fill) ShortWidths = subst (λ w. length w < columns (cells_of table)) (sym same) s.1 in
+          refused_any _ (shown table width align fill) a r e filled (subst (IsFailure (shown table width align fill)) (sym s.0) few) h
 
   -- one that prints the table as it is, where nothing is to be changed
   pub prints_unchanged : (b : Sent) (r : Result T TableError) → (is_some align || nat_lt 0 (missing_columns table width)) ≡ false

@@ -30,10 +30,10 @@ pub record IsApplied (changes : Cells → ColoredConfig → CompleteDimension �
   pub cleared : AreCleared hint sizes new.dimension
 
 -- what a table option leaves when it fails
-pub record IsRefusedBy (refuses : Cells → ColoredConfig → CompleteDimension → Cells → ColoredConfig
+pub record FailsBy (fails : Cells → ColoredConfig → CompleteDimension → Cells → ColoredConfig
     → CompleteDimension → Type 0) (old new : Table) : Type 0 where
   pub sizes : CompleteDimension
-  pub refused : refuses old.records old.config old.dimension new.records new.config sizes
+  pub refused : fails old.records old.config old.dimension new.records new.config sizes
   pub cleared : AreNone new.dimension
 
 -- the entities that a target picks in a table
@@ -60,7 +60,7 @@ pub record IsModified (changes : CellChange) (entities : List Entity) (hint : Op
 
 -- the option changes the first entities and fails at the next one; `Range` comes only if a sum or
 -- product exceeds the greatest `usize` there
-pub record IsStopped (changes : CellChange) (refuses : TableError → CellChange)
+pub record IsStopped (changes : CellChange) (fails : TableError → CellChange)
     (out_of_range : Cells → ColoredConfig → Entity → Type 0) (entities : List Entity) (error : TableError)
     (cells : Cells) (config : ColoredConfig) (cells' : Cells) (config' : ColoredConfig) : Type 0 where
   pub count : ℕ
@@ -69,7 +69,7 @@ pub record IsStopped (changes : CellChange) (refuses : TableError → CellChange
   pub between : Cells
   pub between_config : ColoredConfig
   pub changed : ChangesEach changes (take count entities) cells config between between_config
-  pub refused : refuses error between between_config entity cells' config'
+  pub refused : fails error between between_config entity cells' config'
   pub cause : error ≡ Range → out_of_range between between_config entity
 
 -- a copy of the configuration, if there are several entities
@@ -82,15 +82,15 @@ kept_config entities config = if nat_lt 1 (length entities) then Some config els
 -- option leaves if there is no copy
 abbrev pub IsPutBack : CellChange → (TableError → CellChange) → (Cells → ColoredConfig → Entity → Type 0)
     → List Entity → TableError → Cells → ColoredConfig → Cells → ColoredConfig → Type 0
-IsPutBack changes refuses out_of_range entities error cells config cells' config' =
+IsPutBack changes fails out_of_range entities error cells config cells' config' =
     ((error ≡ Memory) × ((0 < length entities) × ((cells' ≡ cells) × (config' ≡ config))))
     ⊎ ((last : ColoredConfig)
-    × IsStopped changes refuses out_of_range entities error cells config cells' last
+    × IsStopped changes fails out_of_range entities error cells config cells' last
     × (config' ≡ unwrap_or (kept_config entities config) last))
 
 -- what a failed modification leaves of a table, which then has no sizes stored
-pub record IsModifyingRefused (changes : CellChange) (refuses : TableError → CellChange)
+pub record ModifyingFails (changes : CellChange) (fails : TableError → CellChange)
     (out_of_range : Cells → ColoredConfig → Entity → Type 0) (entities : List Entity) (error : TableError)
     (old new : Table) : Type 0 where
-  pub parts : IsPutBack changes refuses out_of_range entities error old.records old.config new.records new.config
+  pub parts : IsPutBack changes fails out_of_range entities error old.records old.config new.records new.config
   pub cleared : AreNone new.dimension

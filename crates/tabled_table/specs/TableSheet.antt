@@ -5,7 +5,7 @@ use Rattle.tabled_base.specs.declared.error.TableError.{TableError}
 use Rattle.tabled_base.specs.declared.error.TableError.TheVariants.{Memory}
 use Rattle.tabled_grid.specs.ApartSheet.{IsApartConfig}
 use Rattle.tabled_grid.specs.PlainSheet.{IsPlainConfig}
-use Rattle.tabled_grid.specs.Printed.{IsPrintable, IsRefused}
+use Rattle.tabled_grid.specs.Printed.{IsPrintable, IsFailure}
 use Rattle.tabled_size.specs.Sheet.{Sheet, estimated, is_empty}
 use Rattle.tabled_size.specs.Effective.{effective}
 use Rattle.tabled_table.specs.NewConfig.{new_config}
@@ -37,4 +37,4 @@ HasText table = (is_empty (cells_of table) ≡ true) ⊎ IsPrintable (sheet tabl
 
 -- an allocation failed, or the table can't be printed
 abbrev pub HasNoText : Table → TableError → Type 0
-HasNoText table error = (error ≡ Memory) ⊎ ((is_empty (cells_of table) ≡ false) × IsRefused (sheet table) error)
+HasNoText table error = (error ≡ Memory) ⊎ ((is_empty (cells_of table) ≡ false) × IsFailure (sheet table) error)

@@ -3,8 +3,8 @@ ghost use Rattle.std.specs.Prelude.{◌≡◌, ◌⊎◌, ◌<◌, IfErr, IfOk, 
 ghost use Rattle.std.specs.Borrow.{RestsIfErr, sem};
 ghost use Rattle.tabled_base.specs.Cells.{columns};
 ghost use Rattle.tabled_base.specs.declared.error.TableError.TheVariants.{Memory, Range};
-ghost use Rattle.tabled_table.specs.Applied.{ChangesEach, IsApplied, IsModified, IsRefusedBy};
-ghost use Rattle.tabled_table.specs.Applied.{named_in, IsModifyingRefused, IsPutBack, IsStopped};
+ghost use Rattle.tabled_table.specs.Applied.{ChangesEach, IsApplied, IsModified, FailsBy};
+ghost use Rattle.tabled_table.specs.Applied.{named_in, ModifyingFails, IsPutBack, IsStopped};
 ghost use Rattle.tabled_table.specs.Applied.{kept_config};
 ghost use Rattle.tabled_table.specs.declared.table.Table.{Table};
 
@@ -29,7 +29,7 @@ impl Table {
         ensures ok { OnOk result (IsApplied (O.changes option) (O.hint option) self.old self.new) }
         ensures promised { OnOk result
             (IsApplied (O.promises option) (O.hint option) self.old self.new) }
-        ensures err { IfErr result (λ e. IsRefusedBy (O.refuses option e) self.old self.new) }
+        ensures err { IfErr result (λ e. FailsBy (O.fails option e) self.old self.new) }
         ensures only { IfErr result (λ e. (e ≡ Memory) ⊎ (e ≡ Range)) }
         ensures range { IfErr result (λ e. e ≡ Range
             → O.out_of_range option self.old.records self.old.config self.old.dimension) }
@@ -56,7 +56,7 @@ impl Table {
         option: O,
     ) -> Result<&mut Self, TableError>
         ensures* rests { sem 𝓛 (RestsIfErr the_row self.entry (λ table. table.ghost_name) result
-            (λ last. IfErr result (λ e. IsRefusedBy (O.refuses option e) self.old last))) }
+            (λ last. IfErr result (λ e. FailsBy (O.fails option e) self.old last))) }
         ensures same_reference { IfOk result (λ table. table.ghost_name ≡ self.entry.ghost_name) }
         ensures ok { IfOk result
             (λ table. IsApplied (O.changes option) (O.hint option) self.old table.now) }
@@ -88,8 +88,8 @@ impl Table {
     >(&mut self, target: T, option: &O) -> Result<(), TableError>
         ensures ok { OnOk result (IsModified (O.changes option.now)
             (named_in self.old (T.picks target)) (O.hint option.now) self.old self.new) }
-        ensures err { IfErr result (λ e. IsModifyingRefused (O.changes option.now)
-            (O.refuses option.now) (O.out_of_range option.now) (named_in self.old (T.picks target))
+        ensures err { IfErr result (λ e. ModifyingFails (O.changes option.now)
+            (O.fails option.now) (O.out_of_range option.now) (named_in self.old (T.picks target))
             e self.old self.new) }
         ensures only { IfErr result (λ e. (e ≡ Memory) ⊎ (e ≡ Range)) }
     {
@@ -116,14 +116,14 @@ impl Table {
         O: CellOption<VecRecords<Text<String>>, ColoredConfig> + Drop,
     >(&mut self, target: T, option: O) -> Result<&mut Self, TableError>
         ensures* rests { sem 𝓛 (RestsIfErr the_row self.entry (λ table. table.ghost_name) result
-            (λ last. IfErr result (λ e. IsModifyingRefused (O.changes option)
-            (O.refuses option) (O.out_of_range option) (named_in self.old (T.picks target))
+            (λ last. IfErr result (λ e. ModifyingFails (O.changes option)
+            (O.fails option) (O.out_of_range option) (named_in self.old (T.picks target))
             e self.old last))) }
         ensures same_reference { IfOk result (λ table. table.ghost_name ≡ self.entry.ghost_name) }
         ensures ok { IfOk result (λ table. IsModified (O.changes option)
             (named_in self.old (T.picks target)) (O.hint option) self.old table.now) }
-        ensures err { IfErr result (λ e. (left : Table) × IsModifyingRefused (O.changes option)
-            (O.refuses option) (O.out_of_range option) (named_in self.old (T.picks target))
+        ensures err { IfErr result (λ e. (left : Table) × ModifyingFails (O.changes option)
+            (O.fails option) (O.out_of_range option) (named_in self.old (T.picks target))
             e self.old left) }
         ensures only { IfErr result (λ e. (e ≡ Memory) ⊎ (e ≡ Range)) }
     {
@@ -140,8 +140,8 @@ impl Table {
     >(&mut self, target: T, option: O) -> Result<(), TableError>
         ensures ok { OnOk result (IsModified (O.changes option)
             (named_in self.old (T.picks target)) (O.hint option) self.old self.new) }
-        ensures err { IfErr result (λ e. IsModifyingRefused (O.changes option)
-            (O.refuses option) (O.out_of_range option) (named_in self.old (T.picks target))
+        ensures err { IfErr result (λ e. ModifyingFails (O.changes option)
+            (O.fails option) (O.out_of_range option) (named_in self.old (T.picks target))
             e self.old self.new) }
         ensures only { IfErr result (λ e. (e ≡ Memory) ⊎ (e ≡ Range)) }
     {
@@ -182,7 +182,7 @@ fn change_target<
         (T.picks target.now (length records.old) (columns records.old))
         records.old config.old records.new config.new) }
     ensures err { IfErr result (λ e. IsPutBack
-        (O.changes option.now) (O.refuses option.now) (O.out_of_range option.now)
+        (O.changes option.now) (O.fails option.now) (O.out_of_range option.now)
         (T.picks target.now (length records.old) (columns records.old))
         e records.old config.old records.new config.new) }
     ensures only { IfErr result (λ e. (e ≡ Memory) ⊎ (e ≡ Range)) }
@@ -211,7 +211,7 @@ fn change_each<O: CellOption<VecRecords<Text<String>>, ColoredConfig>>(
     ensures ok { OnOk result (ChangesEach (O.changes option.now) entities.now
         records.old config.old records.new config.new) }
     ensures err { IfErr result (λ e. IsStopped
-        (O.changes option.now) (O.refuses option.now) (O.out_of_range option.now)
+        (O.changes option.now) (O.fails option.now) (O.out_of_range option.now)
         entities.now e records.old config.old records.new config.new) }
     ensures only { IfErr result (λ e. (e ≡ Memory) ⊎ (e ≡ Range)) }
 {

@@ -130,7 +130,7 @@ impl<I> IterTable<I> {
     ) -> Result<(), TableError>
         ensures ok { OnOk result (IsApplied (O.changes option) self.old self.new) }
         ensures promised { OnOk result (IsApplied (O.promises option) self.old self.new) }
-        ensures err { IfErr result (λ e. IsApplied (O.refuses option e) self.old self.new) }
+        ensures err { IfErr result (λ e. IsApplied (O.fails option e) self.old self.new) }
         ensures only { IfErr result (λ e. (e ≡ Memory) ⊎ (e ≡ Range)) }
         ensures range { IfErr result (λ e. e ≡ Range
             → WasOutOfRange (O.out_of_range option) self.old) }
@@ -150,7 +150,7 @@ impl<I> IterTable<I> {
     ) -> Result<&mut Self, TableError>
         ensures* rests { sem 𝓛 (RestsIfErr (the_row I.row) self.entry
             (λ table. table.ghost_name) result
-            (λ last. IfErr result (λ e. IsApplied (O.refuses option e) self.old last))) }
+            (λ last. IfErr result (λ e. IsApplied (O.fails option e) self.old last))) }
         ensures same_reference { IfOk result (λ table. table.ghost_name ≡ self.entry.ghost_name) }
         ensures ok { IfOk result (λ table. IsApplied (O.changes option) self.old table.now) }
         ensures promised { IfOk result (λ table. IsApplied (O.promises option) self.old table.now) }

@@ -7,7 +7,7 @@ ghost use Rattle.tabled_base.specs.contracts.vec_records.VecRecords.{the_row as 
 ghost use Rattle.tabled_base.specs.Cells.{columns};
 ghost use Rattle.tabled_base.specs.declared.error.TableError.TheVariants.{Memory};
 ghost use Rattle.tabled_size.specs.Sheet.{is_empty};
-ghost use Rattle.tabled_size.specs.EffectiveTotals.{AnswersHeight, AnswersWidth};
+ghost use Rattle.tabled_size.specs.EffectiveTotals.{ReturnsHeight, ReturnsWidth};
 ghost use Rattle.tabled_size.specs.Stored.{heights_of, is_stored, widths_of};
 ghost use Rattle.tabled_size.specs.Totals.{total_height, total_width};
 ghost use Rattle.tabled_size.specs.Holds.{Holds};
@@ -231,7 +231,7 @@ impl Table {
     #[tactic(auto, using(crate::proofs::Sheets::sheet_columns, crate::proofs::Sheets::sheet_texts))]
     pub fn total_width(&self) -> Result<usize, TableError>
         ensures empty { is_empty (cells_of self.now) ≡ true → result ≡ Ok 0 }
-        ensures filled { is_empty (cells_of self.now) ≡ false → AnswersWidth (sheet self.now).config
+        ensures filled { is_empty (cells_of self.now) ≡ false → ReturnsWidth (sheet self.now).config
             (columns (cells_of self.now)) (sheet self.now).widths result }
         ensures memory { IfErr result (λ e. e ≡ Memory → widths_of self.now.dimension ≡ None) }
         ensures texts { IsApart self.now → AreTexts (cells_of self.now) → Holds (sheet self.now)
@@ -252,7 +252,7 @@ impl Table {
     pub fn total_height(&self) -> Result<usize, TableError>
         ensures empty { is_empty (cells_of self.now) ≡ true → result ≡ Ok 0 }
         ensures filled { is_empty (cells_of self.now) ≡ false
-            → AnswersHeight (sheet self.now).config
+            → ReturnsHeight (sheet self.now).config
             (length (cells_of self.now)) (sheet self.now).heights result }
         ensures memory { IfErr result (λ e. e ≡ Memory → heights_of self.now.dimension ≡ None) }
         ensures lines { length (picture (sheet self.now)) ≡ total_height (sheet self.now) }

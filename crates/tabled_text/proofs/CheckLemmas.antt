@@ -10,7 +10,7 @@ use Rattle.std.proofs.lemmas.List.{append_cancel_left}
 use Rattle.std.proofs.lemmas.Str.{chars_from_encodes, encodes-chars}
 use Rattle.tabled_text.specs.Measure.{lines_of}
 use Rattle.tabled_text.specs.Units.{TextUnit, units}
-use Rattle.tabled_text.specs.Wrapping.{IsFullest, IsFullestText, text_of_lines, IsRoomyWrapping}
+use Rattle.tabled_text.specs.Wrapping.{IsFullest, IsFullestText, text_of_lines, IsFittingWrapping}
 use Rattle.tabled_text.specs.Walk.{append_all, pending, fits_line}
 use Rattle.tabled_text.specs.Expected.{Expects}
 use Rattle.tabled_text.proofs.FitLemmas.{fits_lines-iff}
@@ -62,7 +62,7 @@ expected-iff n pos words cs out u t h =
 -- where each unit finds room
 pub roomy-iff : (n : ℕ) → 0 < n → (words : Bool) (text wrapped : List ℕ) → IsUtf8 wrapped
     → list_all (fits_line n words) (lines_of (chars text)) ≡ true
-    → IsFullestText n words (chars text) (chars wrapped) ↔ IsRoomyWrapping n words text wrapped
+    → IsFullestText n words (chars text) (chars wrapped) ↔ IsFittingWrapping n words text wrapped
 roomy-iff n pos words text wrapped u fits =
     let nonzero : (n == 0) ≡ false = ne_eqb n 0 (λ z. omega arith) in
     let full = IsFullestText n words (chars text) (chars wrapped) in (
@@ -76,7 +76,7 @@ roomy-iff n pos words text wrapped u fits =
 
 -- where one doesn't, or there is no column, nothing is
 pub not_roomy : (n : ℕ) (words : Bool) (text wrapped : List ℕ)
-    → (n ≡ 0) ⊎ (list_all (fits_line n words) (lines_of (chars text)) ≡ false) → IsRoomyWrapping n words text wrapped → ⊥
+    → (n ≡ 0) ⊎ (list_all (fits_line n words) (lines_of (chars text)) ≡ false) → IsFittingWrapping n words text wrapped → ⊥
 not_roomy n words text wrapped h r = ⊎_elim
     (λ z. let pos = r.columns in omega arith)
     (λ no. let yes = (fits_lines-iff n r.columns words text).1 r.units in let clash : false ≡ true = sym no ∙ yes in cc) h

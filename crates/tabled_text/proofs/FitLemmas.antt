@@ -9,7 +9,7 @@ use Rattle.std.proofs.Math.Bool.{and-true}
 use Rattle.unicode_width.proofs.Rules.{width_or_zero-le}
 use Rattle.tabled_text.specs.Breaking.{EachUnitFits}
 use Rattle.tabled_text.specs.Measure.{lines_of, columns_of, char_columns, char_count}
-use Rattle.tabled_text.specs.OldText.{finds_room}
+use Rattle.tabled_text.specs.OldText.{all_chars_fit}
 use Rattle.tabled_text.specs.Units.{TextUnit, unit_of_char, space, words_of, units_of_word, units_of_words, units}
 use Rattle.tabled_text.proofs.Each.{Each, Each-split}
 use Rattle.tabled_text.specs.Walk.{fits_word, fits_line}
@@ -17,7 +17,7 @@ use Rattle.tabled_text.specs.Walk.{fits_word, fits_line}
 abbrev pub narrow : ℕ → List TextUnit → Bool
 narrow n us = list_all (λ u. nat_le u.width n) us
 
-narrow-chars : (n : ℕ) (cs : List ℕ) → narrow n (map unit_of_char cs) ≡ finds_room n cs
+narrow-chars : (n : ℕ) (cs : List ℕ) → narrow n (map unit_of_char cs) ≡ all_chars_fit n cs
 narrow-chars n [] = refl
 narrow-chars n (c ∷ cs) = ap (λ b. nat_le (char_count c) n && b) (narrow-chars n cs)
 
@@ -30,7 +30,7 @@ narrow-word n [] = by_test (nat_le (columns_of []) n)
 narrow-word n (c ∷ cs) = by_test (nat_le (columns_of (c ∷ cs)) n) refl
   where
     by_test : (b : Bool) → nat_le (columns_of (c ∷ cs)) n ≡ b
-        → narrow n (cond b (record { text = c ∷ cs; width = columns_of (c ∷ cs) } ∷ []) (map unit_of_char (c ∷ cs))) ≡ (b || finds_room n (c ∷ cs))
+        → narrow n (cond b (record { text = c ∷ cs; width = columns_of (c ∷ cs) } ∷ []) (map unit_of_char (c ∷ cs))) ≡ (b || all_chars_fit n (c ∷ cs))
     by_test true e = ap (λ t. t && true) e
     by_test false e = narrow-chars n (c ∷ cs)
 
@@ -81,9 +81,9 @@ fits_lines-iff n pos words text = fits_lines-All n pos words (lines_of (chars te
 room-words : (n : ℕ) (ws : List (List ℕ)) → Each (λ c. nat_le (char_count c) n) ws → list_all (fits_word n) ws ≡ true
 room-words n [] h = refl
 room-words n (w ∷ ws) h = and_from (fits_word n w) (list_all (fits_word n) ws)
-    (or_right (nat_le (columns_of w) n) (finds_room n w) h.0) (room-words n ws h.1)
+    (or_right (nat_le (columns_of w) n) (all_chars_fit n w) h.0) (room-words n ws h.1)
 
-room-line : (n : ℕ) (words : Bool) (line : List ℕ) → finds_room n line ≡ true → fits_line n words line ≡ true
+room-line : (n : ℕ) (words : Bool) (line : List ℕ) → all_chars_fit n line ≡ true → fits_line n words line ≡ true
 room-line n false line h = h
 room-line n true line h = room-words n (words_of line)
     (Each-split (λ c. c == 32) (λ c. nat_le (char_count c) n) (λ c. nat_le (char_count c) n) (λ c a b. a) line h)
@@ -93,7 +93,7 @@ room-lines n words [] h = refl
 room-lines n words (l ∷ ls) h = and_from (fits_line n words l) (list_all (fits_line n words) ls) (room-line n words l h.0) (room-lines n words ls h.1)
 
 -- each unit is at most n wide
-pub fits-room : (n : ℕ) → 0 < n → (words : Bool) (text : List ℕ) → finds_room n (chars text) ≡ true → EachUnitFits n words text
+pub fits-room : (n : ℕ) → 0 < n → (words : Bool) (text : List ℕ) → all_chars_fit n (chars text) ≡ true → EachUnitFits n words text
 fits-room n pos words text h =
     (fits_lines-iff n pos words text).0 (room-lines n words (lines_of (chars text))
     (Each-split (λ c. c == 10) (λ c. nat_le (char_count c) n) (λ c. nat_le (char_count c) n) (λ c a b. a) (chars text) h))
@@ -102,9 +102,9 @@ fits-room n pos words text h =
 counts : (n c : ℕ) → 3 ≤ n → nat_le (char_count c) n ≡ true
 counts n c h = le-leb (char_count c) n (let w : char_columns c ≤ 3 = width_or_zero-le false c in omega arith)
 
-finds_wide : (n : ℕ) → 3 ≤ n → (cs : List ℕ) → finds_room n cs ≡ true
+finds_wide : (n : ℕ) → 3 ≤ n → (cs : List ℕ) → all_chars_fit n cs ≡ true
 finds_wide n h [] = refl
-finds_wide n h (c ∷ cs) = and_from (nat_le (char_count c) n) (finds_room n cs) (counts n c h) (finds_wide n h cs)
+finds_wide n h (c ∷ cs) = and_from (nat_le (char_count c) n) (all_chars_fit n cs) (counts n c h) (finds_wide n h cs)
 
 pub fits-wide : (n : ℕ) → 3 ≤ n → (words : Bool) (cs : List ℕ) → list_all (fits_line n words) (lines_of cs) ≡ true
 fits-wide n h words cs =

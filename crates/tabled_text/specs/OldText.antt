@@ -12,5 +12,5 @@ pub record HasOldText (old new : List ℕ) : Type 0 where
   pub joined : chars new ≡ join_with_byte 10 (map (join_with_byte 10) parts)
 
 -- no character counts more than n
-abbrev pub finds_room : ℕ → List ℕ → Bool
-finds_room n cs = list_all (λ c. nat_le (char_count c) n) cs
+abbrev pub all_chars_fit : ℕ → List ℕ → Bool
+all_chars_fit n cs = list_all (λ c. nat_le (char_count c) n) cs

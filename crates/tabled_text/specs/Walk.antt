@@ -4,7 +4,7 @@ use Rattle.std.specs.Borrow.{Bor}
 use Rattle.std.specs.List.{list_all}
 use Rattle.std.specs.Str.{IsUtf8}
 use Rattle.tabled_text.specs.Measure.{columns_of, count_of}
-use Rattle.tabled_text.specs.OldText.{finds_room}
+use Rattle.tabled_text.specs.OldText.{all_chars_fit}
 use Rattle.tabled_text.specs.Units.{TextUnit, units, units_of_words, words_of}
 use Rattle.tabled_text.specs.Wrapping.{needed, shown}
 
@@ -44,10 +44,10 @@ pending n words begun (line ∷ lines) =
 
 -- whether each unit of a word, and of a line, is at most n columns wide
 abbrev pub fits_word : ℕ → List ℕ → Bool
-fits_word n word = nat_le (columns_of word) n || finds_room n word
+fits_word n word = nat_le (columns_of word) n || all_chars_fit n word
 
 abbrev pub fits_line : ℕ → Bool → List ℕ → Bool
-fits_line n false line = finds_room n line
+fits_line n false line = all_chars_fit n line
 fits_line n true line = list_all (fits_word n) (words_of line)
 
 -- the first k bytes of printable ASCII are the first line of more, where words are kept

@@ -65,7 +65,7 @@ pub record IsWrapped (n : ℕ) (words : Bool) (text answer : List ℕ) : Type 0 
   pub wrapped : MatchBool (n == 0) (answer ≡ []) (IsFullestText n words (chars text) (chars answer))
 
 -- the wrapped text, if n is at least 1 and each unit fits
-pub record IsRoomyWrapping (n : ℕ) (words : Bool) (text answer : List ℕ) : Type 0 where
+pub record IsFittingWrapping (n : ℕ) (words : Bool) (text answer : List ℕ) : Type 0 where
   pub columns : 0 < n
   pub units : EachUnitFits n words text
   pub wrapped : IsWrapped n words text answer

@@ -6,10 +6,10 @@ ghost use Rattle.std.specs.Option.{option_copied};
 ghost use Rattle.tabled_text.specs.Breaking.{HasFewestLines, IsLeastBreaking};
 ghost use Rattle.tabled_text.specs.Expected.{Expects, Expects-nothing, Expects-more};
 ghost use Rattle.tabled_text.specs.Measure.{lines_of};
-ghost use Rattle.tabled_text.specs.OldText.{finds_room};
+ghost use Rattle.tabled_text.specs.OldText.{all_chars_fit};
 ghost use Rattle.tabled_text.specs.Units.{words_of};
 ghost use Rattle.tabled_text.specs.Walk.{fits_word, fits_line};
-ghost use Rattle.tabled_text.specs.Wrapping.{IsRoomyWrapping};
+ghost use Rattle.tabled_text.specs.Wrapping.{IsFittingWrapping};
 
 use crate::character::char_count;
 use crate::measure::{line_width, lines};
@@ -67,7 +67,7 @@ fn is_done(rest: Option<&[u8]>) -> bool
 
 /// Whether each character of a text counts at most n.
 fn chars_fit(text: &str, n: usize) -> bool
-    ensures { result ≡ finds_room n (chars text.now) }
+    ensures { result ≡ all_chars_fit n (chars text.now) }
 {
     text.chars().all(|c| char_count(c) <= n)
 }
@@ -117,7 +117,7 @@ fn units_fit(text: &str, n: usize, words: bool) -> bool
 /// than n columns. Then `wrapped` has the fewest lines of all breakings of the text. Doesn't
 /// allocate.
 pub fn is_fullest(text: &str, wrapped: &str, n: usize, words: bool) -> bool
-    ensures fullest { IsTrue result ↔ IsRoomyWrapping n words text.now wrapped.now }
+    ensures fullest { IsTrue result ↔ IsFittingWrapping n words text.now wrapped.now }
     ensures fewest { IsTrue result → HasFewestLines n words text.now wrapped.now }
     ensures least { IsTrue result → IsLeastBreaking n words text.now wrapped.now }
 {

@@ -11,7 +11,7 @@ ghost use Rattle.tabled_text.specs.Cut.{IsCut};
 ghost use Rattle.tabled_text.specs.Longest.{IsLongestCut};
 ghost use Rattle.tabled_text.specs.Measure.{char_columns, count_of, greatest, line_columns};
 ghost use Rattle.tabled_text.specs.Measure.{lines_of, text_columns};
-ghost use Rattle.tabled_text.specs.OldText.{HasOldText, finds_room};
+ghost use Rattle.tabled_text.specs.OldText.{HasOldText, all_chars_fit};
 ghost use Rattle.tabled_text.specs.Plain.{is_listed, is_drawn, has_plain_width, is_plain_character};
 ghost use Rattle.tabled_text.specs.Plain.{IsPlain, IsPlainColumn, is_additive, IsAdditive};
 ghost use Rattle.tabled_text.specs.Plain.{IsAdditiveColumn, IsAdditiveLine};
@@ -130,7 +130,7 @@ pub fn breakings()
         → IsBroken n words text broken → EachUnitFits n words text }
     ensures exists { (n : ℕ) (words : Bool) (text : List ℕ) → 0 < n → EachUnitFits n words text
         → (broken : List (List (List TextUnit))) × IsBroken n words text broken }
-    ensures room { (n : ℕ) (words : Bool) (text : List ℕ) → 0 < n → finds_room n (chars text) ≡ true
+    ensures room { (n : ℕ) (words : Bool) (text : List ℕ) → 0 < n → all_chars_fit n (chars text) ≡ true
         → EachUnitFits n words text }
 {}
 

@@ -18,7 +18,7 @@ struct Counted;
 impl<R> CellOption<R, usize> for Counted {
     ghost changes = { λ _ r c _ r2 c2. (r2 ≡ r) × (c2 ≡ c + 1) };
 
-    ghost refuses = { λ _ e r c _ r2 c2. (e ≡ Range) × (r2 ≡ r) × (c2 ≡ c) };
+    ghost fails = { λ _ e r c _ r2 c2. (e ≡ Range) × (r2 ≡ r) × (c2 ≡ c) };
 
     ghost out_of_range = { λ _ _ c _. 2 ^ 64 ≤ c + 1 };
 
@@ -38,7 +38,7 @@ impl<R> CellOption<R, usize> for Counted {
 impl<R, D> TableOption<R, usize, D> for Counted {
     ghost changes = { λ _ r c d r2 c2 d2. (r2 ≡ r) × (c2 ≡ c + 1) × (d2 ≡ d) };
 
-    ghost refuses = { λ _ e r c d r2 c2 d2. (e ≡ Range) × (r2 ≡ r) × (c2 ≡ c) × (d2 ≡ d) };
+    ghost fails = { λ _ e r c d r2 c2 d2. (e ≡ Range) × (r2 ≡ r) × (c2 ≡ c) × (d2 ≡ d) };
 
     ghost out_of_range = { λ _ _ c _. 2 ^ 64 ≤ c + 1 };
 

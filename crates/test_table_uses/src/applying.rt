@@ -25,7 +25,7 @@ struct Broken;
 impl<D> TableOption<VecRecords<Text<String>>, ColoredConfig, D> for Broken {
     ghost changes = { λ _ _ _ _ _ _ _. ⊤ };
 
-    ghost refuses = { λ _ _ _ _ _ _ _ _. ⊤ };
+    ghost fails = { λ _ _ _ _ _ _ _ _. ⊤ };
 
     ghost out_of_range = { λ _ _ _ _. ⊤ };
 

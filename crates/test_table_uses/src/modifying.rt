@@ -20,7 +20,7 @@ struct Joins;
 impl CellOption<VecRecords<Text<String>>, ColoredConfig> for Joins {
     ghost changes = { λ _ _ _ _ _ _. ⊤ };
 
-    ghost refuses = { λ _ _ _ _ _ _ _. ⊤ };
+    ghost fails = { λ _ _ _ _ _ _ _. ⊤ };
 
     ghost out_of_range = { λ _ _ _ _. ⊤ };
 

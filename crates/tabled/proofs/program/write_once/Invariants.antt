@@ -1,9 +1,9 @@
 use Rattle.std.proofs.Common.{length}
-use Rattle.tabled.specs.Output.{Handed}
+use Rattle.tabled.specs.Output.{IsPartlyWritten}
 use Rattle.tabled.proofs.program.write_once.Given as goal
 
 abbrev pub invariant-taken : goal.invariant-taken
-invariant-taken g l = Handed (g.W.Write.contents l.initial.writer) (g.W.Write.contents l.writer) l.text l.rest
+invariant-taken g l = IsPartlyWritten (g.W.Write.contents l.initial.writer) (g.W.Write.contents l.writer) l.text l.rest
 
 abbrev pub decreases-taken : goal.decreases-taken
 decreases-taken g l = length l.rest

@@ -6,11 +6,11 @@ use Rattle.tabled_c.proofs.exports.fanlightnard_print.Goals as goal
 
 pub returns-in_default-plan_of : goal.returns-in_default-plan_of
 returns-in_default-plan_of c =
-    inr (NoPlan, λ plan asks. c.in_default-plan_of.not-Some plan ((c.plan_of.ensures plan).1 asks), record { code = rw c.code-in_default-plan_of.ensures refl; room = refl })
+    inr (NoPlan, λ plan asks. c.in_default-plan_of.not-Some plan ((c.plan_of.ensures plan).1 asks), record { code = rw c.code-in_default-plan_of.ensures refl; buffer = refl })
 
 pub returns-in_default-from_utf8 : goal.returns-in_default-from_utf8
 returns-in_default-from_utf8 c =
-    inr (NoText, c.in_default-from_utf8.ensures.cases.0, record { code = rw c.code-in_default-from_utf8.ensures refl; room = refl })
+    inr (NoText, c.in_default-from_utf8.ensures.cases.0, record { code = rw c.code-in_default-from_utf8.ensures refl; buffer = refl })
 
 pub returns-in-Ok-render_styled : goal.returns-in-Ok-render_styled
 returns-in-Ok-render_styled c =
@@ -23,7 +23,7 @@ returns-in-Ok-render_styled c =
     c.style_of.ensures (string_bytes c.new-out.result) (string_bytes c.render_styled.new.sink) c.new-out.ensures.bytes c.in-Ok-render_styled.ensures.rendered in inl (
       c.as_str.result.now,
       subst (IsTable a.text.now a.style.now a.kind a.order a.columns) (sym c.as_str.ensures.value) table,
-      record { count = search rules; room = c.put.ensures.room },
+      record { count = search rules; buffer = c.put.ensures.buffer },
     )
 
 pub returns-in-Err-Range : goal.returns-in-Err-Range
@@ -37,5 +37,5 @@ returns-in-Err-Range c =
       passed a.text.now a.style.now a.kind a.order a.columns name plan asked c.in-Ok.text.now c.style_of.result c.in-Ok.ensures.cases.0 c.style_of.ensures
           (Unit {0}) (text_sent (string_bytes c.new-out.result)) (text_sent (string_bytes c.render_styled.new.sink)) c.in-Err-Range.field-0
           c.in-Err-Range.field-0-is c.in-Err-Range.ensures.rendered,
-      record { code = rw c.code-in-Err-Range.ensures refl; room = refl },
+      record { code = rw c.code-in-Err-Range.ensures refl; buffer = refl },
     )

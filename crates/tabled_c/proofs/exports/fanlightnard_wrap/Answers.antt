@@ -3,4 +3,4 @@ use Rattle.tabled_c.specs.declared.error_code.ErrorCode.TheVariants.{NoText}
 use Rattle.tabled_c.proofs.exports.fanlightnard_wrap.Goals as goal
 
 pub returns-in_default : goal.returns-in_default
-returns-in_default c = inr (NoText, c.in_default.ensures.cases.0, record { code = rw c.code.ensures refl; room = refl })
+returns-in_default c = inr (NoText, c.in_default.ensures.cases.0, record { code = rw c.code.ensures refl; buffer = refl })

@@ -6,7 +6,7 @@ use Rattle.tabled_size.specs.Estimates.{estimated_heights, estimated_widths}
 use Rattle.tabled_size.specs.Reached.{reached}
 use Rattle.tabled_size.specs.Stored.{heights_of, widths_of}
 use Rattle.tabled_size.proofs.Totalling.{heights_length, widths_length}
-use Rattle.tabled_grid.specs.Printed.{IsRefused}
+use Rattle.tabled_grid.specs.Printed.{IsFailure}
 use Rattle.tabled_grid.proofs.EffectiveSizes.{handed_on, held_estimated, held_stored, high_refused, narrow_refused, narrow_stored}
 use Rattle.tabled_grid.proofs.EffectiveSizes.{sized_heights, sized_widths, sizes_estimated, sizes_short}
 use Rattle.tabled_grid.proofs.checks.check_stored.Goals as goal
@@ -17,7 +17,7 @@ returns-in_err-check_widths-in-Some g c =
     let stored = c.args.stored.now in
     let some = sym c.get_widths.ensures ∙ ap (option_map (λ s. s.now)) c.in-Some.is in
     let cause = c.in_err-check_widths-in-Some.ensures.err in
-    let P = IsRefused (effective cells c.args.config.now stored) in
+    let P = IsFailure (effective cells c.args.config.now stored) in
     handed_on _ P c.from_residual.result _ c.from_residual.ensures.1
     (subst P (sym cause.0) (sizes_short (widths_of stored) c.in-Some.field-0.now (estimated_widths cells c.args.config.now) (columns cells) _
     c.count_columns.ensures.columns some cause.1))

@@ -9,9 +9,9 @@ returns-then-has_steady_bars c =
         λ e. record {
           styles = c.are_apart_styles_in.ensures.0 w.if-are_apart_styles_in.true;
           bars = w.has_steady_bars.ensures.0 (sym w.value-is ∙ c.if-has_steady_bars.true);
-          gaps = c.has_gaps.ensures.0 e;
+          gaps = c.has_separators.ensures.0 e;
         },
-        λ all. c.has_gaps.ensures.1 all.gaps,
+        λ all. c.has_separators.ensures.1 all.gaps,
       )
       | else-are_apart_styles_in w ↦ absurd
           (let clash : false ≡ true = sym w.if-are_apart_styles_in.false ∙ (sym w.value-is ∙ c.if-has_steady_bars.true) in cc)

@@ -2,7 +2,7 @@ use Rattle.std.proofs.Common.{◌≡◌, ◌<◌, ◌↔◌, ◌∙◌, sym, sub
 use Rattle.tabled_text.specs.Measure.{lines_of}
 use Rattle.tabled_text.specs.Walk.{pending}
 use Rattle.tabled_text.specs.Expected.{Expects}
-use Rattle.tabled_text.specs.Wrapping.{IsRoomyWrapping}
+use Rattle.tabled_text.specs.Wrapping.{IsFittingWrapping}
 use Rattle.tabled_text.proofs.CheckLemmas.{expected-iff, roomy-iff, not_roomy}
 use Rattle.tabled_text.proofs.FewestLines.{fewest-wrapped}
 use Rattle.tabled_text.proofs.OwnBreaking.{least_breaking}
@@ -20,7 +20,7 @@ returns-then-n-eq0-clause-fullest c =
       ]) r),
     )
 
-holds : (c : goal.After-is_done) → IsTrue c.is_done.result ↔ IsRoomyWrapping c.args.n c.args.words c.args.text.now c.args.wrapped.now
+holds : (c : goal.After-is_done) → IsTrue c.is_done.result ↔ IsFittingWrapping c.args.n c.args.words c.args.text.now c.args.wrapped.now
 holds c =
     let n = c.args.n in
     let words = c.args.words in

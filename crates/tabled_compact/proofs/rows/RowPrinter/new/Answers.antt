@@ -3,18 +3,18 @@ use Rattle.std.specs.Result.{IsErrAnd}
 use Rattle.tabled_base.specs.declared.error.TableError.{TableError}
 use Rattle.tabled_compact.specs.CompactCells.{CompactSheet, sheet_by}
 use Rattle.tabled_compact.specs.CompactLines.{compact_width}
-use Rattle.tabled_compact.specs.Printed.{IsRefused}
+use Rattle.tabled_compact.specs.Printed.{IsFailure}
 use Rattle.tabled_compact.proofs.rows.RowPrinter.new.Goals as goal
 
-refused : {T : Type 0} (t : CompactSheet) (r : Result T TableError) (e : TableError) → IsErrAnd r (λ d. d ≡ e) → IsRefused t e → IfErr r (IsRefused t)
+refused : {T : Type 0} (t : CompactSheet) (r : Result T TableError) (e : TableError) → IsErrAnd r (λ d. d ≡ e) → IsFailure t e → IfErr r (IsFailure t)
 refused t (Ok x) e i h = absurd i
-refused t (Err d) e i h = let P : TableError → Type 0 = λ k. IsRefused t k in subst P (sym i) h
+refused t (Err d) e i h = let P : TableError → Type 0 = λ k. IsFailure t k in subst P (sym i) h
 
 pub returns-in_err-columns-clause-err : goal.returns-in_err-columns-clause-err
 returns-in_err-columns-clause-err g c =
     let t = sheet_by c.args.config.now (g.D.Dimension.width_at c.args.dimension.now) c.args.count in
     let short = c.in_err-columns.ensures.err in
-    let P : TableError → Type 0 = λ k. IsRefused t k in
+    let P : TableError → Type 0 = λ k. IsFailure t k in
     refused t c.from_residual.result _ c.from_residual.ensures.1 (subst P (sym short.0) short.1)
 
 pub returns-in-Some-clause-printable : goal.returns-in-Some-clause-printable

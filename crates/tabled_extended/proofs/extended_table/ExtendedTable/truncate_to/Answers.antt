@@ -5,7 +5,7 @@ use Rattle.std.specs.declared.alloc.Global.{Global}
 use Rattle.std.specs.declared.vec.Vec.{Vec}
 use Rattle.std.proofs.lemmas.Result.{on_err_weaker}
 use Rattle.tabled_base.specs.Cells.{row_texts}
-use Rattle.tabled_set.specs.CellChanges.{in_room}
+use Rattle.tabled_set.specs.CellChanges.{if_sized}
 use Rattle.tabled_extended.specs.Truncated.{IsTruncated, StopsInRecords}
 use Rattle.tabled_extended.proofs.TruncatedTable.{in_none, in_some, ok_both}
 use Rattle.tabled_extended.proofs.extended_table.ExtendedTable.truncate_to.Goals.{in-Some+in_ok-truncate_row, in_default}
@@ -18,7 +18,7 @@ returns g c =
     let change = IsTruncated c.args.suffix.now in
     let then = c.match-text_widths.self in
     let rows = c.truncate_rows.new.rows.items in
-    let fields : AllZip (in_room change widths.fields) old.fields.items then.fields.items = elim c.match-text_widths.branch [
+    let fields : AllZip (if_sized change widths.fields) old.fields.items then.fields.items = elim c.match-text_widths.branch [
       | in-Some+in_ok-truncate_row w ↦ rw w.self-is
           (in_some change widths.fields w.in-Some.columns w.in-Some.is old.fields.items w.truncate_row.new.row.items w.in_ok-truncate_row.ensures.ok)
       | in_default w ↦ rw w.self-is (in_none change widths.fields w.in_default.not-Some old.fields.items)

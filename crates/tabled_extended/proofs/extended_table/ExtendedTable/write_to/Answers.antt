@@ -16,7 +16,7 @@ pub returns-in_err-write_record : goal.returns-in_err-write_record
 returns-in_err-write_record g c =
     let e = c.in-Some.ensures in
     let w = c.in-Some.widths in
-    records-stopped (g.F.Template.refuses c.args.self.now.template) c.write_record.new.begun c.from_residual.result _
+    records-stopped (g.F.Template.fails c.args.self.now.template) c.write_record.new.begun c.from_residual.result _
     w.field w.value e.fields e.values c.records.invariant (rw length-map (omega arith))
     (λ t. absurd (omega (arith, t.past, w.in_range, e.fields, e.values)))
     c.in_err-write_record.ensures c.from_residual.ensures.1

@@ -95,7 +95,7 @@ with_spec 𝓤 𝓛 𝓜 𝓡 wired I O L₀ L₁ g₁ d₁ m₁ =
     move ! (1 ∷ 0 ∷ []) $ use2 𝓛 (raw (G.pre z)) (id⊢ 𝓤 _) $
     let Applied = λ (n : R.Denot). IsApplied (g₁.changes x) r.now n in
     let Promised = λ (n : R.Denot). IsApplied (g₁.promises x) r.now n in
-    let Left = λ (e : TableError) (n : R.Denot). IsApplied (g₁.refuses x e) r.now n in
+    let Left = λ (e : TableError) (n : R.Denot). IsApplied (g₁.fails x e) r.now n in
     let Passes = λ (e : TableError). (e ≡ Range → WasOutOfRange (g₁.out_of_range x) r.now) in
     calls_at ! (framed 𝓤 𝓛.H 𝓜 𝓣) G (met 𝓤 𝓛 𝓜 𝓡 (code.calls-tabled_table::iter_table::IterTable::apply 𝓡.env wired) I O L₀ L₁ g₁ d₁ m₁) z
     (and_then ! (get ! refl) (and_then ! (get ! refl) (no_more !))) (λ w.

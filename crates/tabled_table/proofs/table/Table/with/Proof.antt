@@ -11,7 +11,7 @@ use Rattle.tabled_table.proofs.Walks.{regoal, Rests, rests_at_err, rests_at_ok, 
 use Rattle.tabled_table.proofs.Walks.{split, spot_of, SProp, stay_dropped, Stays, stop, subst, suffices, switches, sym, T, TableError}
 use Rattle.tabled_table.proofs.Walks.{tables, TE, through, told_err, told_ok, triple_of, Typed, types_at, unit, Ura, use0, use1, use2, use3}
 use Rattle.tabled_table.proofs.Walks.{Val, vptr, vrt, walk_of, whole, WpFn, WT, ‵, ℕ, ⊤, ◌$◌, ◌++◌, ◌∵◌, ◌∷◌, ◌≡◌, ◌⊑◌, ◌⊛◌}
-use Rattle.tabled_table.specs.Applied.{IsApplied, IsRefusedBy}
+use Rattle.tabled_table.specs.Applied.{IsApplied, FailsBy}
 use Rattle.tabled_table.specs.contracts.table.Table.{the_row as R}
 use Rattle.tabled_table.proofs.table.Table.with.Statement.{statement}
 use Rattle.tabled_table.proofs.table.Table.apply.Met.{met}
@@ -82,7 +82,7 @@ with_spec 𝓤 𝓛 𝓜 𝓡 wired O L₀ g₁ d₁ m₁ =
     move ! (1 ∷ 0 ∷ []) $ use2 𝓛 (raw (G.pre z)) (id⊢ 𝓤 _) $
     let Applied = λ (n : R.Denot). IsApplied (g₁.changes x) (g₁.hint x) r.now n in
     let Promised = λ (n : R.Denot). IsApplied (g₁.promises x) (g₁.hint x) r.now n in
-    let Left = λ (e : TableError) (n : R.Denot). IsRefusedBy (g₁.refuses x e) r.now n in
+    let Left = λ (e : TableError) (n : R.Denot). FailsBy (g₁.fails x e) r.now n in
     let Passes = λ (e : TableError). (e ≡ Range → g₁.out_of_range x r.now.records r.now.config r.now.dimension) in
     calls_at ! (framed 𝓤 𝓛.H 𝓜 𝓣) G (met 𝓤 𝓛 𝓜 𝓡 (code.calls-tabled_table::table::Table::apply 𝓡.env wired) O L₀ g₁ d₁ m₁) z
     (and_then ! (get ! refl) (and_then ! (get ! refl) (no_more !))) (λ w.

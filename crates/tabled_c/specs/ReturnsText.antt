@@ -14,19 +14,19 @@ code_of NoPlan = negsuc 4
 -- a buffer after a text was put into it: the text, and then the old bytes; unchanged if it is too
 -- small
 abbrev pub with_text : List ℕ → List ℕ → List ℕ
-with_text text room = if nat_le (length text) (length room) then text ++ drop (length text) room else room
+with_text text buffer = if nat_le (length text) (length buffer) then text ++ drop (length text) buffer else buffer
 
 -- the number of bytes of the text is returned, and the text is put into the buffer
 pub record IsPut (text old : List ℕ) (answer : ℤ) (new : List ℕ) : Type 0 where
   pub count : answer ≡ pos (length text)
-  pub room : new ≡ with_text text old
+  pub buffer : new ≡ with_text text old
 
 -- the code of the error is returned, and the buffer is unchanged
-pub record IsRefused (refusal : ErrorCode) (old : List ℕ) (answer : ℤ) (new : List ℕ) : Type 0 where
-  pub code : answer ≡ code_of refusal
-  pub room : new ≡ old
+pub record IsFailure (error : ErrorCode) (old : List ℕ) (answer : ℤ) (new : List ℕ) : Type 0 where
+  pub code : answer ≡ code_of error
+  pub buffer : new ≡ old
 
 -- a text is returned, or an error with its cause
-abbrev pub Answers : (List ℕ → Type 0) → (ErrorCode → Type 0) → List ℕ → ℤ → List ℕ → Type 0
-Answers asked cause old answer new =
-    ((text : List ℕ) × asked text × IsPut text old answer new) ⊎ ((refusal : ErrorCode) × cause refusal × IsRefused refusal old answer new)
+abbrev pub ReturnsText : (List ℕ → Type 0) → (ErrorCode → Type 0) → List ℕ → ℤ → List ℕ → Type 0
+ReturnsText asked cause old answer new =
+    ((text : List ℕ) × asked text × IsPut text old answer new) ⊎ ((error : ErrorCode) × cause error × IsFailure error old answer new)
