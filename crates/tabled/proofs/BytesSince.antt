@@ -1,17 +1,14 @@
 -- A writer that stays the same, and keeps what it held, while a sink stands before it.
-use Rattle.std.proofs.Common.{◌≡◌, ℕ, ◌≤◌, ◌==◌, ◌&&◌, if◌then◌else◌, Bool, true, false, List, [], ◌∷◌, ◌++◌, take, drop, Option, Some}
-use Rattle.std.proofs.Common.{None, Result, Ok, Err, IfSome, MatchResult, OnOk, refl, sym, ap, subst, ◌∙◌, append-nil, append_assoc, arith}
-use Rattle.std.proofs.Common.{inl, inr, ⊎_elim, ◌+◌, length}
-use Rattle.std.proofs.lemmas.Bool.Decides.{nat_tests}
+use Rattle.tabled.proofs.Names.{Advances, Appends, Appends-nil, Begins, Block, Bool, Err, IfSome, IsCause, IsErrAnd, IsPartlyWritten, Keeps}
+use Rattle.tabled.proofs.Names.{List, None, Ok, OnOk, Option, Puts, Result, Sends, Sent, Some, TableError, Writer, Writes, [], ap}
+use Rattle.tabled.proofs.Names.{append-nil, append_assoc, arith, block_sent, drop, false, if◌then◌else◌, inl, inr, length, nat_tests, refl}
+use Rattle.tabled.proofs.Names.{sent_since, subst, sym, take, true, ℕ, ⊎_elim, ◌++◌, ◌+◌, ◌==◌, ◌∙◌, ◌∷◌, ◌≡◌, ◌≤◌}
+use Rattle.std.proofs.Common.{◌&&◌, MatchResult}
 use Rattle.std.proofs.lemmas.List.{append_cancel_left, drop-append-le, length-take-le, take-append-drop, take-take}
-use Rattle.std.specs.Io.KnownBytes.{Appends, Keeps, append_known}
-use Rattle.std.specs.Result.{IsErrAnd}
-use Rattle.tabled_base.specs.declared.error.TableError.{TableError}
-use Rattle.tabled_base.specs.declared.error.TableError.TheVariants.{Writer}
-use Rattle.tabled_line.specs.Sent.{IsCause, Rose, Sent, Sends, Stops, Writes}
-use Rattle.tabled_line.proofs.Sending.{Appends-nil, Appends-then, Keeps-same}
-use Rattle.tabled.specs.BlockSent.{Advances, Block, begins, block_sent, sent_since, since}
-use Rattle.tabled.specs.Output.{Begins, Puts, IsPartlyWritten}
+use Rattle.std.specs.Io.KnownBytes.{append_known}
+use Rattle.tabled_line.specs.Sent.{Rose, Stops}
+use Rattle.tabled_line.proofs.Sending.{Appends-then, Keeps-same}
+use Rattle.tabled.specs.BlockSent.{begins, since}
 use Rattle.std.proofs.Math.Seq.{take-append-add, take-append_seam}
 
 -- ---- bytes that wait behind a writer

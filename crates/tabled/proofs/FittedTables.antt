@@ -1,49 +1,27 @@
 -- New tables that an option fitted into some columns, by the sizes that it leaves.
-use Rattle.std.proofs.Common.{◌≡◌, ℕ, ◌-◌, ◌<◌, ◌≤◌, ◌^◌, Bool, true, false, cond, List, [], length, take, nat_le, Option, Some, None}
-use Rattle.std.proofs.Common.{unwrap_or, inl, ⊎_elim, refl, sym, ap, ◌∙◌, subst, arith}
-use Rattle.std.specs.Prelude.{MatchBool}
+use Rattle.tabled.proofs.Names.{AreChanged, AreCleared, AreTexts, Bool, Cells, CompleteDimension, Cut, FitsInto, Greatest, HasExactTotal}
+use Rattle.tabled.proofs.Names.{HasFewestBreaks, HasLeastGreatestWidth, HasLongestBeginnings, HasNoEstimate, HasWantedTotal, IsAsBuffered}
+use Rattle.tabled.proofs.Names.{IsFilledIn, IsLeastBy, IsMade, IsNarrowedTo, IsOutOfRange, IsPlannedOf, IsRectangular, Least, Leftmost}
+use Rattle.tabled.proofs.Names.{List, MatchBool, MatchBool-at_false, MatchBool-at_true, Narrows, None, Option, Order, OrderShrinks, Plan}
+use Rattle.tabled.proofs.Names.{Rightmost, Round, Row, Sheet, Shortened, Shrinks, Some, SpannedConfig, StaysWithin-none}
+use Rattle.tabled.proofs.Names.{TruncatesAsPromised, Wrapped, WrapsAsPromised, [], ap, arith, cases_Bool, columns, cond, effective}
+use Rattle.tabled.proofs.Names.{effective_estimated, effective_sizes, estimated, estimated_heights, estimated_widths, false, filled_width}
+use Rattle.tabled.proofs.Names.{for_content_size, heights_length, heights_of, if_wider, inl, is_empty, le-leb, length, nat_le}
+use Rattle.tabled.proofs.Names.{passes_too_high, passes_too_wide, refl, sheet_lines, subst, sym, take, text_columns, total_width, true}
+use Rattle.tabled.proofs.Names.{truncating, unwrap_or, widths_length, widths_of, wrapping, ℕ, ⊎_elim, ◌-◌, ◌<◌, ◌^◌, ◌∙◌, ◌≡◌, ◌≤◌}
 use Rattle.std.proofs.Math.Seq.{take-length}
-use Rattle.std.proofs.lemmas.Bool.{MatchBool-at_true, MatchBool-at_false, cases_Bool, le-leb}
-use Rattle.tabled_base.specs.Cells.{columns, IsRectangular}
 use Rattle.tabled_base.specs.declared.position.Entity.{Entity}
-use Rattle.tabled_set.specs.CellChanges.{AreChanged, if_wider, truncating, wrapping}
-use Rattle.tabled_config.specs.declared.spanned.SpannedConfig.{SpannedConfig}
-use Rattle.tabled_grid.specs.Printed.{IsOutOfRange}
-use Rattle.tabled_grid.proofs.EstimatedSizes.{passes_too_high, passes_too_wide}
-use Rattle.tabled_grid.proofs.EffectiveSizes.{effective_estimated}
 use Rattle.tabled_set.specs.Minimums.{emptied, minimums}
-use Rattle.tabled_set.specs.Narrowed.{IsNarrowed, Narrows, NarrowingOutOfRange, for_content_size}
+use Rattle.tabled_set.specs.Narrowed.{IsNarrowed, NarrowingOutOfRange}
 use Rattle.tabled_set.specs.Priorities.{TakesFrom, TakesGreatest}
 use Rattle.tabled_set.proofs.Emptied.{emptied-cell, emptied-columns, emptied-rows, minimums-length}
 use Rattle.tabled_set.proofs.ExactTotals.{new_widths}
-use Rattle.tabled_size.specs.Cleared.{AreCleared}
 use Rattle.tabled_size.specs.Entries.{clears_heights, clears_widths, unless_cleared}
-use Rattle.tabled_size.specs.Estimates.{IsTooWide, estimated_heights, estimated_widths}
-use Rattle.tabled_size.specs.FilledIn.{HasNoEstimate, IsFilledIn}
-use Rattle.tabled_size.specs.Sheet.{Sheet, estimated, is_empty}
-use Rattle.tabled_size.specs.Effective.{effective, effective_sizes}
-use Rattle.tabled_size.specs.Stored.{heights_of, widths_of}
-use Rattle.tabled_size.specs.Totals.{filled_width, total_width}
-use Rattle.tabled_size.specs.declared.complete_dimension.CompleteDimension.{CompleteDimension}
-use Rattle.tabled_size.proofs.Totalling.{heights_length, widths_length}
-use Rattle.tabled_text.specs.Measure.{text_columns}
-use Rattle.tabled_text.proofs.StayLemmas.{StaysWithin-none, text_columns-stays}
-use Rattle.tabled.specs.Orders.{Shrinks-takes, IsShrunk, Shrinks}
-use Rattle.tabled.specs.Planned.{Cells, FitsInto, IsNarrowedTo, OrderShrinks, IsPlannedOf}
+use Rattle.tabled_size.specs.Estimates.{IsTooWide}
+use Rattle.tabled_text.proofs.StayLemmas.{text_columns-stays}
+use Rattle.tabled.specs.Orders.{Shrinks-takes, IsShrunk}
 use Rattle.tabled.specs.declared.order_priority.OrderPriority.{OrderPriority}
-use Rattle.tabled_base.specs.declared.position.Entity.TheVariants.{Row}
-use Rattle.tabled_set.specs.declared.truncate.SuffixLimit.TheVariants.{Cut}
 use Rattle.tabled_set.specs.BestNarrowing.{HasLeastWidth}
-use Rattle.tabled_set.specs.ExactTotal.{HasExactTotal}
-use Rattle.tabled_set.specs.Promised.{TruncatesAsPromised, WrapsAsPromised}
-use Rattle.tabled_size.specs.TextCells.{AreTexts}
-use Rattle.tabled_table.proofs.Sheets.{sheet_lines}
-use Rattle.tabled.specs.declared.plan.Order.{Order}
-use Rattle.tabled.specs.declared.plan.Order.TheVariants.{Round, Least, Greatest, Leftmost, Rightmost}
-use Rattle.tabled.specs.declared.plan.Plan.{Plan}
-use Rattle.tabled.specs.declared.plan.Plan.TheVariants.{Wrapped, Shortened}
-use Rattle.tabled.specs.Headline.{HasFewestBreaks, HasLeastGreatestWidth, HasLongestBeginnings, HasWantedTotal, IsAsBuffered, IsLeastBy}
-use Rattle.tabled.specs.Rendered.{IsMade}
 use Rattle.tabled.proofs.RenderedTables.{fitted_empty, fitted_holds, fitted_lines, fitted_sized, no_text_plain, whole_wider}
 
 pub takes_all : (s : OrderPriority) → TakesFrom Shrinks s

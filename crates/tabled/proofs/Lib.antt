@@ -1,4 +1,5 @@
 pub mod FittedTables
+pub mod Names
 pub mod Noting
 pub mod Outputs
 pub mod PlainTexts

@@ -1,26 +1,22 @@
 -- What is noted of settings is which of them are given.
-use Rattle.std.proofs.Common.{◌≡◌, ◌≢◌, ◌↔◌, ◌⊎◌, ℕ, true, List, [], ◌∷◌, ◌++◌, Option, Some, None, IfNone, IfSome, is_some, get_or, length}
-use Rattle.std.proofs.Common.{refl, sym, ◌∙◌, ap, subst, inl, inr, arith, ◌<◌, drop, map, false, ◌==◌, if◌then◌else◌, bytes_eq, codes}
-use Rattle.std.specs.List.{Contains, All}
-use Rattle.std.proofs.lemmas.List.Elements.{Contains-get_or, Contains-push, Contains-push_cases, Contains-append_left, All-nil, All-head}
-use Rattle.std.proofs.lemmas.List.Elements.{All-tail, All-cons}
+use Rattle.tabled.proofs.Names.{All, All-cons, All-head, All-nil, All-tail, Buffered, Greatest, IfSome, Least, Leftmost, List, None, Option}
+use Rattle.tabled.proofs.Names.{Order, Plan, Rightmost, Round, Shortened, Some, SpellsPlan, Streamed, Wrapped, [], ap, arith, digits_value}
+use Rattle.tabled.proofs.Names.{drop, false, get_or, if◌then◌else◌, inl, inr, length, map, nat_tests, refl, subst, sym, true, ℕ, ◌++◌, ◌<◌}
+use Rattle.tabled.proofs.Names.{◌==◌, ◌∙◌, ◌∷◌, ◌≡◌, ◌⊎◌}
+use Rattle.std.proofs.Common.{◌≢◌, ◌↔◌, IfNone, is_some, bytes_eq, codes}
+use Rattle.std.specs.List.{Contains}
+use Rattle.std.proofs.lemmas.List.Elements.{Contains-get_or, Contains-push, Contains-push_cases, Contains-append_left}
 use Rattle.std.proofs.lemmas.Option.{none-some}
 use Rattle.std.proofs.lemmas.List.Quantifiers.{all_pairs_push}
 use Rattle.std.proofs.lemmas.List.{get_or_append_left, length-append, append-nil}
 use Rattle.std.proofs.Math.Seq.{get_or-append_seam}
-use Rattle.tabled.specs.declared.plan.Order.{Order}
-use Rattle.tabled.specs.declared.plan.Plan.{Plan}
-use Rattle.tabled.specs.declared.plan.Plan.TheVariants.{Buffered, Streamed, Wrapped, Shortened}
 use Rattle.tabled.specs.declared.arguments.Argument.{Argument}
 use Rattle.tabled.specs.declared.arguments.Argument.TheVariants.{Wrap, Cut, Priority, Words, Stream}
 use Rattle.tabled.specs.declared.arguments.Arguments.{Arguments}
 use Rattle.tabled.specs.Arguments.{Adds, Notes, NotesAll, NotesName, NotesWords, Begins, GoTogether, IsCutting, IsOnce, IsOrder, IsWrapping}
-use Rattle.tabled.specs.Arguments.{Makes, Spells, SpellsPlan, name_of, order_word}
-use Rattle.std.proofs.lemmas.Bool.Decides.{nat_tests}
+use Rattle.tabled.specs.Arguments.{Makes, Spells, name_of, order_word}
 use Rattle.std.specs.Char.{IsAsciiDigit}
 use Rattle.std.proofs.lemmas.Str.Parse.{IsNumeralModel, numerals_by_value}
-use Rattle.std.specs.Str.Parse.{digits_value}
-use Rattle.tabled.specs.declared.plan.Order.TheVariants.{Round, Least, Greatest, Leftmost, Rightmost}
 
 -- ---- words spell one list of settings at most
 

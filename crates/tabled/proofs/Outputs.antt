@@ -1,50 +1,27 @@
 -- The output of a text, and beginnings of it.
-use Rattle.std.proofs.Common.{◌≡◌, ◌⊎◌, ℕ, Bool, List, [], ◌++◌, Option, Result, Ok, Err, refl, sym, ap, ◌∙◌, subst, append_assoc, inl, inr}
-use Rattle.std.proofs.Common.{⊎_elim, ◌∷◌, IfErr, IfSome, ◌<◌, ◌≤◌, ◌==◌, cond, true, false, length, map, nat_le, arith, length-append}
-use Rattle.std.specs.Prelude.{MatchResult}
-use Rattle.std.specs.Result.{IsErrAnd}
-use Rattle.tabled_base.specs.declared.error.TableError.{TableError}
-use Rattle.tabled_base.specs.declared.error.TableError.TheVariants.{Memory, ShortWidths, ShortHeights, Narrow, Range, Writer}
-use Rattle.tabled_records.specs.TextRows.{text_rows, cells_of, most_cells, row_lines, without_last_feed}
-use Rattle.tabled_grid.specs.Picture.{table_text, picture}
-use Rattle.tabled_line.specs.Sent.{IsCause, Sent, Writes}
-use Rattle.tabled.specs.declared.plan.Plan.{Plan}
-use Rattle.tabled.specs.Headline.{IsBestPlanned}
-use Rattle.tabled.specs.Output.{IsBegunOn, IsOutput, Overflows, PutsOutput, with_feed, Begins}
-use Rattle.tabled.specs.Planned.{IsPlanned, Cells, FitsInto, IsNarrowedTo, OrderShrinks}
-use Rattle.tabled.specs.Rendered.{BreaksOff, Halts, IsRendered, SendsTable}
-use Rattle.tabled.specs.BlockSent.{Advances, Block, block_sent, sent_since}
+use Rattle.tabled.proofs.Names.{Advances, Appends, AreChanged, AreTexts, Begins, Block, Bool, BreaksOff, Buffered, Cells, Cut, Err}
+use Rattle.tabled.proofs.Names.{FitsInto, Halts, IfSome, IsBegunOn, IsBestPlanned, IsCause, IsCut, IsErrAnd, IsNarrowedTo, IsOutput}
+use Rattle.tabled.proofs.Names.{IsPlanned, IsRectangular, IsRendered, IsUtf8, List, MatchBool-at_false, MatchBool-at_true, MatchResult}
+use Rattle.tabled.proofs.Names.{Memory, Narrow, Ok, Option, OrderShrinks, Plan, PutsOutput, Range, Result, Sent, Sheet, ShortHeights}
+use Rattle.tabled.proofs.Names.{ShortWidths, Shortened, SpellsPlan, Streamed, TableError, Wrapped, Writer, Writes, [], ap, append_assoc}
+use Rattle.tabled.proofs.Names.{arith, block_sent, cases_Bool, cells_of, changed_empty, cond, false, fault_of, for_content_size, if_wider}
+use Rattle.tabled.proofs.Names.{inl, inner_width, inr, is_empty, length, lengthened, lines_of, map, most_cells, nat_le, nat_tests}
+use Rattle.tabled.proofs.Names.{new_config, new_sheet, picture, refl, row_lines, sent_since, sheet_lines, subst, sym, table_text, text_rows}
+use Rattle.tabled.proofs.Names.{total_width, true, truncating, with_feed, without_last_feed, wrapping, ℕ, ⊎_elim, ◌++◌, ◌<◌, ◌==◌, ◌∙◌, ◌∷◌}
+use Rattle.tabled.proofs.Names.{◌≡◌, ◌≤◌, ◌⊎◌}
+use Rattle.std.proofs.Common.{IfErr, length-append}
+use Rattle.tabled.specs.Output.{Overflows}
+use Rattle.tabled.specs.Rendered.{SendsTable}
 use Rattle.tabled.proofs.BytesSince.{begun_none, left, left_advances}
-use Rattle.std.specs.Io.KnownBytes.{Appends}
-use Rattle.tabled.specs.Faults.{fault_of}
 use Rattle.tabled.specs.Runs.{HasFailed, HasRead}
-use Rattle.tabled.specs.Arguments.{SpellsPlan}
 use Rattle.tabled.specs.declared.fault.Fault.{Fault}
 use Rattle.std.specs.List.{join_with_byte}
-use Rattle.std.specs.Str.{IsUtf8}
-use Rattle.std.proofs.lemmas.Bool.{MatchBool-at_true, MatchBool-at_false, cases_Bool}
-use Rattle.std.proofs.lemmas.Bool.Decides.{nat_tests}
 use Rattle.std.proofs.lemmas.List.{length-map}
 use Rattle.std.proofs.lemmas.List.Splits.{length-slice_split}
-use Rattle.tabled_text.specs.Cut.{IsCut}
-use Rattle.tabled_text.specs.Measure.{lines_of}
-use Rattle.tabled_base.specs.Cells.{IsRectangular, lengthened}
 use Rattle.tabled_base.proofs.Lengthening.{length-lengthened}
 use Rattle.tabled_records.proofs.Splitting.{rows-rectangular}
 use Rattle.tabled_records.proofs.TextCells.{text_cells}
-use Rattle.tabled_set.specs.CellChanges.{AreChanged, if_wider, truncating, wrapping}
-use Rattle.tabled_set.specs.declared.truncate.SuffixLimit.TheVariants.{Cut}
-use Rattle.tabled_set.specs.BestNarrowing.{inner_width}
-use Rattle.tabled_set.specs.Narrowed.{for_content_size}
-use Rattle.tabled_set.proofs.ExactTotals.{changed_empty}
-use Rattle.tabled_size.specs.Sheet.{Sheet, is_empty}
-use Rattle.tabled_size.specs.TextCells.{AreTexts}
-use Rattle.tabled_size.specs.Totals.{total_width}
-use Rattle.tabled_table.specs.NewConfig.{new_config}
-use Rattle.tabled_table.specs.TableSheet.{new_sheet}
 use Rattle.tabled_table.proofs.NewTables.{sheet_height}
-use Rattle.tabled_table.proofs.Sheets.{sheet_lines}
-use Rattle.tabled.specs.declared.plan.Plan.TheVariants.{Buffered, Streamed, Wrapped, Shortened}
 use Rattle.tabled_base.specs.declared.error.TableError.TheVariants as refusal
 
 -- ---- tables of texts: whether they are empty, and what is printed of them

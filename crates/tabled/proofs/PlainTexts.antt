@@ -1,30 +1,19 @@
 -- Texts of printable ASCII, whose tables are the same if they are streamed.
-use Rattle.std.proofs.Common.{◌≡◌, ℕ, ◌-◌, ◌≤◌, ◌==◌, ◌||◌, Bool, true, false, cond, List, [], ◌∷◌, length, replicate, take, Result, ⊎_elim, refl, sym, subst, arith}
+use Rattle.tabled.proofs.Names.{All, All-cons, All-head, All-nil, All-tail, AllPass, AreTexts, Bool, Buffered, Cells, Halts, IsBestOf}
+use Rattle.tabled.proofs.Names.{IsBestPlanned, IsCut, IsInside, IsPlanned, IsPlannedOf, IsRendered, IsRenderedOf, List, Plan, Result, Sent}
+use Rattle.tabled.proofs.Names.{Shortened, Streamed, TableError, Wrapped, [], arith, cases_Bool, cell_at, cells_of, cond, false}
+use Rattle.tabled.proofs.Names.{holds_estimated, inner_width, is_plain_byte, length, lengthened, lines_of, list_all-from_AllPass, measured}
+use Rattle.tabled.proofs.Names.{most_cells, new_config, new_sheet, refl, row_lines, sheet_lines, subst, sym, take, text_columns, text_rows}
+use Rattle.tabled.proofs.Names.{true, without_last_feed, ℕ, ⊎_elim, ◌-◌, ◌==◌, ◌∷◌, ◌≡◌, ◌≤◌}
+use Rattle.std.proofs.Common.{◌||◌, replicate}
 use Rattle.std.specs.Int.{is_in_range}
-use Rattle.std.specs.List.{All, AllPass, list_all, onto_first, slice_index, slice_split}
-use Rattle.std.proofs.lemmas.Bool.{cases_Bool}
-use Rattle.std.proofs.lemmas.List.Elements.{All-append, All-cons, All-head, All-map, All-nil, All-replicate, All-tail, All-take, All-weaker}
-use Rattle.std.proofs.lemmas.List.Sums.{AllPass-from_list_all, list_all-from_AllPass}
-use Rattle.tabled_base.specs.Cells.{IsInside, cell_at, lengthened}
-use Rattle.tabled_base.specs.declared.error.TableError.{TableError}
-use Rattle.tabled_grid.proofs.EstimatedSizes.{holds_estimated}
-use Rattle.tabled_line.specs.Sent.{Sent}
-use Rattle.tabled_records.specs.TextRows.{cells_of, most_cells, row_lines, text_rows, without_last_feed}
-use Rattle.tabled_set.specs.BestNarrowing.{inner_width}
+use Rattle.std.specs.List.{list_all, onto_first, slice_index, slice_split}
+use Rattle.std.proofs.lemmas.List.Elements.{All-append, All-map, All-replicate, All-take, All-weaker}
+use Rattle.std.proofs.lemmas.List.Sums.{AllPass-from_list_all}
 use Rattle.tabled_size.specs.Estimates.{needed_width}
-use Rattle.tabled_size.specs.TextCells.{AreTexts}
-use Rattle.tabled_table.proofs.Sheets.{sheet_lines}
-use Rattle.tabled_table.specs.NewConfig.{new_config}
-use Rattle.tabled_table.specs.TableSheet.{new_sheet}
-use Rattle.tabled_text.specs.Cut.{IsCut}
-use Rattle.tabled_text.specs.Measure.{lines_of, text_columns}
 use Rattle.tabled_text.proofs.CutWhole.{IsCut-short}
 use Rattle.tabled_text.proofs.PlainLines.{plain_line-printable, text_columns-plain_line}
-use Rattle.tabled.specs.declared.plan.Plan.{Plan}
-use Rattle.tabled.specs.declared.plan.Plan.TheVariants.{Buffered, Streamed, Wrapped, Shortened}
-use Rattle.tabled.specs.Headline.{IsBestOf, IsBestPlanned}
-use Rattle.tabled.specs.Planned.{Cells, IsPlanned, IsPlannedOf, IsStreamedFrom, is_plain_byte, measured}
-use Rattle.tabled.specs.Rendered.{Halts, IsRendered, IsRenderedOf}
+use Rattle.tabled.specs.Planned.{IsStreamedFrom}
 use Rattle.tabled.proofs.Outputs.{text_rectangular}
 use Rattle.tabled.proofs.RenderedTables.{best_new, prints_as, rendered_new, whole_lines}
 

@@ -1,46 +1,31 @@
 -- What a call that prints the table of a plan leaves: of no rows, of new tables, and of those that an order fitted.
-use Rattle.std.proofs.Common.{◌≡◌, ℕ, ◌<◌, ◌⊎◌, ◌==◌, Bool, true, false, cond, List, [], length, nat_le, inl, inr, ⊎_elim, refl, sym, ap}
-use Rattle.std.proofs.Common.{◌∙◌, subst, arith, Result, Ok, Err, ◌∷◌}
-use Rattle.std.specs.Prelude.{IfErr, MatchBool}
-use Rattle.std.proofs.lemmas.Bool.{eqb-true, le-leb, or_cases, MatchBool-at_true, MatchBool-at_false, cases_Bool, leb-false}
-use Rattle.tabled_base.specs.Cells.{IsInside, IsRectangular, columns}
-use Rattle.tabled_base.specs.declared.error.TableError.{TableError}
-use Rattle.tabled_base.specs.declared.error.TableError.TheVariants.{Memory, ShortWidths, ShortHeights, Narrow, Range, Writer}
-use Rattle.tabled_set.specs.CellChanges.{if_wider, truncating, wrapping, AreChanged}
-use Rattle.tabled_set.specs.declared.truncate.SuffixLimit.TheVariants.{Cut}
-use Rattle.tabled_grid.specs.Picture.{picture, table_text}
-use Rattle.tabled_set.specs.ExactTotal.{HasExactTotal}
-use Rattle.tabled_line.specs.Sent.{Sent, IsCause}
-use Rattle.tabled_size.specs.Sheet.{Sheet, estimated, is_empty}
-use Rattle.tabled_config.specs.declared.spanned.SpannedConfig.{SpannedConfig}
-use Rattle.tabled_size.specs.TextCells.{AreTexts}
-use Rattle.tabled_size.specs.Totals.{total_width, filled_width}
-use Rattle.tabled_table.specs.NewConfig.{new_config}
-use Rattle.tabled_table.specs.TableSheet.{new_sheet}
+use Rattle.tabled.proofs.Names.{AreChanged, AreTexts, Bool, BreaksOff, Buffered, Cells, Cut, Err, FitsInto, Halts, HasExactTotal}
+use Rattle.tabled.proofs.Names.{HasFewestBreaks, HasLeastGreatestWidth, HasLongestBeginnings, HasWantedTotal, Holds, IsAsBuffered, IsBestOf}
+use Rattle.tabled.proofs.Names.{IsBestPlanned, IsCause, IsErrAnd, IsInside, IsLeastBy, IsMade, IsNarrowedTo, IsPlanned, IsPlannedOf}
+use Rattle.tabled.proofs.Names.{IsRectangular, IsRendered, IsRenderedOf, List, MatchBool, MatchBool-at_false, MatchBool-at_true, Memory}
+use Rattle.tabled.proofs.Names.{Narrow, Ok, OrderShrinks, Plan, Prints, Range, Result, Sent, Sheet, ShortHeights, ShortWidths, Shortened}
+use Rattle.tabled.proofs.Names.{SpannedConfig, StaysWithin-none, Streamed, TableError, Wrapped, Writer, [], ap, arith, cases_Bool}
+use Rattle.tabled.proofs.Names.{changed_empty, columns, cond, estimated, estimated_widths, false, filled_width, for_content_size}
+use Rattle.tabled.proofs.Names.{holds_estimated, if_wider, inl, inr, is_empty, le-leb, length, nat_le, new_config, new_sheet, picture, refl}
+use Rattle.tabled.proofs.Names.{sends-along, sheet_lines, sheet_texts, sized_estimated, subst, sym, table_text, total_width, true}
+use Rattle.tabled.proofs.Names.{truncating, wrapping, ℕ, ⊎_elim, ◌<◌, ◌==◌, ◌∙◌, ◌∷◌, ◌≡◌, ◌⊎◌}
+use Rattle.std.specs.Prelude.{IfErr}
+use Rattle.std.proofs.lemmas.Bool.{eqb-true, or_cases, leb-false}
 use Rattle.tabled_table.proofs.NewTables.{new_apart}
-use Rattle.tabled_table.proofs.Sheets.{sheet_lines, sheet_texts}
-use Rattle.tabled_line.proofs.Sending.{sends-along, sends-none}
+use Rattle.tabled_line.proofs.Sending.{sends-none}
 use Rattle.tabled_set.specs.BestNarrowing.{IsBestCut, IsBestWrapped}
-use Rattle.tabled_size.specs.Estimates.{estimated_widths}
-use Rattle.std.specs.Result.{IsErrAnd, IsOk}
-use Rattle.tabled.specs.declared.plan.Plan.{Plan}
-use Rattle.tabled.specs.declared.plan.Plan.TheVariants.{Buffered, Streamed, Wrapped, Shortened}
-use Rattle.tabled.specs.Headline.{HasFewestBreaks, HasLeastGreatestWidth, HasLongestBeginnings, HasWantedTotal, IsAsBuffered, IsBestOf}
-use Rattle.tabled.specs.Headline.{IsBestPlanned, IsLeastBy, KeepsApart}
-use Rattle.tabled.specs.Planned.{Cells, FitsInto, IsNarrowedTo, IsPlanned, IsPlannedOf, OrderShrinks}
-use Rattle.tabled.specs.Rendered.{Halts, IsRendered, IsRenderedOf, PassesRange, PrintsPlanned, BreaksOff, IsMade}
+use Rattle.std.specs.Result.{IsOk}
+use Rattle.tabled.specs.Headline.{KeepsApart}
+use Rattle.tabled.specs.Rendered.{PassesRange, PrintsPlanned}
 use Rattle.std.specs.List.{slice_index_or}
 use Rattle.std.proofs.lemmas.List.{get_or_default}
 use Rattle.tabled_grid.specs.ApartSheet.{IsApartConfig}
-use Rattle.tabled_grid.specs.Printed.{IsFailure, Prints}
-use Rattle.tabled_grid.proofs.EstimatedSizes.{holds_estimated, sized_estimated}
-use Rattle.tabled_set.proofs.ExactTotals.{changed_empty}
-use Rattle.tabled_set.specs.Narrowed.{for_content_size}
+use Rattle.tabled_grid.specs.Printed.{IsFailure}
 use Rattle.tabled_line.specs.Plain.{EachLineTakes}
 use Rattle.tabled_set.specs.Promised.{IsWiderThan}
-use Rattle.tabled_size.specs.Holds.{Holds, IsSized}
+use Rattle.tabled_size.specs.Holds.{IsSized}
 use Rattle.tabled_text.specs.Plain.{IsAdditive}
-use Rattle.tabled_text.proofs.StayLemmas.{IsAdditive-stays, StaysWithin-none}
+use Rattle.tabled_text.proofs.StayLemmas.{IsAdditive-stays}
 
 -- ---- what holds of the table that a plan makes of the cells of a text
 

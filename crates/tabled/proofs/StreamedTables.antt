@@ -1,40 +1,23 @@
 -- Tables whose cells are cut to the content widths of their columns.
-use Rattle.std.proofs.Common.{◌≡◌, ℕ, ◌+◌, ◌-◌, ◌≤◌, true, false, List, [], length, All, Bor, Option, Some, None, option_map, unwrap_or, ⊎_elim, refl, sym, ap, ◌∙◌, arith, get_or}
-use Rattle.std.specs.Str.{IsUtf8}
-use Rattle.std.proofs.lemmas.Bool.{cases_Bool}
+use Rattle.tabled.proofs.Names.{All-from_get_or, AreChanged, AreTexts, Cells, CompleteDimension, Cut, HasNoEstimate, Holds, IsFilledIn}
+use Rattle.tabled.proofs.Names.{IsInside, IsMade, IsOutOfRange, IsRectangular, IsUtf8, List, None, Option, Sheet, Some, SpannedConfig}
+use Rattle.tabled.proofs.Names.{Streamed, [], ap, arith, cases_Bool, cell_at, changed_empty, columns, cut_to, effective, effective_sizes}
+use Rattle.tabled.proofs.Names.{estimated, estimated_heights, estimated_widths, false, get_or, heights_length, heights_of, holds_estimated}
+use Rattle.tabled.proofs.Names.{is_empty, length, passes_too_high, passes_too_wide, refl, sheet_lines, sheet_texts, sized_estimated, sym}
+use Rattle.tabled.proofs.Names.{text_columns, true, truncating, unwrap_or, widths_length, widths_of, ℕ, ⊎_elim, ◌+◌, ◌-◌, ◌∙◌, ◌≡◌, ◌≤◌}
+use Rattle.std.proofs.Common.{All, Bor, option_map}
 use Rattle.std.proofs.lemmas.List.{ext_get_or}
-use Rattle.std.proofs.lemmas.List.Elements.{All-from_get_or}
-use Rattle.tabled_base.specs.Cells.{IsInside, IsRectangular, cell_at, columns}
-use Rattle.tabled_config.specs.declared.spanned.SpannedConfig.{SpannedConfig}
-use Rattle.tabled_grid.proofs.EstimatedSizes.{holds_estimated, passes_too_high, passes_too_wide, sized_estimated}
-use Rattle.tabled_grid.specs.Printed.{IsOutOfRange}
 use Rattle.tabled_priority.specs.Permitted.{at}
-use Rattle.tabled_set.specs.CellChanges.{AreChanged, leaves, truncating}
+use Rattle.tabled_set.specs.CellChanges.{leaves}
 use Rattle.tabled_set.specs.Minimums.{side_padding}
 use Rattle.tabled_set.specs.declared.resize.CellFilter.TheVariants.{Every}
-use Rattle.tabled_set.specs.declared.truncate.SuffixLimit.TheVariants.{Cut}
 use Rattle.tabled_set.proofs.ChangingCells.{AreChanged-as, IsInside-before, at-chosen}
 use Rattle.tabled_set.specs.Common.{Global, covers}
-use Rattle.tabled_set.proofs.ExactTotals.{changed_empty}
 use Rattle.tabled_set.proofs.TruncatedTexts.{IsCut-truncated}
-use Rattle.tabled_size.specs.Estimates.{estimated_heights, estimated_widths}
-use Rattle.tabled_size.proofs.Totalling.{heights_length, widths_length}
-use Rattle.tabled_size.specs.Effective.{effective, effective_sizes}
-use Rattle.tabled_size.specs.FilledIn.{HasNoEstimate, IsFilledIn}
-use Rattle.tabled_size.specs.Stored.{heights_of, widths_of}
-use Rattle.tabled_size.specs.Holds.{Holds}
-use Rattle.tabled_size.specs.Sheet.{Sheet, estimated, is_empty}
-use Rattle.tabled_size.specs.TextCells.{AreTexts}
-use Rattle.tabled_size.specs.declared.complete_dimension.CompleteDimension.{CompleteDimension}
-use Rattle.tabled_table.proofs.Sheets.{sheet_lines, sheet_texts}
 use Rattle.tabled_text.specs.Exact.{IsExactLine}
 use Rattle.tabled_text.specs.Fitting.{FitsIn}
-use Rattle.tabled_text.specs.Measure.{text_columns}
 use Rattle.tabled_text.proofs.ExactLines.{exact-kept}
 use Rattle.tabled_text.proofs.FittingLaws.{fits-cut}
-use Rattle.tabled.specs.declared.plan.Plan.TheVariants.{Streamed}
-use Rattle.tabled.specs.Planned.{Cells, cut_to}
-use Rattle.tabled.specs.Rendered.{IsMade}
 use Rattle.tabled.proofs.FittedTables.{sized_by, whole_list}
 use Rattle.tabled.proofs.RenderedTables.{changed_columns, changed_rectangular, no_place}
 

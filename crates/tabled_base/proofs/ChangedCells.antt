@@ -1,12 +1,8 @@
 -- One cell is changed.
-use Rattle.std.proofs.Common.{◌≡◌, ℕ, zero, suc, ◌<◌, List, [], ◌∷◌, length, map, refl, sym, ap, subst, ◌∙◌, All, slice_index_or}
+use Rattle.tabled_base.proofs.Names.{All, All-set, Global, IsRectangular, List, Vec, [], ap, columns, length, map, map-set, refl}
+use Rattle.tabled_base.proofs.Names.{slice_index_or, subst, suc, sym, texts_of, with_cell, zero, ℕ, ◌<◌, ◌∙◌, ◌∷◌, ◌≡◌}
 use Rattle.std.proofs.Common.{slice_set, length-set}
-use Rattle.std.proofs.lemmas.List.{map-set}
-use Rattle.std.proofs.lemmas.List.Elements.{All-set}
 use Rattle.std.specs.Vec.{with_item}
-use Rattle.std.specs.declared.vec.Vec.{Vec}
-use Rattle.std.specs.declared.alloc.Global.{Global}
-use Rattle.tabled_base.specs.Cells.{IsRectangular, columns, texts_of, with_cell}
 use Rattle.tabled_base.proofs.RowLemmas.{row_of}
 
 pub with_cell-columns : (cells : List (List (List ℕ))) (i j : ℕ) (text : List ℕ) → columns (with_cell cells i j text) ≡ columns cells

@@ -1,9 +1,6 @@
 -- Rows that a builder collects.
-use Rattle.std.proofs.Common.{◌≡◌, ℕ, List, [], ◌∷◌, ◌++◌, Option, map, sym, ap, ◌∙◌}
-use Rattle.std.specs.List.{AllZip}
-use Rattle.std.proofs.lemmas.List.{map-append}
-use Rattle.tabled_base.specs.Cells.{lengthened_rows, with_record}
-use Rattle.tabled_base.specs.Given.{Given}
+use Rattle.tabled_base.proofs.Names.{AllZip, Given, List, Option, [], ap, lengthened_rows, map, map-append, sym, with_record, ℕ, ◌++◌, ◌∙◌}
+use Rattle.tabled_base.proofs.Names.{◌∷◌, ◌≡◌}
 use Rattle.tabled_base.proofs.LengthenedRows.{lengthened_rows-more}
 
 -- the cells of the lists so far are the rows, the short ones lengthened

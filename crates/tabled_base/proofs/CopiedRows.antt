@@ -1,10 +1,8 @@
 -- Rows that are copied or compared.
-use Rattle.std.proofs.Common.{◌≡◌, ℕ, ◌+◌, ◌<◌, Bool, ◌&&◌, List, [], ◌∷◌, ◌++◌, length, map, take, refl, sym, ap, ◌∙◌, slice_index_or, nat_eq}
-use Rattle.std.proofs.lemmas.List.{get_or-map, length-map, map-append, map-id, take_more}
-use Rattle.std.specs.Cmp.Lexicographic.{pointwise}
-use Rattle.std.specs.declared.vec.Vec.{Vec}
-use Rattle.std.specs.declared.alloc.Global.{Global}
-use Rattle.tabled_base.specs.Cells.{row_texts}
+use Rattle.tabled_base.proofs.Names.{Global, List, Vec, [], ap, get_or-map, length, length-map, map, map-append, map-id, nat_eq, pointwise}
+use Rattle.tabled_base.proofs.Names.{refl, row_texts, slice_index_or, sym, take, ℕ, ◌++◌, ◌+◌, ◌<◌, ◌∙◌, ◌∷◌, ◌≡◌}
+use Rattle.std.proofs.Common.{Bool, ◌&&◌}
+use Rattle.std.proofs.lemmas.List.{take_more}
 
 -- one more row is copied
 pub copied-more : (copy rows : List (Vec (List ℕ) Global)) (i : ℕ) (row new : Vec (List ℕ) Global) → i < length rows

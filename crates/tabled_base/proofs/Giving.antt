@@ -1,7 +1,6 @@
 -- What cells give to a builder, where it is known what their iterator gives.
-use Rattle.std.proofs.Common.{◌≡◌, List, Option, map}
-use Rattle.std.proofs.lemmas.Iterator.{YieldsList, items_from_drains}
-use Rattle.tabled_base.specs.Given.{Given}
+use Rattle.tabled_base.proofs.Names.{Given, List, Option, YieldsList, map, ◌≡◌}
+use Rattle.std.proofs.lemmas.Iterator.{items_from_drains}
 
 -- the items of cells whose every iterator gives one list
 pub given_items : {U S A B : Type 0} {becomes : U → S → Type 0} {steps : S → Option A → S → Type 0} {cells : U}

@@ -1,11 +1,9 @@
 -- Rows that are lengthened to the longest of them.
-use Rattle.std.proofs.Common.{◌≡◌, ℕ, ◌+◌, ◌-◌, ◌≤◌, List, [], ◌∷◌, ◌++◌, drop, length, map, max, get_or, replicate, take, refl, sym, ap, ◌∙◌}
-use Rattle.std.proofs.Common.{arith, append_assoc, All}
-use Rattle.std.proofs.lemmas.List.{length-map, replicate-append-replicate, map-append, take_at}
-use Rattle.std.specs.declared.alloc.Global.{Global}
-use Rattle.std.specs.declared.vec.Vec.{Vec}
-use Rattle.std.proofs.lemmas.List.Elements.{All-head, All-tail, All-cons, All-map, All-nil}
-use Rattle.tabled_base.specs.Cells.{IsRectangular, columns, longest, lengthened, lengthened_rows, row_texts, with_record}
+use Rattle.tabled_base.proofs.Names.{All, All-cons, All-head, All-map, All-nil, All-tail, Global, IsRectangular, List, Vec, [], ap}
+use Rattle.tabled_base.proofs.Names.{append_assoc, arith, columns, drop, get_or, length, length-map, lengthened, lengthened_rows, longest}
+use Rattle.tabled_base.proofs.Names.{map, map-append, max, refl, replicate, row_texts, sym, take, with_record, ℕ, ◌++◌, ◌+◌, ◌-◌, ◌∙◌, ◌∷◌}
+use Rattle.tabled_base.proofs.Names.{◌≡◌, ◌≤◌}
+use Rattle.std.proofs.lemmas.List.{replicate-append-replicate, take_at}
 use Rattle.tabled_base.proofs.Lengthening.{length-lengthened, rectangular-from_length}
 
 -- no row is longer than the longest

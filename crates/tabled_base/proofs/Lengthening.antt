@@ -1,10 +1,10 @@
 -- Lengthened rows.
-use Rattle.std.proofs.Common.{◌≡◌, ℕ, zero, suc, ◌+◌, ◌-◌, ◌<◌, ◌≤◌, List, [], ◌∷◌, ◌++◌, length, map, max, get_or, replicate}
-use Rattle.std.proofs.Common.{refl, sym, ap, subst, ◌∙◌, arith, All, append-nil, length-append, Result, Ok, Err, OnOk, OnErr}
-use Rattle.std.proofs.Math.ListN.{set}
+use Rattle.tabled_base.proofs.Names.{All, All-cons, All-head, All-map, All-nil, All-tail, IsRectangular, List, [], ap, append-nil, arith}
+use Rattle.tabled_base.proofs.Names.{columns, get_or, length, length-append, lengthened, map, max, refl, replicate, set, subst, suc, sym}
+use Rattle.tabled_base.proofs.Names.{with_record, zero, ℕ, ◌++◌, ◌+◌, ◌-◌, ◌<◌, ◌∙◌, ◌∷◌, ◌≡◌, ◌≤◌}
+use Rattle.std.proofs.Common.{Result, Ok, Err, OnOk, OnErr}
 use Rattle.std.proofs.lemmas.List.{length-replicate}
-use Rattle.std.proofs.lemmas.List.Elements.{All-head, All-tail, All-cons, All-nil, All-append, All-map}
-use Rattle.tabled_base.specs.Cells.{columns, IsRectangular, lengthened, with_record}
+use Rattle.std.proofs.lemmas.List.Elements.{All-append}
 
 pub length-lengthened : (n : ℕ) (row : List (List ℕ)) → length (lengthened n row) ≡ max n (length row)
 length-lengthened n row = omega (arith, length-append row (replicate (n - length row) []), length-replicate {A = List ℕ} (n - length row) [])

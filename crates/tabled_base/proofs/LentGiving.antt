@@ -1,14 +1,10 @@
 -- What lent rows and cells give.
-use Rattle.std.proofs.Common.{◌≡◌, ℕ, List, [], ◌∷◌, Bor, Iter, map, refl, sym, ap, subst, ◌∙◌}
-use Rattle.std.specs.List.{AllZip}
+use Rattle.tabled_base.proofs.Names.{AllZip, Given, Global, List, Vec, YieldsList, [], ap, map, refl, subst, sym, texts_of, ℕ, ◌∙◌, ◌∷◌}
+use Rattle.tabled_base.proofs.Names.{◌≡◌}
+use Rattle.std.proofs.Common.{Bor, Iter}
 use Rattle.std.specs.Slice.Iter.{iter_rest, iter_steps}
-use Rattle.std.proofs.lemmas.Iterator.{YieldsList}
 use Rattle.std.proofs.lemmas.Iterator.Consumers.{YieldsList-from_shown}
 use Rattle.std.proofs.lemmas.Simd.{map-map}
-use Rattle.std.specs.declared.vec.Vec.{Vec}
-use Rattle.std.specs.declared.alloc.Global.{Global}
-use Rattle.tabled_base.specs.Cells.{texts_of}
-use Rattle.tabled_base.specs.Given.{Given}
 use Rattle.tabled_base.specs.RowsGiven.{RowsGiven}
 use Rattle.tabled_base.proofs.Giving.{given_items}
 

@@ -5,6 +5,7 @@ pub mod Giving
 pub mod LengthenedRows
 pub mod Lengthening
 pub mod LentGiving
+pub mod Names
 pub mod PickedCells
 pub mod Refusals
 pub mod Rests

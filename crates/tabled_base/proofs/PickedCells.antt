@@ -1,13 +1,10 @@
 -- Cells that are picked one after another.
-use Rattle.std.proofs.Common.{◌≡◌, ℕ, zero, suc, ◌+◌, ◌-◌, ◌<◌, ◌≤◌, List, [], ◌∷◌, ◌++◌, length, map, sym, ap, ◌∙◌, arith}
-use Rattle.std.proofs.Common.{append-nil, length-append}
-use Rattle.std.proofs.lemmas.List.{map-id}
+use Rattle.tabled_base.proofs.Names.{Cell, List, [], ap, append-nil, arith, between, block, length, length-append, map, map-id, suc, sym}
+use Rattle.tabled_base.proofs.Names.{zero, ℕ, ◌++◌, ◌+◌, ◌-◌, ◌<◌, ◌∙◌, ◌∷◌, ◌≡◌, ◌≤◌}
 use Rattle.std.proofs.lemmas.List.Concat.{flat_map-append}
 use Rattle.std.proofs.lemmas.List.FromFn.{length-map-range_with_len, map-range_with_len_more}
 use Rattle.std.specs.List.{flat_map, range_with_len}
-use Rattle.tabled_base.specs.Picks.{between, block}
 use Rattle.tabled_base.specs.declared.position.Entity.{Entity}
-use Rattle.tabled_base.specs.declared.position.Entity.TheVariants.{Cell}
 
 -- a further number
 pub map-between_more : {A : Type 0} (f : ℕ → A) (from to : ℕ) → from ≤ to → map f (between from (to + 1)) ≡ map f (between from to) ++ f to ∷ []

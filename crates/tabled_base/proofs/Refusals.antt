@@ -1,25 +1,16 @@
 -- What a call answers that is refused for memory or with `Range`, as the machine holds it.
-use Rattle.std.proofs.Common.{◌≡◌, ◌⊎◌, inl, inr, ℕ, List, [], ◌∷◌, ◌++◌, refl, sym, ap, subst, ◌∙◌}
-use Rattle.std.specs.Prelude.{Result, Ok, Err}
-use seplogic.Ra.Ura.{Ura}
-use base.Logic.{ent, emp}
-use contract.Monad.{fact, fact_i}
-use mir.Val.{Val, vunit, vnil, of_list}
-use types.Logic.{Logic, sem}
-use types.Kit.{‵, raw, Sq, Goal, Item, ◌$◌, ◌∵◌, !, qed, done, keep, use0, fsplit, fjoin, fpick, fpack, feq_l, feq_i}
-use types.Match.{live}
-use denote.Builtin.{unit}
-use denote.RattleType.{Valss, owns}
-use denote.Enum.Row.{tagged_with}
-use denote.Enum.Enum.{form_of, in_a_row}
-use denote.Enum.Declared.{shape}
-use denote.Steps.{nothing, only}
+use Rattle.tabled_base.proofs.Names.{Err, List, Logic, Memory, Ok, Result, TableError, Ura, Val, Valss, [], ap, done, emp, ent, fact}
+use Rattle.tabled_base.proofs.Names.{fact_i, feq_i, fjoin, form_of, fpack, fsplit, in_a_row, inl, inr, keep, live, !, nothing, of_list}
+use Rattle.tabled_base.proofs.Names.{owns, qed, raw, refl, sem, shape, subst, sym, tagged_with, unit, use0, vnil, vunit, ‵, ℕ, ◌$◌, ◌++◌}
+use Rattle.tabled_base.proofs.Names.{◌∙◌, ◌∵◌, ◌∷◌, ◌≡◌}
+use Rattle.std.proofs.Common.{◌⊎◌}
+use types.Kit.{Sq, Goal, Item, fpick, feq_l}
+use denote.Steps.{only}
 use denote.Struct.Members.{Lone}
 use Rattle.std.specs.contracts.result.Result as result
 use Rattle.tabled_base.specs.contracts.error.TableError as error
 use Rattle.tabled_base.specs.contracts.error.TableError.{the_row as TE}
-use Rattle.tabled_base.specs.declared.error.TableError.{TableError}
-use Rattle.tabled_base.specs.declared.error.TableError.TheVariants.{Memory, Range}
+use Rattle.tabled_base.specs.declared.error.TableError.TheVariants.{Range}
 
 abbrev pub Done : Type 0
 Done = Result (Unit {0}) TableError

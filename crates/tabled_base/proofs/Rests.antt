@@ -1,23 +1,13 @@
 -- `RestsIfErr` at the two returns of a method that answers `Result<&mut Self, E>`, for any types and any relation.
 --     rests_at_ok       at `Ok` of a reference with the lender's own name, the clause owes nothing
 --     rests_at_err      at `Err`, the lender is given up, and what its name says last is what P holds of
-use Rattle.std.proofs.Common.{◌≡◌, List, [], ◌∷◌, refl, sym, MutBor}
-use seplogic.Ra.Ura.{Ura}
-use base.Logic.{ent, emp}
-use mir.Val.{Val, of_list}
-use types.Match.{live}
-use denote.Steps.{nothing}
-use denote.Enum.Row.{tagged_with}
-use denote.Enum.Enum.{form_of, in_a_row}
-use denote.Enum.Declared.{shape}
+use Rattle.tabled_base.proofs.Names.{Err, List, Logic, MutBor, Ok, OnErr, OnOk, RattleType, Result, Ura, Val, Valss, [], done, emp, ent}
+use Rattle.tabled_base.proofs.Names.{feq_i, fjoin, form_of, fpack, in_a_row, live, !, move, nothing, of_list, owns, qed, refl, rewrite, sem}
+use Rattle.tabled_base.proofs.Names.{shape, sym, tagged_with, use0, use1, ‵, ◌$◌, ◌∵◌, ◌∷◌, ◌≡◌}
 use Rattle.std.specs.contracts.result.Result as result
 use base.Fml.{GName, Fml, fobs, fres}
-use types.Logic.{Logic, sem}
-use types.Kit.{‵, ◌$◌, ◌∵◌, !, qed, use0, use1, move, rewrite, fjoin, fpack, feq_i, done}
-use denote.RattleType.{RattleType, Valss, owns}
 use denote.Follow.{follows, follows_by, such_by}
 use borrow.Follows.Kept.{follows_itself}
-use Rattle.std.specs.Prelude.{Result, Ok, Err, OnOk, OnErr}
 use Rattle.std.specs.Borrow.{RestsIfErr, name_if_ok}
 
 module _ {M : Type 1} {𝓤 : Ura M} (𝓛 : Logic 𝓤) (R : RattleType) (E : Type 0) (s : MutBor R.Denot) (P : R.Denot → Type 0) where

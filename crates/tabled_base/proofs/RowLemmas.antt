@@ -1,14 +1,12 @@
 -- Rows in vectors, as rows of texts.
-use Rattle.std.proofs.Common.{◌≡◌, ℕ, ◌+◌, ◌-◌, ◌<◌, ◌≤◌, List, [], length, map, sym, ap, ◌∙◌, arith, slice_index_or, vec_len}
-use Rattle.std.proofs.Common.{inl, inr, get_or-set_same, get_or-set_other}
-use Rattle.std.proofs.Math.ListN.{set}
-use Rattle.std.proofs.lemmas.List.{get_or-map, map-set, map-id, set-get_or, length-map}
+use Rattle.tabled_base.proofs.Names.{Global, IsRectangular, List, Vec, [], ap, arith, cell_at, columns, get_or-map, inl, inr, length}
+use Rattle.tabled_base.proofs.Names.{length-map, lengthened, map, map-id, map-set, set, slice_index_or, sym, texts_of, vec_capacity}
+use Rattle.tabled_base.proofs.Names.{vec_len, ℕ, ◌+◌, ◌-◌, ◌<◌, ◌∙◌, ◌≡◌, ◌≤◌}
+use Rattle.std.proofs.Common.{get_or-set_same, get_or-set_other}
+use Rattle.std.proofs.lemmas.List.{set-get_or}
 use Rattle.std.proofs.lemmas.Bool.{cases_eq}
 use Rattle.std.specs.List.{All}
-use Rattle.std.specs.Vec.{vec_capacity}
-use Rattle.std.specs.declared.vec.Vec.{Vec}
-use Rattle.std.specs.declared.alloc.Global.{Global}
-use Rattle.tabled_base.specs.Cells.{columns, IsRectangular, IsInside, cell_at, lengthened, texts_of}
+use Rattle.tabled_base.specs.Cells.{IsInside}
 
 -- a row of the texts is that of the vector there
 pub row_of : {T : Type 0} (f : T → List ℕ) (rows : List (Vec T Global)) (i : ℕ) (d : Vec T Global) → i < length rows

@@ -1,22 +1,19 @@
 -- What is given of a table that was asked for, by what printing it leaves.
-use Rattle.std.proofs.Common.{◌≡◌, ◌∙◌, ℕ, true, List, [], ◌++◌, Some, Err, ap, refl, subst, ⊎_elim}
+use Rattle.tabled_c.proofs.Names.{IsAsked, IsTable, Some, Style, StyleName, new_config, refl, style_of, subst, true, with_style, ℕ, ◌≡◌}
+use Rattle.std.proofs.Common.{◌∙◌, List, [], ◌++◌, Err, ap, ⊎_elim}
 use Rattle.tabled_base.specs.declared.error.TableError.{TableError}
 use Rattle.tabled_base.specs.declared.error.TableError.TheVariants.{Memory, Range}
 use Rattle.tabled_records.specs.TextRows.{text_rows}
-use Rattle.tabled_config.specs.Options.{with_style}
-use Rattle.tabled_config.specs.declared.style.Style.{Style}
 use Rattle.tabled_grid.specs.Picture.{table_text}
 use Rattle.tabled_line.specs.Sent.{Sent}
 use Rattle.tabled_size.specs.Sheet.{Sheet, estimated}
-use Rattle.tabled_table.specs.NewConfig.{new_config}
 use Rattle.tabled.specs.declared.plan.Plan.{Plan}
 use Rattle.tabled.specs.declared.plan.Plan.TheVariants.{Buffered, Streamed, Wrapped, Shortened}
 use Rattle.tabled.specs.Headline.{IsBestOf}
 use Rattle.tabled.specs.Planned.{IsPlannedOf, measured}
 use Rattle.tabled.specs.Rendered.{IsRenderedOf, PassesRange, SendsTable}
-use Rattle.tabled_c.specs.declared.arguments.StyleName.{StyleName}
-use Rattle.tabled_c.specs.Asked.{Asks, style_of}
-use Rattle.tabled_c.specs.Printed.{IsAsked, IsTable, whole_table}
+use Rattle.tabled_c.specs.Asked.{Asks}
+use Rattle.tabled_c.specs.Printed.{whole_table}
 use Rattle.tabled_c.proofs.Styles.{styles_apart}
 
 -- what is asked for is measured before it is printed

@@ -1,18 +1,17 @@
 -- The six styles keep the texts of cells apart: their lines are plain, and each text has padding on its left.
-use Rattle.std.proofs.Common.{◌≡◌, ℕ, ◌==◌, ◌&&◌, Bool, true, false, cond, Option, Some, None, refl, subst, unwrap_or, lit<, inl, inr}
+use Rattle.tabled_c.proofs.Names.{Some, Style, StyleName, inl, inr, new_config, refl, style_of, subst, true, with_style, ℕ, ◌≡◌}
+use Rattle.std.proofs.Common.{◌==◌, ◌&&◌, Bool, false, cond, Option, None, unwrap_or, lit<}
 use Rattle.std.specs.Ordering.{is_eq, nat_cmp}
 use Rattle.std.proofs.lemmas.Bool.{and_from, or_left, eq-eqb}
 use Rattle.tabled_text.specs.FramedLines.{IsSeparatorColumn}
 use Rattle.tabled_config.specs.Frame.{border_at, bottom_line, if_any, inner_line, top_line}
 use Rattle.tabled_config.specs.Lines.{line_set}
 use Rattle.tabled_config.specs.declared.borders.HorizontalLine.{HorizontalLine}
-use Rattle.tabled_config.specs.Options.{lines_below, with_style}
+use Rattle.tabled_config.specs.Options.{lines_below}
 use Rattle.tabled_config.specs.Settings.{in_place_of, rule_at, style_at}
 use Rattle.tabled_config.specs.Styles.{ascii, extended, line, markdown, modern, no_style, psql}
-use Rattle.tabled_config.specs.declared.style.Style.{Style}
 use Rattle.tabled_line.specs.Apart.{ArePaddedLeft, IsApartStyle}
 use Rattle.tabled_line.specs.Plain.{IsPlainRule}
-use Rattle.tabled_table.specs.NewConfig.{new_config}
 use Rattle.tabled_text.specs.Measure.{char_columns}
 use Rattle.tabled_text.specs.Plain.{IsAdditiveColumn, has_plain_width, is_listed_or_drawn}
 use Rattle.tabled_text.proofs.PlainLemmas.{is_simple-listed}
@@ -20,9 +19,7 @@ use Rattle.tabled_text.proofs.PlainLines.{plain_column-printable, plain_column-s
 use Rattle.unicode_width.proofs.Computing.{unicode_width}
 use Rattle.unicode_width.proofs.Rules.{is_simple}
 use Rattle.tabled.specs.Headline.{KeepsApart}
-use Rattle.tabled_c.specs.declared.arguments.StyleName.{StyleName}
 use Rattle.tabled_c.specs.declared.arguments.StyleName.TheVariants.{Ascii, Modern, Extended, Markdown, Psql, Empty}
-use Rattle.tabled_c.specs.Asked.{style_of}
 
 -- ---- horizontal lines that may be there
 

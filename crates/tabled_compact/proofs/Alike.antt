@@ -1,7 +1,7 @@
 -- Widths that are alike: what a dimension tells of them, and what they are in all.
-use Rattle.std.proofs.Common.{◌≡◌, ℕ, zero, suc, ◌+◌, ◌*◌, ◌<◌, ◌≤◌, length, Option, Some, None, IfSome, unwrap_or, ap, sym, ◌∙◌, arith}
-use Rattle.std.specs.List.{slice_index}
-use Rattle.tabled_priority.specs.Sums.{sum_below}
+use Rattle.tabled_compact.proofs.Names.{IfSome, None, Option, Some, ap, arith, length, slice_index, suc, sum_below, sym, zero, ℕ, ◌*◌, ◌+◌}
+use Rattle.tabled_compact.proofs.Names.{◌<◌, ◌∙◌, ◌≡◌, ◌≤◌}
+use Rattle.std.proofs.Common.{unwrap_or}
 use Rattle.tabled_size.specs.Reached.{reached}
 use Rattle.tabled_size.proofs.Reaching.{reached_at}
 

@@ -1,11 +1,11 @@
 -- The widest cell of some rows, and the widths of some columns, one further.
-use Rattle.std.proofs.Common.{◌≡◌, ℕ, ◌+◌, ◌<◌, List, [], ◌∷◌, ◌++◌, length, map, max, take, set, sym, ◌∙◌, ap, arith, get_or, add-one}
-use Rattle.std.proofs.lemmas.List.{get_or-map, length-map, map-append, take_more}
+use Rattle.tabled_compact.proofs.Names.{List, [], ap, arith, length, length-map, map, map-append, range_with_len, sym, take, widest_cell, ℕ}
+use Rattle.tabled_compact.proofs.Names.{◌++◌, ◌+◌, ◌<◌, ◌∙◌, ◌∷◌, ◌≡◌}
+use Rattle.std.proofs.Common.{max, set, get_or, add-one}
+use Rattle.std.proofs.lemmas.List.{get_or-map, take_more}
 use Rattle.std.proofs.lemmas.List.FromFn.{map-range_with_len_more}
 use Rattle.std.proofs.Math.Seq.{take-suc-set}
-use Rattle.std.specs.List.{range_with_len}
 use Rattle.tabled_text.specs.Measure.{greatest, text_columns}
-use Rattle.tabled_compact.specs.Fitting.{widest_cell}
 
 greatest-pushed : (xs : List ℕ) (y : ℕ) → greatest (xs ++ y ∷ []) ≡ max (greatest xs) y
 greatest-pushed [] y = omega arith

@@ -1,5 +1,6 @@
 pub mod Alike
 pub mod FittingLemmas
+pub mod Names
 pub mod Printings
 pub mod Putting
 pub mod RowLines

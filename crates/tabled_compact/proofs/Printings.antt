@@ -1,19 +1,16 @@
 -- Compact tables that are printed, or refused before the first byte.
-use Rattle.std.proofs.Common.{◌≡◌, ◌⊎◌, ℕ, ◌+◌, ◌≤◌, ◌==◌, if◌then◌else◌, Bool, true, false, List, [], ◌∷◌, ◌++◌, length, Option, Some, IfSome, MatchResult, OnErr, Result, Ok, Err, refl, sym, ◌∙◌, ap, subst, inl, inr, ⊎_elim, arith}
-use Rattle.std.specs.Result.{IsErrAnd}
-use Rattle.std.proofs.lemmas.Bool.Decides.{nat_tests}
+use Rattle.tabled_compact.proofs.Names.{Bool, CompactSheet, Err, IfSome, IsErrAnd, IsFailure, IsSpent, List, Ok, Option, PrintsCompact}
+use Rattle.tabled_compact.proofs.Names.{PutsRows, Result, Sends, Sent, Some, Stops, TableError, Window, Writes, WritesLines, [], ap, arith}
+use Rattle.tabled_compact.proofs.Names.{false, has_rows, if◌then◌else◌, in_window, inl, inr, length, lines-finished, nat_tests, refl}
+use Rattle.tabled_compact.proofs.Names.{rows_lines, spanned, subst, sym, tail_lines, true, ℕ, ⊎_elim, ◌++◌, ◌+◌, ◌==◌, ◌∙◌, ◌∷◌, ◌≡◌, ◌≤◌}
+use Rattle.tabled_compact.proofs.Names.{◌⊎◌}
+use Rattle.std.proofs.Common.{MatchResult, OnErr}
 use Rattle.std.proofs.lemmas.Result.{on_err_weaker}
-use Rattle.tabled_base.specs.declared.error.TableError.{TableError}
-use Rattle.tabled_line.specs.Leading.{WritesLines}
-use Rattle.tabled_line.specs.Sent.{Sent, Sends, Stops, Writes}
-use Rattle.tabled_line.proofs.Leading.{lines-finished, lines-text}
+use Rattle.tabled_line.proofs.Leading.{lines-text}
 use Rattle.tabled_line.proofs.Sending.{sends-along, sends-none}
-use Rattle.tabled_compact.specs.CompactCells.{CompactSheet}
-use Rattle.tabled_compact.specs.CompactLines.{compact_lines, compact_text, rows_lines, rows_text, tail_lines}
-use Rattle.tabled_compact.specs.Printed.{IsPrintable, IsPrinted, IsFailure, PrintsCompact}
-use Rattle.tabled_compact.specs.RowsPut.{PutsRows}
-use Rattle.tabled_compact.specs.Shown.{AreEnough, AreWanted, IsSpent, has_rows, in_window, shown, spanned, wanted}
-use Rattle.tabled_compact.specs.declared.window.Window.{Window}
+use Rattle.tabled_compact.specs.CompactLines.{compact_lines, compact_text, rows_text}
+use Rattle.tabled_compact.specs.Printed.{IsPrintable, IsPrinted}
+use Rattle.tabled_compact.specs.Shown.{AreEnough, AreWanted, shown, wanted}
 use Rattle.tabled_compact.proofs.RowLines.{begun-rows}
 use Rattle.tabled_compact.proofs.Windows.{spent-none, window-none, window-one, window-wanted}
 

@@ -1,16 +1,10 @@
 -- The rows that were put so far, and one more.
-use Rattle.std.proofs.Common.{◌≡◌, ℕ, ◌+◌, ◌<◌, ◌≤◌, ◌==◌, if◌then◌else◌, Bool, true, false, List, [], ◌∷◌, ◌++◌, length, append-nil, Option, Some, None, IfSome, Result, Ok, Err, refl, sym, ◌∙◌, ap, arith, subst, inl, inr}
-use Rattle.std.specs.Result.{IsErrAnd}
-use Rattle.std.proofs.lemmas.List.{length-append}
-use Rattle.tabled_base.specs.declared.error.TableError.{TableError}
+use Rattle.tabled_compact.proofs.Names.{Bool, CompactSheet, Err, IfSome, IsErrAnd, IsSpent, List, None, Ok, Option, PutsRows, Result, Sent}
+use Rattle.tabled_compact.proofs.Names.{Some, TableError, Window, [], ap, append-nil, arith, false, has_rows, if◌then◌else◌, in_window, inl}
+use Rattle.tabled_compact.proofs.Names.{inr, length, length-append, refl, row_part, rows_lines, spanned, subst, sym, true, window_after, ℕ}
+use Rattle.tabled_compact.proofs.Names.{◌++◌, ◌+◌, ◌<◌, ◌==◌, ◌∙◌, ◌∷◌, ◌≡◌, ◌≤◌}
 use Rattle.tabled_line.specs.Leading.{LineSends, LineStops}
-use Rattle.tabled_line.specs.Sent.{Sent}
 use Rattle.tabled_line.proofs.Leading.{lines-further, lines-none, lines-stopped}
-use Rattle.tabled_compact.specs.CompactCells.{CompactSheet}
-use Rattle.tabled_compact.specs.CompactLines.{row_part, rows_lines}
-use Rattle.tabled_compact.specs.RowsPut.{PutsRows}
-use Rattle.tabled_compact.specs.Shown.{IsSpent, has_rows, in_window, spanned, window_after}
-use Rattle.tabled_compact.specs.declared.window.Window.{Window}
 use Rattle.tabled_compact.proofs.RowLines.{begun-rows, has_rows-more, rows_lines-more}
 use Rattle.tabled_compact.proofs.Windows.{IsOpen, open-within, spent-whole, window-more, window-none, window-start, window-step}
 

@@ -1,12 +1,8 @@
 -- The lines of rows, where these come one by one.
-use Rattle.std.proofs.Common.{◌≡◌, ℕ, zero, suc, ◌==◌, if◌then◌else◌, true, false, List, [], ◌∷◌, ◌++◌, refl, sym, ◌∙◌, ap, append-nil, append_assoc, arith}
-use Rattle.std.specs.List.{flat_map}
-use Rattle.std.proofs.lemmas.Bool.Decides.{nat_tests}
+use Rattle.tabled_compact.proofs.Names.{CompactSheet, List, [], above, ap, append-nil, append_assoc, arith, begun_after, compact_row, false}
+use Rattle.tabled_compact.proofs.Names.{flat_map, has_rows, if◌then◌else◌, nat_tests, refl, row_part, rows_lines, suc, sym, true, zero, ℕ}
+use Rattle.tabled_compact.proofs.Names.{◌++◌, ◌==◌, ◌∙◌, ◌∷◌, ◌≡◌}
 use Rattle.std.proofs.lemmas.List.Concat.{flat_map-append}
-use Rattle.tabled_line.specs.Leading.{begun_after}
-use Rattle.tabled_compact.specs.CompactCells.{CompactSheet, compact_row}
-use Rattle.tabled_compact.specs.CompactLines.{above, row_part, rows_lines}
-use Rattle.tabled_compact.specs.Shown.{has_rows}
 
 pub not-zero : (k : ℕ) → (suc k == 0) ≡ false
 not-zero k = grind (arith, nat_tests)

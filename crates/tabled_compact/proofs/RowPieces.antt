@@ -1,24 +1,22 @@
 -- The columns of a row, where its cells come one by one.
-use Rattle.std.proofs.Common.{◌≡◌, ℕ, zero, suc, ◌+◌, ◌-◌, ◌<◌, ◌≤◌, Bool, min, nat_lt, true, false, if◌then◌else◌, List, [], ◌∷◌, ◌++◌, length, map, slice_index_or, Result, Ok, Err, IfOk, OnOk, refl, subst, sym, ◌∙◌, ap, append-nil, append_assoc, arith, ⊎_elim}
-use Rattle.std.specs.List.{flat_map, range_with_len, slice_index}
-use Rattle.std.specs.Result.{IsErrAnd}
+use Rattle.tabled_compact.proofs.Names.{Bool, CompactSheet, Err, IfOk, IsErrAnd, List, Ok, OnOk, Result, Sent, Stops, TableError, Writes}
+use Rattle.tabled_compact.proofs.Names.{WritesLines, [], above, ap, append-nil, append_assoc, arith, begun_after, columns_of, compact_cell}
+use Rattle.tabled_compact.proofs.Names.{compact_piece, compact_row, false, finished, flat_map, if◌then◌else◌, length, length-append}
+use Rattle.tabled_compact.proofs.Names.{length-map, map, map-append, min, nat_tests, part_front, range_with_len, refl, right_edge}
+use Rattle.tabled_compact.proofs.Names.{row_front, row_part, slice_index, stopped-first, subst, suc, sym, true, zero, ℕ, ⊎_elim, ◌++◌, ◌+◌}
+use Rattle.tabled_compact.proofs.Names.{◌-◌, ◌<◌, ◌∙◌, ◌∷◌, ◌≡◌, ◌≤◌}
+use Rattle.std.proofs.Common.{nat_lt, slice_index_or}
 use Rattle.std.proofs.lemmas.Bool.{cases_lt}
-use Rattle.std.proofs.lemmas.Bool.Decides.{nat_tests}
-use Rattle.std.proofs.lemmas.List.{get_or_append_left, get_or_past, get_or_push, length-append, length-map, map-append}
-use Rattle.tabled_compact.specs.CompactCells.{CompactSheet, columns_of, compact_cell, compact_piece, compact_row, pieces, row_front}
-use Rattle.tabled_compact.specs.CompactLines.{above, part_front, row_part}
+use Rattle.std.proofs.lemmas.List.{get_or_append_left, get_or_past, get_or_push}
+use Rattle.tabled_compact.specs.CompactCells.{pieces}
 use Rattle.tabled_config.specs.declared.alignment.AlignmentHorizontal.{AlignmentHorizontal}
 use Rattle.tabled_config.specs.declared.alignment.AlignmentHorizontal.TheVariants as horizontal
 use Rattle.tabled_config.specs.Frame.{has_bar}
 use Rattle.tabled_line.specs.Block.{before_text}
 use Rattle.tabled_line.specs.Fill.{fill}
-use Rattle.tabled_base.specs.declared.error.TableError.{TableError}
-use Rattle.tabled_line.specs.Leading.{WritesLines, begun_after, lines_after}
-use Rattle.tabled_line.specs.Row.{right_edge}
-use Rattle.tabled_line.specs.Sent.{Sent, Stops, Writes}
+use Rattle.tabled_line.specs.Leading.{lines_after}
 use Rattle.tabled_line.proofs.Each.{each-first, each-more, each-rest}
 use Rattle.tabled_line.proofs.Leading.{lines_after-append}
-use Rattle.tabled_line.proofs.Sending.{finished, stopped-first}
 
 -- cells that come later don't change the columns before them
 pieces-before : (t : CompactSheet) (row more : List (List ℕ)) (n : ℕ) → n ≤ length row → pieces t (row ++ more) n ≡ pieces t row n

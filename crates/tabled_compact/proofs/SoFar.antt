@@ -1,11 +1,9 @@
 -- What is known of the rows that came of a source so far.
-use Rattle.std.proofs.Common.{◌≡◌, ℕ, List, [], ◌∷◌, ◌++◌, Option, None, Some, Bool, true, false, map, refl, sym, subst}
-use Rattle.std.proofs.iter.Next.{Yields-more}
+use Rattle.tabled_compact.proofs.Names.{Bool, Given, List, None, Option, Some, Yields-more, [], false, map, map-append, refl, subst, sym}
+use Rattle.tabled_compact.proofs.Names.{true, ℕ, ◌++◌, ◌∷◌, ◌≡◌}
 use Rattle.std.specs.Iterator.{Yields}
 use Rattle.std.specs.List.{AllZip}
-use Rattle.std.proofs.lemmas.List.{map-append}
 use Rattle.std.proofs.lemmas.Slice.Zip.{all_zipped_more}
-use Rattle.tabled_base.specs.Given.{Given}
 use Rattle.tabled_base.specs.RowsGiven.{RowsBegin}
 use Rattle.tabled_compact.specs.Shown.{Came}
 

@@ -1,13 +1,10 @@
 -- Compact tables that are printed to a borrowed writer.
-use Rattle.std.proofs.Common.{◌≡◌, ℕ, Bool, List, Option, None, Result, Ok, Err, subst, inl, inr, ⊎_elim}
-use Rattle.tabled_base.specs.declared.error.TableError.{TableError}
+use Rattle.tabled_compact.proofs.Names.{Bool, CompactSheet, Err, IsFailure, List, None, Ok, Option, PrintsCompact, Result, Sent, TableError}
+use Rattle.tabled_compact.proofs.Names.{Window, inl, inr, subst, ℕ, ⊎_elim, ◌≡◌}
 use Rattle.tabled_base.specs.declared.error.TableError.TheVariants.{Writer}
-use Rattle.tabled_line.specs.Sent.{Sent}
 use Rattle.tabled_line.specs.WriterSent.{named_sent}
 use Rattle.tabled_line.proofs.Writers.{LeavesSo, byte_of, writer-leaves, writer-sends}
-use Rattle.tabled_compact.specs.CompactCells.{CompactSheet}
-use Rattle.tabled_compact.specs.Printed.{BuildsCompact, IsEnded, IsFailure, FailsEarly, IsStopped, PrintsCompact}
-use Rattle.tabled_compact.specs.declared.window.Window.{Window}
+use Rattle.tabled_compact.specs.Printed.{BuildsCompact, IsEnded, FailsEarly, IsStopped}
 
 not_writer : (t : CompactSheet) (e : TableError) → IsFailure t e → e ≡ Writer → ⊥
 not_writer t e h k = let P : TableError → Type 0 = λ x. IsFailure t x in subst P k h

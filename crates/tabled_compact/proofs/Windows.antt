@@ -1,9 +1,11 @@
 -- The rows in a window, where they come one by one.
-use Rattle.std.proofs.Common.{◌≡◌, ℕ, zero, suc, ◌+◌, ◌-◌, ◌<◌, ◌≤◌, ◌==◌, if◌then◌else◌, List, [], ◌∷◌, ◌++◌, length, drop, take, Option, Some, None, IfSome, true, refl, sym, ◌∙◌, ap, append-nil, arith}
-use Rattle.std.proofs.lemmas.List.{length-append, length-drop, take_all}
+use Rattle.tabled_compact.proofs.Names.{IfSome, IsSpent, List, None, Option, Some, Window, [], ap, append-nil, arith, has_rows}
+use Rattle.tabled_compact.proofs.Names.{if◌then◌else◌, in_window, length, length-append, refl, spanned, suc, sym, take, true, window_after}
+use Rattle.tabled_compact.proofs.Names.{zero, ℕ, ◌++◌, ◌+◌, ◌-◌, ◌<◌, ◌==◌, ◌∙◌, ◌∷◌, ◌≡◌, ◌≤◌}
+use Rattle.std.proofs.Common.{drop}
+use Rattle.std.proofs.lemmas.List.{length-drop, take_all}
 use Rattle.tabled_compact.proofs.RowLines.{not-zero}
-use Rattle.tabled_compact.specs.declared.window.Window.{Window}
-use Rattle.tabled_compact.specs.Shown.{IsSpent, first_rows, has_rows, in_window, limit_left, spanned, window_after}
+use Rattle.tabled_compact.specs.Shown.{first_rows, limit_left}
 
 -- a row behind those that are passed over: it stays, unless it is passed over too
 dropped-more : {A : Type 0} (n : ℕ) (rows : List A) (row : A) (k : ℕ) → k ≡ n - length rows

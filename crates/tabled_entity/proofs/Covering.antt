@@ -23,10 +23,8 @@ use Rattle.std.proofs.Common.{
   arith,
   get_or,
 }
-use Rattle.tabled_base.specs.declared.position.Entity.{Entity}
-use Rattle.tabled_base.specs.declared.position.Entity.TheVariants.{Global, Row, Column, Cell}
-use Rattle.tabled_entity.specs.Changes.{covers, first_covering}
-use Rattle.tabled_entity.specs.ChangeIndex.{last_for, later, latest, same}
+use Rattle.tabled_entity.proofs.Names.{Cell, Column, Entity, Global, Row, first_covering, last_for, later, latest, same}
+use Rattle.tabled_entity.specs.Changes.{covers}
 
 -- a place before the end, if there is one
 abbrev pub IsBelow : ℕ → Option ℕ → Type 0

@@ -1,15 +1,14 @@
 -- What a map of changes finds by its places is the latest setting that covers a cell.
-use Rattle.std.proofs.Common.{cond, false, is_some, [], ◌∷◌, zero, suc, refl, arith, ◌≡◌, ℕ, ◌-◌, ◌<◌, List, length, reverse, Option, Some, None, ap, sym, ◌∙◌, subst, get_or}
-use Rattle.std.proofs.lemmas.List.{length-reverse, reverse-reverse, get_or-reverse}
+use Rattle.tabled_entity.proofs.Names.{Cell, Column, Entity, Global, IsIndexed, List, None, Option, Row, Some, [], ap, arith, false}
+use Rattle.tabled_entity.proofs.Names.{first_covering, get_or, last_for, later, latest, length, length-reverse, refl, reverse, same}
+use Rattle.tabled_entity.proofs.Names.{slice_get-get_or, subst, suc, sym, value_of, zero, ℕ, ◌-◌, ◌<◌, ◌∙◌, ◌∷◌, ◌≡◌}
+use Rattle.std.proofs.Common.{cond, is_some}
+use Rattle.std.proofs.lemmas.List.{reverse-reverse, get_or-reverse}
 use Rattle.std.proofs.lemmas.Bool.{both_ways}
-use Rattle.std.proofs.lemmas.Option.{slice_get-get_or}
 use Rattle.std.specs.Option.{option_map, unwrap_or}
-use Rattle.tabled_base.specs.declared.position.Entity.{Entity}
-use Rattle.tabled_base.specs.declared.position.Entity.TheVariants.{Global, Row, Column, Cell}
 use Rattle.tabled_entity.specs.declared.change_index.ChangeIndex.{ChangeIndex}
-use Rattle.tabled_entity.specs.Changes.{first_covering, if_unparted}
-use Rattle.tabled_entity.specs.ChangeIndex.{AreParts, IsIndexed, IsPart, IsReindexed, found, last_for, later, latest, same}
-use Rattle.tabled_entity.specs.RowValues.{value_of}
+use Rattle.tabled_entity.specs.Changes.{if_unparted}
+use Rattle.tabled_entity.specs.ChangeIndex.{AreParts, IsPart, IsReindexed, found}
 use Rattle.tabled_entity.proofs.Covering.{IsBelow, latest_place, below-latest_place, none-before, said_at, said_at-latest}
 
 item-reversed : {X : Type 0} (items : List X) (i : ℕ) (d : X) → i < length (reverse items) → get_or items i d

@@ -1,3 +1,4 @@
 pub mod Covering
 pub mod Indexed
+pub mod Names
 pub mod Runs

@@ -1,8 +1,9 @@
 -- One value more in a row of a map from rows and columns.
-use Rattle.std.proofs.Common.{◌≡◌, ◌==◌, ◌&&◌, ℕ, ◌+◌, ◌-◌, ◌<◌, zero, suc, true, false, if◌then◌else◌, List, [], ◌∷◌, length, Option, Some, None, Result, Ok, Err, OnOk, OnErr, refl, ap, sym, ◌∙◌, arith, inl, inr, nat_lt, get_or, slice_get, slice_set}
+use Rattle.tabled_entity.proofs.Names.{List, None, Option, Some, [], ap, arith, false, get_or, length, refl, slice_get-get_or, suc, sym}
+use Rattle.tabled_entity.proofs.Names.{zero, ℕ, ◌+◌, ◌-◌, ◌<◌, ◌∙◌, ◌∷◌, ◌≡◌}
+use Rattle.std.proofs.Common.{◌==◌, ◌&&◌, true, if◌then◌else◌, Result, Ok, Err, OnOk, OnErr, inl, inr, nat_lt, slice_get, slice_set}
 use Rattle.std.proofs.lemmas.Bool.{cases_Bool, cases_eq, eqb-true, ltb-true}
 use Rattle.std.proofs.lemmas.Bool.Decides.{nat_tests}
-use Rattle.std.proofs.lemmas.Option.{slice_get-get_or}
 use Rattle.std.specs.Option.{option_and_then, option_or}
 use Rattle.std.specs.Vec.{with_item}
 use Rattle.tabled_entity.specs.RunMap.{HoldsCell, HoldsValue, SameCells, SameValues, cell_in, in_others, in_run, value_in}

@@ -1,13 +1,7 @@
 -- Rows that are collected one after another.
-use Rattle.std.proofs.Common.{◌≡◌, ℕ, List, [], ◌∷◌, ◌++◌, Option, map, sym, ap, ◌∙◌}
-use Rattle.std.specs.List.{AllZip}
-use Rattle.std.specs.declared.alloc.Global.{Global}
-use Rattle.std.specs.declared.vec.Vec.{Vec}
-use Rattle.std.proofs.lemmas.List.{map-append}
-use Rattle.tabled_base.specs.Cells.{row_texts}
+use Rattle.tabled_extended.proofs.Names.{AllZip, Global, List, Option, Vec, [], all_zipped_more, ap, map, map-append, row_texts}
+use Rattle.tabled_extended.proofs.Names.{row_texts-push, sym, ℕ, ◌++◌, ◌∙◌, ◌∷◌, ◌≡◌}
 use Rattle.tabled_base.specs.Given.{Given}
-use Rattle.std.proofs.lemmas.Slice.Zip.{all_zipped_more}
-use Rattle.tabled_value.proofs.RowsAdded.{row_texts-push}
 
 -- the cells of the lists so far have the texts of the rows
 pub record Collected {W T A : Type 0} (becomes : W → T → Type 0) (steps : T → Option A → T → Type 0)

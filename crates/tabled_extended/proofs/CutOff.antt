@@ -1,17 +1,17 @@
 -- Whether something was cut off a text.
-use Rattle.std.proofs.Common.{◌≡◌, ℕ, ◌+◌, ◌-◌, ◌<◌, ◌≤◌, List, [], ◌∷◌, ◌++◌, length, take, replicate, zero}
-use Rattle.std.proofs.Common.{suc, chars, refl, sym, ap, subst, ◌∙◌, append_assoc, max, arith}
-use Rattle.std.specs.Prelude.{Result, Ok, Err, IsErr, OnErr}
-use Rattle.std.specs.Str.{IsUtf8}
-use Rattle.std.proofs.lemmas.List.{append-nil, append_cancel_left, length-append, length-replicate, length_push, nil_from_length, take_at}
-use Rattle.std.proofs.lemmas.Bool.{false≢true}
+use Rattle.tabled_extended.proofs.Names.{IsTruncated, IsUtf8, List, OnErr, [], ap, append-nil, append_assoc, arith, chars, false≢true}
+use Rattle.tabled_extended.proofs.Names.{length, length-append, length_push, max, refl, subst, suc, sym, take, zero, ℕ, ◌++◌, ◌+◌, ◌-◌, ◌<◌}
+use Rattle.tabled_extended.proofs.Names.{◌∙◌, ◌∷◌, ◌≡◌, ◌≤◌}
+use Rattle.std.proofs.Common.{replicate}
+use Rattle.std.specs.Prelude.{Result, Ok, Err, IsErr}
+use Rattle.std.proofs.lemmas.List.{append_cancel_left, length-replicate, nil_from_length, take_at}
 use Rattle.std.proofs.lemmas.Str.{encodes-chars}
 use Rattle.std.proofs.Math.Utf8.{encodes}
 use Rattle.tabled_text.specs.Cut.{IsCut, IsLongestReached, IsReached, NeedsFill, last_line, missing_columns}
 use Rattle.tabled_text.specs.Measure.{char_count, count_of}
 use Rattle.tabled_text.proofs.CutLemmas.{IsReached-push}
 use Rattle.tabled_text.proofs.WrapRoom.{plain_replacement}
-use Rattle.tabled_extended.specs.Truncated.{IsTruncated, TakesMemory, ending}
+use Rattle.tabled_extended.specs.Truncated.{TakesMemory, ending}
 
 pub mark_counts : char_count 0xFFFD ≡ 1
 mark_counts = ap (λ n. max 1 n) plain_replacement.1

@@ -1,20 +1,17 @@
 -- The columns of a text between dashes.
-use Rattle.std.proofs.Common.{◌≡◌, ℕ, ◌+◌, ◌-◌, ◌^◌, ◌<◌, ◌≤◌, inl, inr, Bool, true, false, cond, ◌==◌, List}
-use Rattle.std.proofs.Common.{[], ◌∷◌, ◌++◌, All, chars, length, lit<, map, max, min, refl, sym, ap, ◌∙◌}
-use Rattle.std.proofs.Common.{arith, subst}
+use Rattle.tabled_extended.proofs.Names.{All, All-tail, Bool, IsUtf8, List, [], ap, arith, cases_lt, chars, false, inl, inr, length, map}
+use Rattle.tabled_extended.proofs.Names.{max, min, nat_tests, refl, rule_behind, subst, sym, text_columns, title, ℕ, ◌++◌, ◌+◌, ◌-◌, ◌<◌}
+use Rattle.tabled_extended.proofs.Names.{◌^◌, ◌∙◌, ◌∷◌, ◌≡◌, ◌≤◌}
+use Rattle.std.proofs.Common.{true, cond, ◌==◌, lit<}
 use Rattle.std.specs.List.{onto_first}
-use Rattle.std.specs.Str.{IsUtf8}
-use Rattle.std.proofs.lemmas.Bool.{cases_lt}
-use Rattle.std.proofs.lemmas.Bool.Decides.{nat_tests}
-use Rattle.std.proofs.lemmas.List.Elements.{All-head, All-tail}
+use Rattle.std.proofs.lemmas.List.Elements.{All-head}
 use Rattle.std.proofs.lemmas.Str.{IsUtf8-encode, chars-append, encode_ascii}
 use Rattle.unicode_width.specs.declared.state.State.{State}
 use Rattle.unicode_width.specs.Width.{is_emoji_variation_base, past_emoji, plain, read_before, step, str_width}
 use Rattle.unicode_width.proofs.Computing.{unicode_width}
 use Rattle.unicode_width.proofs.Rules.{str_width-append_simple}
-use Rattle.tabled_text.specs.Measure.{greatest, line_columns, lines_of, text_columns}
+use Rattle.tabled_text.specs.Measure.{greatest, line_columns, lines_of}
 use Rattle.tabled_text.proofs.Bridge.{begins, some_line, utf8_lines}
-use Rattle.tabled_extended.specs.RecordLines.{rule_behind, title}
 
 -- ---- a dash before a line or behind it
 

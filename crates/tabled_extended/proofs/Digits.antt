@@ -1,7 +1,7 @@
 -- How many digits a number has.
-use Rattle.std.proofs.Common.{◌≡◌, ℕ, ◌+◌, ◌*◌, ◌^◌, ◌/◌, ◌%◌, ◌<◌, ◌≤◌, List, [], ◌∷◌, ◌++◌, decimal, length, zero, suc, arith}
+use Rattle.tabled_extended.proofs.Names.{List, [], arith, decimal, length, length_push, suc, zero, ℕ, ◌++◌, ◌+◌, ◌<◌, ◌^◌, ◌∷◌, ◌≡◌, ◌≤◌}
+use Rattle.std.proofs.Common.{◌*◌, ◌/◌, ◌%◌}
 use Rattle.std.proofs.lemmas.Fmt.{decimal_by_steps}
-use Rattle.std.proofs.lemmas.List.{length_push}
 use Rattle.std.proofs.Math.Nat.{pow-succ'}
 
 -- a number between two powers of ten has a digit for each

@@ -1,13 +1,6 @@
 -- Records of escaped texts, one after another.
-use Rattle.std.proofs.Common.{◌≡◌, ℕ, List, [], ◌∷◌, ◌++◌, map, sym, ap, ◌∙◌}
-use Rattle.std.specs.List.{AllZip}
-use Rattle.std.specs.declared.alloc.Global.{Global}
-use Rattle.std.specs.declared.vec.Vec.{Vec}
-use Rattle.std.proofs.lemmas.List.{map-append}
-use Rattle.tabled_base.specs.Cells.{row_texts}
-use Rattle.std.proofs.lemmas.Slice.Zip.{all_zipped_more}
-use Rattle.tabled_value.proofs.RowsAdded.{row_texts-push}
-use Rattle.tabled_extended.specs.Escaped.{escaped}
+use Rattle.tabled_extended.proofs.Names.{AllZip, Global, List, Vec, [], all_zipped_more, ap, escaped, map, map-append, row_texts}
+use Rattle.tabled_extended.proofs.Names.{row_texts-push, sym, ℕ, ◌++◌, ◌∙◌, ◌∷◌, ◌≡◌}
 
 -- a record stands for each value
 pub record AreEscaped {V : Type 0} (shows : V → List (List ℕ) → Type 0) (values : List V) (all : List (List (List ℕ))) : Type 0 where

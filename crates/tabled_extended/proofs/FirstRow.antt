@@ -1,10 +1,8 @@
 -- The first row is taken off the others.
-use Rattle.std.proofs.Common.{◌≡◌, ℕ, ◌<◌, List, [], ◌∷◌, length, drop, refl, sym, ap, ◌∙◌, slice_index_or, arith}
+use Rattle.tabled_extended.proofs.Names.{Global, List, Vec, [], ap, arith, drop, length, map-id, refl, row_texts, sym, ℕ, ◌<◌, ◌∙◌, ◌∷◌}
+use Rattle.tabled_extended.proofs.Names.{◌≡◌}
+use Rattle.std.proofs.Common.{slice_index_or}
 use Rattle.std.specs.Prelude.{remove}
-use Rattle.std.specs.declared.alloc.Global.{Global}
-use Rattle.std.specs.declared.vec.Vec.{Vec}
-use Rattle.std.proofs.lemmas.List.{map-id}
-use Rattle.tabled_base.specs.Cells.{row_texts}
 
 pub first_removed : (rows : List (Vec (List ℕ) Global)) (first : Vec (List ℕ) Global) → 0 < length rows
     → first ≡ slice_index_or rows 0 first → first.items ≡ slice_index_or (row_texts rows) 0 []

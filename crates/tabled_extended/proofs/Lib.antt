@@ -4,6 +4,7 @@ pub mod Dashed
 pub mod Digits
 pub mod EscapedRecords
 pub mod FirstRow
+pub mod Names
 pub mod Records
 pub mod Stopped
 pub mod TruncatedTable

@@ -1,17 +1,17 @@
 -- Records that are printed one after another.
-use Rattle.std.proofs.Common.{◌≡◌, ◌⊎◌, inl, inr, ℕ, ◌+◌, ◌<◌, List, [], ◌∷◌, ◌++◌, Bool, false, Ok, Err}
-use Rattle.std.proofs.Common.{Result, length, get_or, sym, ap, subst, ◌∙◌, refl, arith, append-nil}
-use Rattle.std.specs.List.{flat_map}
+use Rattle.tabled_extended.proofs.Names.{Bool, Err, LineSends, List, Ok, Result, [], ap, arith, cases_lt, false, flat_map, get_or, inl, inr}
+use Rattle.tabled_extended.proofs.Names.{length, length-append, lines-finished, lines-further, record_lines, refl, subst, sym, widest}
+use Rattle.tabled_extended.proofs.Names.{widest_value, ℕ, ◌++◌, ◌+◌, ◌<◌, ◌∙◌, ◌∷◌, ◌≡◌}
+use Rattle.std.proofs.Common.{◌⊎◌, append-nil}
 use Rattle.std.proofs.lemmas.Grind.{flat_map-append}
-use Rattle.std.proofs.lemmas.List.{length-append, get_or_append_left, get_or_push}
-use Rattle.std.proofs.lemmas.Bool.{cases_lt}
+use Rattle.std.proofs.lemmas.List.{get_or_append_left, get_or_push}
 use Rattle.tabled_base.specs.declared.error.TableError.{TableError}
-use Rattle.tabled_line.specs.Leading.{LineSends, LineStops, WritesLines}
+use Rattle.tabled_line.specs.Leading.{LineStops, WritesLines}
 use Rattle.std.specs.Prelude.{IsErrAnd}
 use Rattle.tabled_line.specs.Sent.{Sent, Sends}
-use Rattle.tabled_line.proofs.Leading.{lines-further, lines-none, lines-text, lines-finished}
+use Rattle.tabled_line.proofs.Leading.{lines-none, lines-text}
 use Rattle.tabled_extended.specs.PrintedRecords.{IsTooWide, PrintsAll, PrintsRecord, PrintsRecords, EndsBefore, EndsWithin}
-use Rattle.tabled_extended.specs.RecordLines.{AreRecordLines, record_lines, text_of, widest, widest_value}
+use Rattle.tabled_extended.specs.RecordLines.{AreRecordLines, text_of}
 
 -- the first records stand
 pub record PrintedSoFar (answers : ℕ → List ℕ → Type 0) (fields : List (List ℕ)) (records : List (List (List ℕ)))

@@ -1,13 +1,11 @@
 -- Things of a list that are changed one after another.
-use Rattle.std.proofs.Common.{◌≡◌, ℕ, ◌+◌, ◌<◌, List, [], ◌∷◌, ◌++◌, length, get_or, map, zero, suc, refl, sym, ap, ◌∙◌, append_assoc, arith}
-use Rattle.std.specs.List.{AllZip}
+use Rattle.tabled_extended.proofs.Names.{AllZip, Global, List, Vec, [], ap, append-nil, append_assoc, arith, get_or, length, length-append}
+use Rattle.tabled_extended.proofs.Names.{length-map, length_push, map, map-id, refl, row_texts, suc, sym, zero, ℕ, ◌++◌, ◌+◌, ◌<◌, ◌∙◌, ◌∷◌}
+use Rattle.tabled_extended.proofs.Names.{◌≡◌}
 use Rattle.std.proofs.Math.Seq.{set-append_seam}
 use Rattle.std.proofs.Math.ListN.{set}
-use Rattle.std.specs.declared.alloc.Global.{Global}
-use Rattle.std.specs.declared.vec.Vec.{Vec}
-use Rattle.std.proofs.lemmas.List.{append-nil, length-append, length-map, length_push, map-id, map-set}
+use Rattle.std.proofs.lemmas.List.{map-set}
 use Rattle.std.proofs.lemmas.List.Elements.{AllZip-push, length_all_zip}
-use Rattle.tabled_base.specs.Cells.{row_texts}
 use Rattle.tabled_extended.specs.Truncated.{IsStopped}
 
 -- so many are changed, and the others stay

@@ -1,9 +1,8 @@
 -- Tables that are truncated: a row that has a room, or none, and the records.
-use Rattle.std.proofs.Common.{◌≡◌, ℕ, List, [], ◌∷◌, Option, Some, None, Ok, Err, Result, refl, sym, subst}
-use Rattle.std.specs.Prelude.{OnOk}
-use Rattle.std.specs.List.{AllZip}
-use Rattle.tabled_set.specs.CellChanges.{if_sized}
-use Rattle.tabled_extended.specs.Truncated.{AreTruncated, IsTruncated}
+use Rattle.tabled_extended.proofs.Names.{AllZip, Err, IsTruncated, List, Ok, OnOk, Option, Result, Some, [], if_sized, refl, subst, sym, ℕ}
+use Rattle.tabled_extended.proofs.Names.{◌∷◌, ◌≡◌}
+use Rattle.std.proofs.Common.{None}
+use Rattle.tabled_extended.specs.Truncated.{AreTruncated}
 use Rattle.tabled_extended.specs.declared.truncating.TextWidths.{TextWidths}
 
 pub ok_both : {T E : Type 0} (r : Result T E) (suffix : List ℕ) (text_widths : TextWidths) (fields : List (List ℕ)) (records : List (List (List ℕ)))

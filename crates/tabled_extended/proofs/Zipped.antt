@@ -1,7 +1,7 @@
 -- The lines of fields and values side by side.
-use Rattle.std.proofs.Common.{◌≡◌, ℕ, ◌+◌, ◌<◌, ◌≤◌, List, [], ◌∷◌, ◌++◌, length, map, min, take, drop, get_or, sym, ap, ◌∙◌, append_assoc, arith}
-use Rattle.std.specs.List.{zip}
-use Rattle.std.proofs.lemmas.List.{take_all, take_more, map-append, take-append-drop}
+use Rattle.tabled_extended.proofs.Names.{List, [], ap, append_assoc, arith, drop, get_or, length, map, map-append, min, sym, take, zip, ℕ}
+use Rattle.tabled_extended.proofs.Names.{◌++◌, ◌+◌, ◌<◌, ◌∙◌, ◌∷◌, ◌≡◌, ◌≤◌}
+use Rattle.std.proofs.lemmas.List.{take_all, take_more, take-append-drop}
 use Rattle.std.proofs.lemmas.Slice.Zip.{length-zip, get_or-zip}
 
 pub zip-next : (f : List ℕ × List ℕ → List ℕ) (ks vs : List (List ℕ)) {i : ℕ} {k v : List ℕ} → k ≡ get_or ks i k → v ≡ get_or vs i v

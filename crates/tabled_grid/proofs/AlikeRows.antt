@@ -1,6 +1,5 @@
 -- Rows that are set alike.
-use Rattle.std.proofs.Common.{◌≡◌, ℕ, zero, suc, ◌+◌, ◌∷◌, map, refl, ◌∙◌, ap}
-use Rattle.std.specs.List.{range_with_len}
+use Rattle.tabled_grid.proofs.Names.{ap, map, range_with_len, refl, suc, zero, ℕ, ◌+◌, ◌∙◌, ◌∷◌, ◌≡◌}
 
 pub alike-maps : {X : Type 0} (f g : ℕ → X) (a n : ℕ) → ((column : ℕ) → f column ≡ g column)
     → map f (range_with_len a n) ≡ map g (range_with_len a n)

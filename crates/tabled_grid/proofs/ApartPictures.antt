@@ -1,21 +1,12 @@
 -- Each line of a picture takes the table's columns, whatever texts the cells are.
-use Rattle.std.proofs.Common.{◌≡◌, ℕ, ◌<◌, length, get_or, [], arith}
-use Rattle.std.specs.List.{slice_index}
+use Rattle.tabled_grid.proofs.Names.{EachLineTakes, Holds, HorizontalLine, IsPlainRule, IsRectangular, Sheet, [], arith, cell_at, columns}
+use Rattle.tabled_grid.proofs.Names.{columns_of, filled_width, get_or, length, line_columns, line_total, picture, plain_rule_line, row_line}
+use Rattle.tabled_grid.proofs.Names.{row_of, rule_line, slice_index, total_width, ℕ, ◌<◌, ◌≡◌}
 use Rattle.std.specs.Str.{IsUtf8}
-use Rattle.tabled_text.specs.Measure.{line_columns}
-use Rattle.tabled_base.specs.Cells.{IsRectangular, cell_at, columns}
-use Rattle.tabled_config.specs.declared.borders.HorizontalLine.{HorizontalLine}
-use Rattle.tabled_line.specs.Apart.{HoldsTexts, IsApartRow, line_total}
-use Rattle.tabled_line.specs.Plain.{EachLineTakes, IsPlainRule}
-use Rattle.tabled_line.specs.Row.{row_line, rule_line}
+use Rattle.tabled_line.specs.Apart.{HoldsTexts, IsApartRow}
 use Rattle.tabled_line.proofs.ApartLines.{row_line_takes}
-use Rattle.tabled_line.proofs.Plains.{plain_rule_line}
-use Rattle.tabled_size.specs.Sheet.{Sheet}
-use Rattle.tabled_size.specs.Holds.{Holds}
-use Rattle.tabled_size.specs.Totals.{filled_width, total_width}
 use Rattle.tabled_size.specs.TextCells.{AreTexts}
 use Rattle.tabled_grid.specs.ApartSheet.{IsApartConfig}
-use Rattle.tabled_grid.specs.Picture.{columns_of, picture, row_of}
 use Rattle.tabled_grid.proofs.Whole.{picture_takes}
 
 -- what the columns of a picture rest on

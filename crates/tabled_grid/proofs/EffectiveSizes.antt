@@ -1,28 +1,20 @@
 -- The sizes that stand: those that a dimension stores, and estimates where it stores none.
-use Rattle.std.proofs.Common.{◌≡◌, ℕ, ◌<◌, ◌≤◌, ◌^◌, ◌⊎◌, ◌&&◌, inl, inr, ⊎_elim, List, length, Option, Some, None, Result, Ok, Err, IfErr, OnOk, MatchResult, Bool, is_some, take, unwrap_or, true, false, refl, sym, ap, subst, ◌∙◌, arith}
-use Rattle.std.specs.List.{slice_index}
-use Rattle.std.specs.Result.{IsErrAnd}
+use Rattle.tabled_grid.proofs.Names.{Bool, Err, Holds, IfErr, IsErrAnd, IsFailure, IsOutOfRange, IsSized, List, Memory, Narrow, None, Ok}
+use Rattle.tabled_grid.proofs.Names.{Option, Range, Result, Sheet, ShortHeights, ShortWidths, Some, SpannedConfig, TableError, Writer, ap}
+use Rattle.tabled_grid.proofs.Names.{arith, columns, effective, estimated, estimated_heights, estimated_widths, false, filled_height}
+use Rattle.tabled_grid.proofs.Names.{filled_width, heights_length, heights_of, inl, inr, is_some, is_stored, length, reached, refl}
+use Rattle.tabled_grid.proofs.Names.{slice_index, stored_at, subst, sym, take, too_high_passes, too_wide_passes, true, width_at, width_ge}
+use Rattle.tabled_grid.proofs.Names.{widths_length, widths_of, ℕ, ⊎_elim, ◌&&◌, ◌<◌, ◌∙◌, ◌≡◌, ◌≤◌, ◌⊎◌}
+use Rattle.std.proofs.Common.{◌^◌, OnOk, MatchResult, unwrap_or}
 use Rattle.std.proofs.lemmas.List.{get_or-take, length-take-le}
-use Rattle.tabled_base.specs.Cells.{columns}
-use Rattle.tabled_base.specs.declared.error.TableError.{TableError}
-use Rattle.tabled_base.specs.declared.error.TableError.TheVariants.{Memory, ShortWidths, ShortHeights, Narrow, Range, Writer}
-use Rattle.tabled_config.specs.declared.spanned.SpannedConfig.{SpannedConfig}
 use Rattle.tabled_size.specs.declared.complete_dimension.CompleteDimension.{CompleteDimension}
-use Rattle.tabled_size.specs.Estimates.{estimated_heights, estimated_widths, needed_width}
+use Rattle.tabled_size.specs.Estimates.{needed_width}
 use Rattle.tabled_size.specs.FilledIn.{HasNoEstimate, IsFilledIn}
-use Rattle.tabled_size.specs.Reached.{reached}
-use Rattle.tabled_size.specs.Sheet.{Sheet, estimated}
-use Rattle.tabled_size.specs.Entries.{stored_at}
-use Rattle.tabled_size.specs.Effective.{effective, effective_sizes}
-use Rattle.tabled_size.specs.Stored.{heights_of, is_stored, widths_of}
-use Rattle.tabled_size.specs.Totals.{filled_height, filled_width}
-use Rattle.tabled_size.proofs.Passing.{too_high_passes, too_wide_passes, width_at, width_ge}
+use Rattle.tabled_size.specs.Effective.{effective_sizes}
 use Rattle.tabled_size.proofs.Reaching.{reached_filled, reached_effective, reached_stored}
-use Rattle.tabled_size.proofs.Totalling.{heights_length, reached_stands, widths_length}
+use Rattle.tabled_size.proofs.Totalling.{reached_stands}
 use Rattle.tabled_grid.specs.Grid.{sheet_by}
-use Rattle.tabled_size.specs.Holds.{Holds, IsSized}
 use Rattle.tabled_grid.specs.Narrow.{IsNarrow}
-use Rattle.tabled_grid.specs.Printed.{IsFailure, IsOutOfRange}
 use Rattle.tabled_grid.proofs.EstimatedSizes.{holds_estimated}
 
 abbrev sized_by : List (List (List ℕ)) → SpannedConfig → List ℕ → List ℕ → Sheet

@@ -1,15 +1,9 @@
 -- Tables with estimated sizes: they hold their cells, so that the range alone can refuse them.
-use Rattle.std.proofs.Common.{◌≡◌, ℕ, inl, inr, List, length, refl, arith}
-use Rattle.std.proofs.lemmas.List.FromFn.{length-map-range_with_len}
-use Rattle.tabled_base.specs.Cells.{columns}
-use Rattle.tabled_base.specs.declared.error.TableError.{TableError}
-use Rattle.tabled_base.specs.declared.error.TableError.TheVariants.{Memory, ShortWidths, ShortHeights, Narrow, Range, Writer}
-use Rattle.tabled_config.specs.declared.spanned.SpannedConfig.{SpannedConfig}
-use Rattle.tabled_size.specs.Estimates.{IsTooHigh, IsTooWide, column_width, estimated_heights, estimated_widths, row_height}
-use Rattle.tabled_size.specs.Sheet.{estimated}
-use Rattle.tabled_size.proofs.Passing.{too_high_passes, too_wide_passes, width_at, width_ge}
-use Rattle.tabled_size.specs.Holds.{Holds, IsSized}
-use Rattle.tabled_grid.specs.Printed.{IsFailure, IsOutOfRange}
+use Rattle.tabled_grid.proofs.Names.{Holds, IsFailure, IsOutOfRange, IsSized, List, Memory, Narrow, Range, ShortHeights, ShortWidths}
+use Rattle.tabled_grid.proofs.Names.{SpannedConfig, TableError, Writer, arith, columns, estimated, estimated_heights, estimated_widths, inl}
+use Rattle.tabled_grid.proofs.Names.{inr, length, length-map-range_with_len, refl, too_high_passes, too_wide_passes, width_at, width_ge, ℕ}
+use Rattle.tabled_grid.proofs.Names.{◌≡◌}
+use Rattle.tabled_size.specs.Estimates.{IsTooHigh, IsTooWide, column_width, row_height}
 
 -- the estimated sizes reach to the last column and the last row
 pub sized_estimated : (cells : List (List (List ℕ))) (config : SpannedConfig) → IsSized (estimated cells config)

@@ -3,6 +3,7 @@ pub mod AlikeRows
 pub mod ApartPictures
 pub mod EstimatedSizes
 pub mod Measuring
+pub mod Names
 pub mod Printing
 pub mod EffectiveSizes
 pub mod Whole

@@ -1,32 +1,23 @@
 -- The columns of what is made of plain pieces.
-use Rattle.std.proofs.Common.{◌≡◌, ℕ, ◌+◌, ◌-◌, ◌*◌, ◌<◌, ◌≤◌, List, [], length, get_or, sym, subst, arith, ⊎_elim}
-use Rattle.std.specs.List.{flat_map, range_with_len, slice_index}
-use Rattle.std.proofs.lemmas.Bool.{cases_lt}
+use Rattle.tabled_grid.proofs.Names.{AreAdditive, Holds, HorizontalLine, IsPlainConfig, IsPlainRule, IsPlainStyle, IsRectangular, List}
+use Rattle.tabled_grid.proofs.Names.{Sheet, [], arith, cases_lt, cell_at, columns, columns_of, filled_width, flat_map, frame, get_or}
+use Rattle.tabled_grid.proofs.Names.{length, line_columns, line_total, one_if, plain-fill, plain_rule_line, range_with_len, row_line}
+use Rattle.tabled_grid.proofs.Names.{row_of, rule_line, slice_index, style_at, subst, sum_below, sym, ℕ, ⊎_elim, ◌+◌, ◌<◌, ◌≡◌, ◌≤◌}
+use Rattle.std.proofs.Common.{◌-◌, ◌*◌}
 use Rattle.std.proofs.lemmas.Option.{slice_get_cases, slice_get-get_or}
-use Rattle.tabled_text.specs.Measure.{lines_of, text_columns, line_columns}
+use Rattle.tabled_text.specs.Measure.{lines_of, text_columns}
 use Rattle.tabled_text.specs.Plain.{IsAdditive, IsAdditiveLine}
 use Rattle.tabled_text.proofs.Bridge.{line_columns-le}
 use Rattle.tabled_text.proofs.PlainLines.{additive-plain, plain_line-append, plain_line-as, plain_line-each, plain_column-space}
-use Rattle.tabled_base.specs.Cells.{IsRectangular, cell_at, columns}
 use Rattle.tabled_config.specs.declared.spanned.CellStyle.{CellStyle}
-use Rattle.tabled_config.specs.declared.borders.HorizontalLine.{HorizontalLine}
 use Rattle.tabled_config.specs.Frame.{has_bar}
-use Rattle.tabled_config.specs.Settings.{frame, style_at}
-use Rattle.tabled_size.specs.Sheet.{Sheet}
-use Rattle.tabled_priority.specs.Sums.{one_if, sum_below}
-use Rattle.tabled_size.specs.Totals.{filled_width}
 use Rattle.tabled_line.specs.Block.{inner_width, columns_before, cell_line, block, fill_above}
-use Rattle.tabled_size.specs.Holds.{Holds}
-use Rattle.tabled_line.specs.Row.{cell_piece, row_line, rule_line}
-use Rattle.tabled_grid.specs.Picture.{columns_of, row_of}
-use Rattle.tabled_size.specs.PlainCells.{AreAdditive, ArePlain}
-use Rattle.tabled_line.specs.Plain.{IsPlainRule, IsPlainStyle}
-use Rattle.tabled_grid.specs.PlainSheet.{IsPlainConfig}
+use Rattle.tabled_line.specs.Row.{cell_piece}
+use Rattle.tabled_size.specs.PlainCells.{ArePlain}
 use Rattle.tabled_line.proofs.Blocks.{block-above, block-text, block-below}
 use Rattle.tabled_line.proofs.ApartLines.{columns_before-fits}
 use Rattle.tabled_line.proofs.Bars.{bar-sum}
-use Rattle.tabled_line.proofs.Plains.{plain-each, plain-fill, plain-left, plain-piece, plain-right, plain_rule_line}
-use Rattle.tabled_line.specs.Apart.{line_total}
+use Rattle.tabled_line.proofs.Plains.{plain-each, plain-left, plain-piece, plain-right}
 
 -- plain cells are additive
 pub additive_cells : (cells : List (List (List ℕ))) → ArePlain cells → AreAdditive cells

@@ -1,8 +1,9 @@
 -- What the tests of plain tables rest on.
-use Rattle.std.proofs.Common.{◌≡◌, ℕ, ◌+◌, ◌<◌, ⊎_elim, Bool, true, false, MatchBool, length, refl, sym, ◌∙◌, subst, arith, zero-add}
+use Rattle.tabled_grid.proofs.Names.{Bool, arith, cases_lt, false, length, range_with_len, refl, subst, sym, true, ℕ, ⊎_elim, ◌+◌, ◌<◌, ◌∙◌}
+use Rattle.tabled_grid.proofs.Names.{◌≡◌}
+use Rattle.std.proofs.Common.{MatchBool, zero-add}
 use Rattle.std.specs.Prelude.{◌↔◌, IsTrue}
-use Rattle.std.specs.List.{AllWithin, HoldsAt, range_with_len}
-use Rattle.std.proofs.lemmas.Bool.{cases_lt}
+use Rattle.std.specs.List.{AllWithin, HoldsAt}
 use Rattle.std.proofs.lemmas.List.FromFn.{get_or-range_with_len, length-range_with_len}
 
 -- what a test of all numbers below one returns

@@ -1,12 +1,9 @@
 -- Tables with estimated sizes that are printed, or refused before the first byte.
-use Rattle.std.proofs.Common.{◌≡◌, ◌⊎◌, inl, inr, ⊎_elim, true, false, List, ℕ, [], Result, Ok, Err, IfErr, refl, sym, subst}
-use Rattle.std.specs.Result.{IsErrAnd}
-use Rattle.tabled_base.specs.declared.error.TableError.{TableError}
-use Rattle.tabled_base.specs.declared.error.TableError.TheVariants.{Memory, ShortWidths, ShortHeights, Narrow, Range, Writer}
-use Rattle.tabled_config.specs.declared.spanned.SpannedConfig.{SpannedConfig}
-use Rattle.tabled_size.specs.Sheet.{Sheet, estimated, is_empty}
-use Rattle.tabled_grid.specs.Picture.{picture, table_text}
-use Rattle.tabled_grid.specs.Printed.{Ends, IsPrintable, IsFailure, Prints}
+use Rattle.tabled_grid.proofs.Names.{Err, IfErr, IsErrAnd, IsFailure, List, Memory, Narrow, Ok, Prints, Range, Result, Sheet, ShortHeights}
+use Rattle.tabled_grid.proofs.Names.{ShortWidths, SpannedConfig, TableError, Writer, [], estimated, false, inl, inr, is_empty, picture}
+use Rattle.tabled_grid.proofs.Names.{refl, subst, sym, true, ℕ, ⊎_elim, ◌≡◌, ◌⊎◌}
+use Rattle.tabled_grid.specs.Picture.{table_text}
+use Rattle.tabled_grid.specs.Printed.{Ends, IsPrintable}
 use Rattle.tabled_line.specs.Sent.{Sends, Sent, Stops}
 use Rattle.tabled_grid.proofs.EstimatedSizes.{refused_estimated}
 use Rattle.tabled_line.proofs.Sending.{sends-none, sends-along}

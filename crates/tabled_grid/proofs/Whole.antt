@@ -1,26 +1,17 @@
 -- The columns and the lines of a whole picture.
-use Rattle.std.proofs.Common.{◌≡◌, ℕ, zero, suc, ◌+◌, ◌<◌, ◌≤◌, Bool, true, false, cond, List, [], ◌++◌, Option, Some, None, length, map, replicate, is_some, refl, ◌∙◌, ap, arith, length-append}
-use Rattle.std.specs.List.{flat_map, range_with_len, slice_index}
+use Rattle.tabled_grid.proofs.Names.{AreAdditive, Bool, EachLineTakes, Holds, HorizontalLine, IsPlainConfig, IsRectangular, List, None}
+use Rattle.tabled_grid.proofs.Names.{Option, Sheet, Some, [], ap, arith, columns, columns_of, each-more, false, fill, filled_height}
+use Rattle.tabled_grid.proofs.Names.{filled_picture, filled_width, flat_map, frame, is_empty, is_some, length, length-map-range_with_len}
+use Rattle.tabled_grid.proofs.Names.{line_columns, map, one_if, picture, plain-fill, range_with_len, refl, replicate, row_line, row_lines}
+use Rattle.tabled_grid.proofs.Names.{row_of, row_part, rule, rule_at, rule_line, slice_index, suc, sum_below, total_width, true, zero, ℕ}
+use Rattle.tabled_grid.proofs.Names.{◌++◌, ◌+◌, ◌<◌, ◌∙◌, ◌≡◌, ◌≤◌}
+use Rattle.std.proofs.Common.{cond, length-append}
 use Rattle.std.proofs.lemmas.List.{length-replicate}
 use Rattle.std.proofs.lemmas.List.Elements.{All-append, All-cons, All-nil, All-push, All-replicate, All-same}
-use Rattle.std.proofs.lemmas.List.FromFn.{length-map-range_with_len}
-use Rattle.tabled_text.specs.Measure.{line_columns}
 use Rattle.tabled_text.specs.Plain.{IsAdditiveColumn}
-use Rattle.tabled_base.specs.Cells.{IsRectangular, columns}
-use Rattle.tabled_config.specs.declared.borders.HorizontalLine.{HorizontalLine}
-use Rattle.tabled_config.specs.Settings.{frame, rule_at}
-use Rattle.tabled_size.specs.Sheet.{Sheet, is_empty}
-use Rattle.tabled_priority.specs.Sums.{sum_below, one_if}
-use Rattle.tabled_size.specs.Totals.{filled_width, filled_height, total_width, total_height, rules_at, part_height}
-use Rattle.tabled_line.specs.Fill.{fill}
-use Rattle.tabled_size.specs.Holds.{Holds}
-use Rattle.tabled_line.specs.Row.{row_line, row_lines, rule_if, rule_line}
-use Rattle.tabled_grid.specs.Picture.{columns_of, filled_picture, picture, row_of, row_part, rule}
-use Rattle.tabled_size.specs.PlainCells.{AreAdditive}
-use Rattle.tabled_line.specs.Plain.{EachLineTakes}
-use Rattle.tabled_grid.specs.PlainSheet.{IsPlainConfig}
-use Rattle.tabled_line.proofs.Each.{each-more, map-more}
-use Rattle.tabled_line.proofs.Plains.{plain-fill}
+use Rattle.tabled_size.specs.Totals.{total_height, rules_at, part_height}
+use Rattle.tabled_line.specs.Row.{rule_if}
+use Rattle.tabled_line.proofs.Each.{map-more}
 use Rattle.tabled_grid.proofs.Measuring.{IsPlainSheet, plain-row_line, plain-rule_line}
 
 abbrev Takes : ℕ → List ℕ → Type 0

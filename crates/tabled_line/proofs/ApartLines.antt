@@ -1,14 +1,12 @@
 -- The columns of the lines of a row with cells of any text.
-use Rattle.std.proofs.Common.{◌≡◌, ℕ, zero, suc, ◌+◌, ◌-◌, ◌*◌, ◌<◌, ◌≤◌, Bool, true, false, cond, List, [], ◌++◌, length, get_or, refl, sym, ◌∙◌, append_assoc, subst, arith, ⊎_elim}
-use Rattle.std.specs.List.{flat_map, range_with_len}
-use Rattle.std.specs.Str.{IsUtf8}
-use Rattle.std.proofs.lemmas.Bool.{cases_lt}
-use Rattle.std.proofs.lemmas.Option.{slice_get_cases, slice_get-get_or}
-use Rattle.tabled_text.specs.Measure.{lines_of, text_columns, line_columns}
-use Rattle.tabled_text.proofs.Bridge.{line_columns-le}
-use Rattle.tabled_text.specs.Plain.{IsAdditiveColumn}
+use Rattle.tabled_line.proofs.Names.{AlignmentHorizontal, Bool, CellStyle, ColumnSheet, Frame, IsAdditiveColumn, IsLine, IsUtf8, List}
+use Rattle.tabled_line.proofs.Names.{RowSheet, [], append_assoc, arith, before_text, block, cases_lt, cell_block, cell_line, cell_piece}
+use Rattle.tabled_line.proofs.Names.{columns_before, cond, false, fill, fill_above, flat_map, get_or, has_bar, inner_width, left_edge}
+use Rattle.tabled_line.proofs.Names.{length, line_columns, line_columns-le, line_total, lines_of, one_if, piece, range_with_len, refl}
+use Rattle.tabled_line.proofs.Names.{right_edge, row_line, slice_get-get_or, slice_get_cases, subst, suc, sum_below, sym, text_columns}
+use Rattle.tabled_line.proofs.Names.{true, zero, ℕ, ⊎_elim, ◌*◌, ◌++◌, ◌+◌, ◌-◌, ◌<◌, ◌∙◌, ◌≡◌, ◌≤◌}
 use Rattle.tabled_text.proofs.PlainLines.{plain_column-space}
-use Rattle.tabled_text.specs.FramedLines.{IsFrame, IsLine, IsSeparatorColumn}
+use Rattle.tabled_text.specs.FramedLines.{IsFrame, IsSeparatorColumn}
 use Rattle.tabled_text.proofs.LineLaws.{frame-one, frame-append, line-one, line-frame, line-each}
 use Rattle.tabled_text.proofs.Ends.{
   line-as,
@@ -31,16 +29,8 @@ use Rattle.tabled_text.proofs.Ends.{
   line-closes,
   closes-append,
 }
-use Rattle.tabled_config.specs.declared.alignment.AlignmentHorizontal.{AlignmentHorizontal}
 use Rattle.tabled_config.specs.declared.alignment.AlignmentHorizontal.TheVariants as horizontal
-use Rattle.tabled_config.specs.declared.frame.Frame.{Frame}
-use Rattle.tabled_config.specs.declared.spanned.CellStyle.{CellStyle}
-use Rattle.tabled_config.specs.Frame.{has_bar}
-use Rattle.tabled_priority.specs.Sums.{one_if, sum_below}
-use Rattle.tabled_line.specs.Apart.{ArePaddedLeft, HoldsTexts, IsApartRow, IsApartStyle, line_total}
-use Rattle.tabled_line.specs.Block.{before_text, inner_width, columns_before, cell_line, block, fill_above}
-use Rattle.tabled_line.specs.Fill.{fill}
-use Rattle.tabled_line.specs.Row.{ColumnSheet, RowSheet, cell_block, cell_piece, left_edge, piece, right_edge, row_line}
+use Rattle.tabled_line.specs.Apart.{ArePaddedLeft, HoldsTexts, IsApartRow, IsApartStyle}
 use Rattle.tabled_line.proofs.Bars.{bar-sum, later-bar}
 use Rattle.tabled_line.proofs.Blocks.{block-above, block-text, block-below}
 use Rattle.tabled_line.proofs.Joined.{each-begins, each-closes}

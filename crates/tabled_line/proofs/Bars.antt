@@ -1,12 +1,8 @@
 -- The columns of the vertical lines between columns.
-use Rattle.std.proofs.Common.{◌≡◌, ℕ, zero, suc, ◌+◌, ◌-◌, ◌*◌, ◌<◌, ◌==◌, Bool, false, cond, unwrap_or, [], ◌++◌, refl, ap, ◌∙◌, arith}
+use Rattle.tabled_line.proofs.Names.{Bool, ColumnSheet, Frame, HorizontalLine, [], ap, arith, cond, false, fill, has_bar, one_if, piece}
+use Rattle.tabled_line.proofs.Names.{refl, rule_piece, suc, sum_below, unwrap_or, zero, ℕ, ◌*◌, ◌++◌, ◌+◌, ◌-◌, ◌<◌, ◌∙◌, ◌≡◌}
+use Rattle.std.proofs.Common.{◌==◌}
 use Rattle.std.proofs.lemmas.Bool.Decides.{nat_tests}
-use Rattle.tabled_config.specs.declared.frame.Frame.{Frame}
-use Rattle.tabled_config.specs.Frame.{has_bar}
-use Rattle.tabled_config.specs.declared.borders.HorizontalLine.{HorizontalLine}
-use Rattle.tabled_priority.specs.Sums.{one_if, sum_below}
-use Rattle.tabled_line.specs.Fill.{fill}
-use Rattle.tabled_line.specs.Row.{ColumnSheet, piece, rule_piece}
 
 pub later-bar : (n : ℕ) (b : Bool) → cond (suc n == 0) false b ≡ b
 later-bar n b = grind (arith, nat_tests)

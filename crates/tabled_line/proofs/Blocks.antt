@@ -1,11 +1,10 @@
 -- The lines of a block, by their index.
-use Rattle.std.proofs.Common.{◌≡◌, ℕ, ◌+◌, ◌-◌, ◌<◌, ◌≤◌, List, [], ◌++◌, Some, None, length, take, map, replicate, get_or, slice_get, sym, ◌∙◌, ap, arith, ⊎_elim}
-use Rattle.std.proofs.lemmas.List.{get_or-append_right, get_or_append_left, get_or-map, get_or-replicate, get_or-take, length-map, length-replicate}
-use Rattle.std.proofs.lemmas.Option.{get_or_from_slice_get, slice_get_within, slice_get_cases}
-use Rattle.tabled_config.specs.declared.spanned.CellStyle.{CellStyle}
-use Rattle.tabled_line.specs.Fill.{fill}
-use Rattle.tabled_text.specs.Measure.{lines_of}
-use Rattle.tabled_line.specs.Block.{fill_above, fill_below, cell_line, block, free_lines, above_text}
+use Rattle.tabled_line.proofs.Names.{CellStyle, List, None, Some, [], above_text, ap, arith, block, cell_line, fill, fill_above, free_lines}
+use Rattle.tabled_line.proofs.Names.{get_or, get_or_append_left, get_or_from_slice_get, length, lines_of, map, replicate, slice_get}
+use Rattle.tabled_line.proofs.Names.{slice_get_cases, sym, take, ℕ, ⊎_elim, ◌++◌, ◌+◌, ◌-◌, ◌<◌, ◌∙◌, ◌≡◌, ◌≤◌}
+use Rattle.std.proofs.lemmas.List.{get_or-append_right, get_or-map, get_or-replicate, get_or-take, length-map, length-replicate}
+use Rattle.std.proofs.lemmas.Option.{slice_get_within}
+use Rattle.tabled_line.specs.Block.{fill_below}
 
 pub past_from_none : {X : Type 0} (xs : List X) (k : ℕ) → None ≡ slice_get xs k → length xs ≤ k
 past_from_none xs k e =

@@ -1,7 +1,6 @@
 -- The lines of a text of one line.
-use Rattle.std.proofs.Common.{◌≡◌, ℕ, zero, suc, ◌<◌, List, [], ◌∷◌, Some, None, length, get_or, slice_get, refl, sym, ◌∙◌, ap, arith}
-use Rattle.tabled_text.specs.Measure.{line_columns, lines_of, text_columns}
-use Rattle.tabled_text.proofs.Bridge.{lines_of-one, text_columns-one}
+use Rattle.tabled_line.proofs.Names.{List, None, Some, [], ap, arith, get_or, length, line_columns, lines_of, lines_of-one, refl, slice_get}
+use Rattle.tabled_line.proofs.Names.{suc, sym, text_columns, text_columns-one, zero, ℕ, ◌<◌, ◌∙◌, ◌∷◌, ◌≡◌}
 
 pub line-first : (text : List ℕ) (lines k : ℕ) → lines ≡ length (lines_of text) → lines ≡ 1 → k ≡ 0 → Some text ≡ slice_get (lines_of text) k
 line-first text lines k l one h =

@@ -1,6 +1,6 @@
 -- Lists that are made index by index, up to an index and from there on.
-use Rattle.std.proofs.Common.{◌≡◌, ℕ, zero, suc, ◌+◌, ◌-◌, ◌<◌, ◌≤◌, List, [], ◌∷◌, ◌++◌, map, replicate, refl, sym, ◌∙◌, ap, append-nil, zero-add, arith}
-use Rattle.std.specs.List.{flat_map, range_with_len}
+use Rattle.tabled_line.proofs.Names.{List, [], ap, append-nil, arith, flat_map, map, range_with_len, refl, replicate, suc, sym, zero}
+use Rattle.tabled_line.proofs.Names.{zero-add, ℕ, ◌++◌, ◌+◌, ◌-◌, ◌<◌, ◌∙◌, ◌∷◌, ◌≡◌, ◌≤◌}
 use Rattle.std.proofs.lemmas.List.Concat.{flat_map-append}
 
 range-append : (a m k : ℕ) → range_with_len a (m + k) ≡ range_with_len a m ++ range_with_len (a + m) k

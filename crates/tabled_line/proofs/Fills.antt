@@ -1,10 +1,8 @@
 -- Runs of one character.
-use Rattle.std.proofs.Common.{◌≡◌, ℕ, zero, suc, ◌+◌, ◌-◌, ◌<◌, ◌≤◌, List, ◌∷◌, ◌++◌, length, take, drop, encode_utf8, refl, sym, ◌∙◌, ap, append-nil, append_assoc, zero-add, suc-add, get_or, arith}
-use Rattle.std.proofs.lemmas.List.{get_or_append_left}
+use Rattle.tabled_line.proofs.Names.{IsCharBoundary, List, ap, append-nil, append_assoc, arith, drop, fill, get_or, get_or_append_left}
+use Rattle.tabled_line.proofs.Names.{length, refl, slice_range, suc, sym, take, zero, zero-add, ℕ, ◌++◌, ◌+◌, ◌-◌, ◌<◌, ◌∙◌, ◌∷◌, ◌≡◌, ◌≤◌}
+use Rattle.std.proofs.Common.{encode_utf8, suc-add}
 use Rattle.std.proofs.lemmas.Str.{IsCharBoundary-from_ascii, encode_ascii}
-use Rattle.std.specs.Str.{IsCharBoundary}
-use Rattle.std.specs.List.{slice_range}
-use Rattle.tabled_line.specs.Fill.{fill}
 
 fill-append : (c m n : ℕ) → fill c m ++ fill c n ≡ fill c (m + n)
 fill-append c zero n = ap (fill c) (sym (zero-add n))

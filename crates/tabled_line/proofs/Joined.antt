@@ -1,9 +1,7 @@
 -- Pieces of a line that stand apart, joined.
-use Rattle.std.proofs.Common.{◌≡◌, ℕ, zero, suc, ◌+◌, ◌<◌, List, sym, ap, ◌∙◌, arith, subst}
-use Rattle.std.specs.List.{flat_map, range_with_len}
-use Rattle.tabled_text.specs.FramedLines.{IsLine}
-use Rattle.tabled_text.proofs.Ends.{BeginsApart, Closes, closes-append, closes-frame, frame-nil, line-begins, line-closes, line-nil}
-use Rattle.tabled_priority.specs.Sums.{sum_below}
+use Rattle.tabled_line.proofs.Names.{IsLine, List, ap, arith, flat_map, line-nil, range_with_len, subst, suc, sum_below, sym, zero, ℕ, ◌+◌}
+use Rattle.tabled_line.proofs.Names.{◌<◌, ◌∙◌, ◌≡◌}
+use Rattle.tabled_text.proofs.Ends.{BeginsApart, Closes, closes-append, closes-frame, frame-nil, line-begins, line-closes}
 use Rattle.tabled_line.proofs.Each.{each-more}
 
 -- pieces of which each but the first begins apart

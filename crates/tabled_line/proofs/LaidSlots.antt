@@ -1,16 +1,13 @@
 -- Rows whose texts are laid where the cells stand.
-use Rattle.std.proofs.Common.{◌≡◌, ℕ, zero, suc, ◌+◌, ◌-◌, ◌<◌, ◌≤◌, List, ◌++◌, length, get_or, take, drop, refl, sym, ◌∙◌, ap, subst, arith}
-use Rattle.std.specs.Str.{IsUtf8}
-use Rattle.std.proofs.lemmas.List.FromFn.{get_or-map-range_with_len, length-map-range_with_len}
-use Rattle.tabled_line.specs.Fill.{fill}
+use Rattle.tabled_line.proofs.Names.{ColumnSheet, IsUtf8, List, PlacedText, RowSheet, Slot, StandsAt, ap, arith, blank_row, block_line}
+use Rattle.tabled_line.proofs.Names.{drop, fill, first_offset, get_or, get_or-map-range_with_len, length, length-map-range_with_len}
+use Rattle.tabled_line.proofs.Names.{offset_at, piece, refl, row_line, slot_at, subst, suc, sym, take, zero, ℕ, ◌++◌, ◌+◌, ◌-◌, ◌<◌, ◌∙◌}
+use Rattle.tabled_line.proofs.Names.{◌≡◌, ◌≤◌}
 use Rattle.tabled_line.specs.Offsets.{offset_from}
-use Rattle.tabled_line.specs.Row.{ColumnSheet, RowSheet, block_line, piece, row_line}
-use Rattle.tabled_line.specs.BlankRow.{StandsAt, blank_row, first_offset}
-use Rattle.tabled_line.specs.Slots.{AreSlots, IsTextAt, offset_at, slot_at}
+use Rattle.tabled_line.specs.Slots.{AreSlots, IsTextAt}
 use Rattle.tabled_line.specs.PlacedText.{IsSpacedLine}
-use Rattle.tabled_line.specs.declared.placement.PlacedText.{PlacedText}
-use Rattle.tabled_line.specs.declared.row_template.Slot.{Slot}
-use Rattle.tabled_line.proofs.Laying.{IsLaid, behind-spaces, blank-cell, blank_from, cell-parts, front, laid-all, laid-begins, laid-length, laid-more, laid-next, laid-none, laid-stands, laid-utf8, lay-text, stands-inside, stands-long}
+use Rattle.tabled_line.proofs.Laying.{IsLaid, behind-spaces, blank-cell, blank_from, cell-parts, front, laid-all, laid-begins, laid-length}
+use Rattle.tabled_line.proofs.Laying.{laid-more, laid-next, laid-none, laid-stands, laid-utf8, lay-text, stands-inside, stands-long}
 
 -- ---- the slots
 

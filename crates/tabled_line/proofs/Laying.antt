@@ -1,14 +1,13 @@
 -- Rows that are laid over a blank one.
-use Rattle.std.proofs.Common.{◌≡◌, ℕ, suc, ◌+◌, ◌-◌, ◌<◌, ◌≤◌, List, [], ◌∷◌, ◌++◌, length, get_or, take, drop, refl, sym, ◌∙◌, ap, subst, append-nil, append_assoc, arith, lit<}
-use Rattle.std.specs.List.{flat_map, range_with_len}
-use Rattle.std.proofs.Math.Seq.{take-append_seam, drop-append-add, drop-append_seam}
-use Rattle.std.specs.Str.{IsCharBoundary, IsUtf8}
-use Rattle.std.proofs.lemmas.List.{get_or-append-add, length-append, take-append-drop}
-use Rattle.std.proofs.lemmas.Str.{IsCharBoundary-after_ascii, IsCharBoundary-before_ascii, IsUtf8-append, IsUtf8-drop, IsUtf8-take}
-use Rattle.tabled_config.specs.Frame.{has_bar}
-use Rattle.tabled_line.specs.Fill.{fill}
-use Rattle.tabled_line.specs.BlankRow.{StandsAt, blank_line, blank_row, first_offset}
-use Rattle.tabled_line.specs.Row.{ColumnSheet, RowSheet, cell_piece, block_line, left_edge, piece, right_edge, row_line, rule_line, rule_piece}
+use Rattle.tabled_line.proofs.Names.{ColumnSheet, IsCharBoundary, IsCharBoundary-after_ascii, IsCharBoundary-before_ascii, IsUtf8}
+use Rattle.tabled_line.proofs.Names.{IsUtf8-append, IsUtf8-drop, List, RowSheet, StandsAt, [], ap, append-nil, append_assoc, arith}
+use Rattle.tabled_line.proofs.Names.{blank_row, block_line, cell_piece, drop, fill, first_offset, flat_map, get_or, get_or-append-add}
+use Rattle.tabled_line.proofs.Names.{has_bar, left_edge, length, length-append, lit<, piece, range_with_len, refl, right_edge, row_line}
+use Rattle.tabled_line.proofs.Names.{rule_line, rule_piece, subst, suc, sym, take, take-append-drop, take-append_seam, ℕ, ◌++◌, ◌+◌, ◌-◌}
+use Rattle.tabled_line.proofs.Names.{◌<◌, ◌∙◌, ◌∷◌, ◌≡◌, ◌≤◌}
+use Rattle.std.proofs.Math.Seq.{drop-append-add, drop-append_seam}
+use Rattle.std.proofs.lemmas.Str.{IsUtf8-take}
+use Rattle.tabled_line.specs.BlankRow.{blank_line}
 use Rattle.tabled_line.proofs.Bars.{later-bar}
 use Rattle.tabled_line.proofs.Each.{each-more}
 use Rattle.tabled_line.proofs.Fills.{fill-first_bytes, fill-length, fill-parts}

@@ -1,11 +1,10 @@
 -- Lines that are printed one after another.
-use Rattle.std.proofs.Common.{◌≡◌, ℕ, Bool, true, false, List, [], ◌∷◌, ◌++◌, Result, Ok, Err, refl, sym, ◌∙◌, ap, subst, append-nil, append_assoc}
+use Rattle.tabled_line.proofs.Names.{Bool, Err, IsErrAnd, LineSends, List, Ok, Result, Sends, Sent, Stops, TableError, Writes, WritesLines}
+use Rattle.tabled_line.proofs.Names.{[], ap, append-nil, append_assoc, break, false, lines_after, refl, subst, sym, true, ℕ, ◌++◌, ◌∙◌, ◌∷◌}
+use Rattle.tabled_line.proofs.Names.{◌≡◌}
 use Rattle.std.specs.List.{join_with_byte}
-use Rattle.std.specs.Result.{IsErrAnd}
-use Rattle.tabled_base.specs.declared.error.TableError.{TableError}
-use Rattle.tabled_line.specs.Sent.{Sent, Sends, Stops, Writes}
 use Rattle.tabled_line.proofs.Sending.{further, finished, stopped-first, sends-none, stops-more, stops-then}
-use Rattle.tabled_line.specs.Leading.{break, lines_after, begun_after, LineSends, LineStops, WritesLines}
+use Rattle.tabled_line.specs.Leading.{begun_after, LineStops}
 
 after-true : (xs : List (List ℕ)) → begun_after true xs ≡ true
 after-true [] = refl

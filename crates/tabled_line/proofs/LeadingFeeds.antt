@@ -1,12 +1,8 @@
 -- Lines that go out in one piece with the line feed before them.
-use Rattle.std.proofs.Common.{◌≡◌, ℕ, ◌-◌, ◌<◌, Bool, true, List, [], ◌∷◌, ◌++◌, Result, Ok, Err, length, suc, drop, get_or, refl, sym, ◌∙◌, ap, subst, append-nil, arith, lit<}
+use Rattle.tabled_line.proofs.Names.{Bool, Err, IsCharBoundary, IsCharBoundary-after_ascii, IsUtf8, IsUtf8-append, IsUtf8-drop, List, Ok}
+use Rattle.tabled_line.proofs.Names.{Result, Sent, Stops, TableError, Writes, WritesLines, [], ap, append-nil, arith, break, common_steps}
+use Rattle.tabled_line.proofs.Names.{drop, get_or, length, lines_after, lit<, refl, subst, suc, sym, true, ℕ, ◌++◌, ◌-◌, ◌<◌, ◌∙◌, ◌∷◌, ◌≡◌}
 use borrow.Rule.Slice.PartMut.{mid_of}
-use Rattle.std.proofs.lemmas.Grind.{common_steps}
-use Rattle.std.specs.Str.{IsCharBoundary, IsUtf8}
-use Rattle.std.proofs.lemmas.Str.{IsCharBoundary-after_ascii, IsUtf8-append, IsUtf8-drop}
-use Rattle.tabled_base.specs.declared.error.TableError.{TableError}
-use Rattle.tabled_line.specs.Leading.{WritesLines, break, lines_after}
-use Rattle.tabled_line.specs.Sent.{Sent, Stops, Writes}
 use Rattle.tabled_line.proofs.Sending.{sends-along}
 
 -- a line that went out with what leads to it

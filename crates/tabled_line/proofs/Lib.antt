@@ -1,3 +1,4 @@
+pub mod Names
 pub mod PlacementFacts
 pub mod ApartLines
 pub mod Bars

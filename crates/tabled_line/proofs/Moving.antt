@@ -1,5 +1,5 @@
 -- Cursors in lists of lines.
-use Rattle.std.proofs.Common.{◌≡◌, ℕ, zero, suc, ◌+◌, List, [], ◌∷◌, Some, None, drop, slice_get, refl, ap, ◌∙◌, arith}
+use Rattle.tabled_line.proofs.Names.{List, None, Some, [], ap, arith, drop, refl, slice_get, suc, zero, ℕ, ◌+◌, ◌∙◌, ◌∷◌, ◌≡◌}
 
 pub line-at : (ls : List (List ℕ)) (i : ℕ) (l : List ℕ) (rest : List (List ℕ)) → l ∷ rest ≡ drop i ls → Some l ≡ slice_get ls i
 line-at [] zero l rest h = cc

@@ -1,10 +1,7 @@
 -- Texts that go out one after another, of which the spaces at the end are still to come.
-use Rattle.std.proofs.Common.{◌≡◌, ℕ, List, [], ◌++◌, Result, Ok, Err, sym, ◌∙◌, ap, append-nil, append_assoc}
-use Rattle.std.specs.Result.{IsErrAnd}
-use Rattle.tabled_base.specs.declared.error.TableError.{TableError}
-use Rattle.tabled_line.specs.Fill.{fill}
-use Rattle.tabled_line.specs.Sent.{Sent, Sends, Stops, Writes}
-use Rattle.tabled_line.specs.SendsBut.{SendsBut, WritesBut}
+use Rattle.tabled_line.proofs.Names.{Err, IsErrAnd, List, Ok, Result, Sends, SendsBut, Sent, Stops, TableError, Writes, [], ap, append-nil}
+use Rattle.tabled_line.proofs.Names.{append_assoc, fill, sym, ℕ, ◌++◌, ◌∙◌, ◌≡◌}
+use Rattle.tabled_line.specs.SendsBut.{WritesBut}
 use Rattle.tabled_line.proofs.Sending.{finished, sends-none, sends-then, stopped}
 
 -- nothing went out, and nothing is to come

@@ -1,10 +1,8 @@
 -- What is kept of where cells begin and their texts stand.
-use Rattle.std.proofs.Common.{◌≡◌, ◌<◌, ℕ, List, ap, arith, get_or, length, ◌∙◌}
-use Rattle.std.proofs.lemmas.List.FromFn.{get_or-map-range_with_len, length-map-range_with_len}
+use Rattle.tabled_line.proofs.Names.{CellStyle, ColumnSheet, List, ap, arith, get_or, get_or-map-range_with_len, length}
+use Rattle.tabled_line.proofs.Names.{length-map-range_with_len, ℕ, ◌<◌, ◌∙◌, ◌≡◌}
 use Rattle.tabled_config.specs.declared.alignment.AlignmentHorizontal.TheVariants.{Left}
-use Rattle.tabled_config.specs.declared.spanned.CellStyle.{CellStyle}
 use Rattle.tabled_line.specs.Placements.{ArePlacements, cell_placement}
-use Rattle.tabled_line.specs.Row.{ColumnSheet}
 use Rattle.tabled_line.specs.declared.placement.CellPlacement.{CellPlacement}
 
 -- as many as columns

@@ -1,10 +1,6 @@
 -- The pieces of a cell whose text stands between spaces.
-use Rattle.std.proofs.Common.{◌≡◌, ℕ, List, ◌++◌, ◌∙◌, ap, append_assoc}
-use Rattle.tabled_config.specs.Frame.{has_bar}
-use Rattle.tabled_line.specs.Fill.{fill}
-use Rattle.tabled_line.specs.Row.{RowSheet, cell_piece, piece}
+use Rattle.tabled_line.proofs.Names.{List, PlacedText, RowSheet, ap, append_assoc, cell_piece, fill, has_bar, piece, ℕ, ◌++◌, ◌∙◌, ◌≡◌}
 use Rattle.tabled_line.specs.PlacedText.{IsPlacedText}
-use Rattle.tabled_line.specs.declared.placement.PlacedText.{PlacedText}
 
 -- spaces and the cell: the spaces, the vertical line and the spaces before the text, the text, and the spaces behind it
 pub spaced-parts : (row : RowSheet) (index column : ℕ) (placed : PlacedText) (n : ℕ) → IsPlacedText row index column placed

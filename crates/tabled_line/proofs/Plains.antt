@@ -1,16 +1,10 @@
 -- The columns of plain pieces, and of horizontal lines that are made of them.
-use Rattle.std.proofs.Common.{◌≡◌, ℕ, zero, suc, ◌+◌, ◌-◌, ◌*◌, ◌<◌, Bool, true, false, List, unwrap_or, sym, ◌∙◌, ap, subst, arith}
-use Rattle.std.specs.List.{flat_map, range_with_len}
-use Rattle.tabled_text.specs.Plain.{IsAdditiveColumn, IsAdditiveLine}
+use Rattle.tabled_line.proofs.Names.{Bool, ColumnSheet, Frame, HorizontalLine, IsAdditiveColumn, List, ap, arith, false, fill, flat_map}
+use Rattle.tabled_line.proofs.Names.{has_bar, left_edge, line_total, one_if, piece, range_with_len, right_edge, rule_line, rule_piece}
+use Rattle.tabled_line.proofs.Names.{subst, suc, sum_below, sym, true, unwrap_or, zero, ℕ, ◌*◌, ◌+◌, ◌-◌, ◌<◌, ◌∙◌, ◌≡◌}
+use Rattle.tabled_text.specs.Plain.{IsAdditiveLine}
 use Rattle.tabled_text.proofs.PlainLines.{plain_line-nil, plain_line-append, plain_line-as, plain_line-one}
-use Rattle.tabled_config.specs.declared.borders.HorizontalLine.{HorizontalLine}
-use Rattle.tabled_config.specs.declared.frame.Frame.{Frame}
-use Rattle.tabled_config.specs.Frame.{has_bar}
-use Rattle.tabled_priority.specs.Sums.{one_if, sum_below}
-use Rattle.tabled_line.specs.Apart.{line_total}
-use Rattle.tabled_line.specs.Fill.{fill}
 use Rattle.tabled_line.specs.Plain.{IsPlainRule}
-use Rattle.tabled_line.specs.Row.{ColumnSheet, left_edge, piece, right_edge, rule_line, rule_piece}
 use Rattle.tabled_line.proofs.Bars.{bar-sum}
 use Rattle.tabled_line.proofs.Each.{each-more}
 

@@ -1,12 +1,10 @@
 -- Texts that are sent one after another.
-use Rattle.std.proofs.Common.{◌≡◌, ℕ, ◌≤◌, Bool, List, [], ◌++◌, take, drop, is_ok, true, false, Option, Some, None, Result, Ok, Err, refl, sym, ◌∙◌, ap, subst, append-nil, append_assoc, arith, inl, inr, ⊎_elim}
-use Rattle.std.proofs.lemmas.Grind.{common_steps}
-use Rattle.std.proofs.lemmas.List.{take-append-drop}
-use Rattle.std.specs.Io.KnownBytes.{Appends, Keeps}
-use Rattle.std.specs.Result.{IsErrAnd}
-use Rattle.tabled_line.specs.Sent.{Sent, Sends, Stops, Took, Rose, IsCause, Writes}
-use Rattle.tabled_base.specs.declared.error.TableError.{TableError}
-use Rattle.tabled_base.specs.declared.error.TableError.TheVariants.{Memory, ShortWidths, ShortHeights, Narrow, Range, Writer}
+use Rattle.tabled_line.proofs.Names.{Appends, Bool, Err, IsErrAnd, Keeps, List, Memory, Narrow, None, Ok, Option, Range, Result, Sends}
+use Rattle.tabled_line.proofs.Names.{Sent, ShortHeights, ShortWidths, Some, Stops, TableError, Took, Writer, Writes, [], ap, append-nil}
+use Rattle.tabled_line.proofs.Names.{append_assoc, arith, common_steps, drop, false, inl, inr, refl, subst, sym, take, take-append-drop}
+use Rattle.tabled_line.proofs.Names.{true, ℕ, ⊎_elim, ◌++◌, ◌∙◌, ◌≡◌, ◌≤◌}
+use Rattle.std.proofs.Common.{is_ok}
+use Rattle.tabled_line.specs.Sent.{Rose, IsCause}
 
 pub Appends-nil : (a b : Option (List ℕ)) → Keeps a b → Appends a b []
 Appends-nil None b h = tt

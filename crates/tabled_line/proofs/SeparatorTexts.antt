@@ -1,11 +1,8 @@
 -- Parts of the text that stands between the texts of two columns.
-use Rattle.std.proofs.Common.{◌≡◌, ℕ, ◌+◌, ◌-◌, ◌<◌, ◌≤◌, List, [], ◌++◌, length, take, drop, get_or, refl, sym, ◌∙◌, ap, append_assoc, append-nil, arith, lit<}
-use Rattle.std.specs.List.{slice_range}
-use Rattle.std.proofs.Math.Seq.{take-append_seam}
-use Rattle.std.proofs.lemmas.List.{get_or-append-add, length-append}
+use Rattle.tabled_line.proofs.Names.{List, [], ap, append-nil, append_assoc, arith, drop, fill, get_or, get_or-append-add, length}
+use Rattle.tabled_line.proofs.Names.{length-append, lit<, piece, refl, separator_text, slice_range, sym, take, take-append_seam, ℕ, ◌++◌}
+use Rattle.tabled_line.proofs.Names.{◌+◌, ◌-◌, ◌<◌, ◌∙◌, ◌≡◌, ◌≤◌}
 use Rattle.tabled_config.specs.declared.frame.VerticalLine.{VerticalLine}
-use Rattle.tabled_line.specs.Fill.{fill}
-use Rattle.tabled_line.specs.Row.{piece, separator_text}
 use Rattle.tabled_line.proofs.Fills.{fill-add, fill-drop, fill-first_bytes, fill-length}
 
 pub separator-length : (bar : VerticalLine) (behind before : ℕ) → length (separator_text bar behind before) ≡ behind + (length (piece bar.there bar.main) + before)

@@ -1,24 +1,17 @@
 -- Texts that stand between spaces.
-use Rattle.std.proofs.Common.{◌≡◌, ℕ, ◌+◌, ◌-◌, ◌<◌, ◌≤◌, Bool, true, false, cond, List, [], ◌++◌, Some, length, slice_get, refl, subst, sym, ◌∙◌, ap, append_assoc, arith, inl, inr}
-use Rattle.std.specs.List.{slice_index_or}
-use Rattle.std.proofs.lemmas.Bool.{cases_lt}
-use Rattle.std.proofs.lemmas.List.{get_or_past}
-use Rattle.std.proofs.lemmas.Option.{slice_get-get_or, slice_get_past}
-use Rattle.tabled_text.specs.Measure.{line_columns, lines_of, text_columns}
-use Rattle.tabled_text.proofs.Bridge.{line_columns-le, some_line}
-use Rattle.tabled_text.proofs.Ends.{line-nil}
+use Rattle.tabled_line.proofs.Names.{AlignmentHorizontal, Bool, CellStyle, IsTop, List, RowSheet, Some, [], above_text, ap, append_assoc}
+use Rattle.tabled_line.proofs.Names.{arith, before_text, block_line, cases_lt, cell_line, columns_before, cond, false, fill, fill_above}
+use Rattle.tabled_line.proofs.Names.{free_lines, get_or_past, indent, inl, inner_width, inr, length, line-nil, line_columns}
+use Rattle.tabled_line.proofs.Names.{line_columns-le, lines_of, refl, slice_get, slice_get-get_or, slice_get_past, slice_index_or, subst}
+use Rattle.tabled_line.proofs.Names.{sym, text_columns, true, ℕ, ◌++◌, ◌+◌, ◌-◌, ◌<◌, ◌∙◌, ◌≡◌, ◌≤◌}
+use Rattle.tabled_text.proofs.Bridge.{some_line}
 use Rattle.tabled_config.specs.declared.sides.Indent.{Indent}
-use Rattle.tabled_config.specs.declared.alignment.AlignmentHorizontal.{AlignmentHorizontal}
 use Rattle.tabled_config.specs.declared.alignment.AlignmentHorizontal.TheVariants as horizontal
 use Rattle.tabled_config.specs.declared.alignment.AlignmentVertical.{AlignmentVertical}
 use Rattle.tabled_config.specs.declared.alignment.AlignmentVertical.TheVariants as vertical
-use Rattle.tabled_config.specs.declared.spanned.CellStyle.{CellStyle}
 use Rattle.tabled_line.specs.Placements.{IsSpaced}
-use Rattle.tabled_line.specs.Block.{above_text, before_text, cell_line, columns_before, fill_above, free_lines, inner_width}
 use Rattle.tabled_line.specs.Cursors.{IsTextLine}
-use Rattle.tabled_line.specs.Fill.{fill, indent}
-use Rattle.tabled_line.specs.Row.{RowSheet, block_line}
-use Rattle.tabled_line.specs.RowLines.{IsCellText, IsTop}
+use Rattle.tabled_line.specs.RowLines.{IsCellText}
 use Rattle.tabled_line.specs.declared.cursor.TextLine.{TextLine}
 use Rattle.tabled_line.proofs.Blocks.{block-below, block-text}
 use Rattle.tabled_line.proofs.Fills.{fill-add}

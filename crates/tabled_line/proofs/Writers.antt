@@ -1,11 +1,10 @@
 -- What a call that prints to the sink of a borrowed writer says of the writer.
-use Rattle.std.proofs.Common.{◌≡◌, ℕ, ◌<◌, ◌≤◌, true, false, List, [], ◌∷◌, ◌++◌, length, take, Option, Some, None, Result, Ok, Err, refl, sym, ◌∙◌, ap, subst, append-nil, append_assoc, arith, inl, inr, ⊎_elim}
+use Rattle.tabled_line.proofs.Names.{Appends, Err, Keeps, List, Memory, Narrow, None, Ok, Option, Range, Result, Sends, Sent, ShortHeights}
+use Rattle.tabled_line.proofs.Names.{ShortWidths, Some, Stops, TableError, Took, Writer, [], ap, append-nil, append_assoc, arith, false}
+use Rattle.tabled_line.proofs.Names.{inl, inr, length, named_sent, refl, subst, sym, take, true, ℕ, ⊎_elim, ◌++◌, ◌<◌, ◌∙◌, ◌∷◌, ◌≡◌, ◌≤◌}
 use Rattle.std.specs.Prelude.{MatchResult, slice_index_or}
-use Rattle.std.specs.Io.KnownBytes.{Appends, Keeps, append_known}
-use Rattle.tabled_base.specs.declared.error.TableError.{TableError}
-use Rattle.tabled_base.specs.declared.error.TableError.TheVariants.{Memory, ShortWidths, ShortHeights, Narrow, Range, Writer}
-use Rattle.tabled_line.specs.Sent.{Sent, Sends, Stops, Took}
-use Rattle.tabled_line.specs.WriterSent.{failed_byte, known_since, named_sent, writer_after, writer_before}
+use Rattle.std.specs.Io.KnownBytes.{append_known}
+use Rattle.tabled_line.specs.WriterSent.{failed_byte, known_since, writer_after, writer_before}
 
 -- ---- while a text is handed over
 

@@ -1,18 +1,12 @@
 -- The columns of the lines of a block of any text.
-use Rattle.std.proofs.Common.{ℕ, zero, suc, ◌+◌, ◌-◌, ◌<◌, ◌≤◌, List, length, get_or, append-nil, refl, sym, subst, arith, []}
-use Rattle.std.specs.Str.{IsUtf8}
-use Rattle.tabled_text.specs.Measure.{lines_of, text_columns, line_columns}
-use Rattle.tabled_text.proofs.Bridge.{line_columns-le}
-use Rattle.tabled_text.proofs.PlainLines.{plain_column-space}
-use Rattle.tabled_text.specs.FramedLines.{IsFrame, IsLine, IsSeparatorColumn}
-use Rattle.tabled_text.proofs.LineLaws.{frame-append, frame-one, line-each, line-frame, line-framed}
-use Rattle.tabled_text.proofs.Ends.{closes-append, closes-frame, closes-framed, frame-as, frame-nil, line-as, opens-append, opens-frame, Closes, Opens}
-use Rattle.tabled_config.specs.declared.spanned.CellStyle.{CellStyle}
-use Rattle.tabled_line.specs.Block.{inner_width, columns_before, cell_line}
-use Rattle.tabled_line.specs.Fill.{fill}
-use Rattle.tabled_pool.specs.Block.{pool_block, text_line, without_sides}
-use Rattle.tabled_pool.specs.Characters.{EachFill}
-use Rattle.tabled_pool.specs.Colours.{coloured, no_mark}
+use Rattle.tabled_pool.proofs.Names.{CellStyle, Closes, EachFill, IsLine, IsSeparatorColumn, IsUtf8, List, [], append-nil, arith, cell_line}
+use Rattle.tabled_pool.proofs.Names.{closes-append, closes-frame, closes-framed, coloured, columns_before, fill, frame-nil, frame-one}
+use Rattle.tabled_pool.proofs.Names.{get_or, inner_width, length, line-frame, line-framed, line_columns, line_columns-le, lines_of, no_mark}
+use Rattle.tabled_pool.proofs.Names.{plain_column-space, pool_block, refl, subst, suc, sym, text_columns, text_line, without_sides, zero, ℕ}
+use Rattle.tabled_pool.proofs.Names.{◌+◌, ◌-◌, ◌<◌, ◌≤◌}
+use Rattle.tabled_text.specs.FramedLines.{IsFrame}
+use Rattle.tabled_text.proofs.LineLaws.{frame-append, line-each}
+use Rattle.tabled_text.proofs.Ends.{frame-as, line-as, opens-append, opens-frame, Opens}
 use Rattle.tabled_pool.proofs.PoolBlocks.{each_line}
 use Rattle.tabled_pool.proofs.PlainBlocks.{bare, columns_before-fits}
 

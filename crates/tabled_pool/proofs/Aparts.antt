@@ -1,20 +1,10 @@
 -- Trees of any texts that settings keep apart are drawable.
-use Rattle.std.proofs.Common.{◌≡◌, ℕ, suc, ◌+◌, ◌-◌, ◌<◌, true, List, [], ◌++◌, Some, get_or, sym, ap, ◌∙◌, subst, arith}
-use Rattle.std.specs.Str.{IsUtf8}
-use Rattle.tabled_text.specs.FramedLines.{IsLine, IsSeparatorColumn}
-use Rattle.tabled_text.proofs.LineLaws.{frame-one, line-frame}
-use Rattle.tabled_text.proofs.Ends.{begins-frame, closes-append, closes-frame, closes-framed, frame-nil, line-begins, line-closes}
-use Rattle.tabled_text.proofs.Ends.{line-nil, opens-begins, Closes}
+use Rattle.tabled_pool.proofs.Names.{Bar, BoxSpacing, Closes, DrawingPlan, IsLine, IsSeparatorColumn, IsUtf8, Kind, Leaf, List, Part}
+use Rattle.tabled_pool.proofs.Names.{Rectangle, Rule, Some, [], ap, arith, border_char, closes-append, closes-frame, closes-framed}
+use Rattle.tabled_pool.proofs.Names.{frame-nil, frame-one, get_or, is_border_before, is_line, is_line_kind, leaf_line, line-frame, owner}
+use Rattle.tabled_pool.proofs.Names.{pool_block, subst, suc, sym, true, ℕ, ◌++◌, ◌+◌, ◌-◌, ◌<◌, ◌∙◌, ◌≡◌}
+use Rattle.tabled_text.proofs.Ends.{begins-frame, line-begins, line-closes, line-nil, opens-begins}
 use Rattle.tabled_line.proofs.Joined.{IsClosedLine}
-use Rattle.tabled_pool.specs.declared.sizes.BoxSpacing.{BoxSpacing}
-use Rattle.tabled_pool.specs.declared.pieces.Kind.{Kind}
-use Rattle.tabled_pool.specs.declared.pieces.Kind.TheVariants.{Leaf, Bar, Rule}
-use Rattle.tabled_pool.specs.declared.pieces.Rectangle.{Rectangle}
-use Rattle.tabled_pool.specs.Boxes.{Part, is_line_kind}
-use Rattle.tabled_pool.specs.Block.{pool_block, leaf_line}
-use Rattle.tabled_pool.specs.Plan.{DrawingPlan}
-use Rattle.tabled_pool.specs.Drawn.{border_char}
-use Rattle.tabled_pool.specs.Owner.{owner, is_border_before, is_line}
 use Rattle.tabled_pool.proofs.ApartBlocks.{held-block, separator-space, IsBlockLine}
 use Rattle.tabled_pool.proofs.Bare.{around-bare}
 use Rattle.tabled_pool.proofs.Characters.{char-kind}

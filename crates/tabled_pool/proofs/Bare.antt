@@ -1,16 +1,13 @@
 -- Without colours nothing stands around a character.
-use Rattle.std.proofs.Common.{◌≡◌, ℕ, ◌+◌, ◌==◌, Bool, true, false, cond, List, [], ◌∷◌, Option, Some, None, unwrap_or, refl, sym, ap, subst}
-use Rattle.tabled_config.specs.Frame.{has_left}
-use Rattle.tabled_pool.specs.declared.pieces.Rectangle.{Rectangle}
-use Rattle.tabled_pool.specs.Boxes.{Part, is_line_kind}
-use Rattle.tabled_pool.specs.Marks.{Around, alone, begun, ended, nothing_around, used_after}
-use Rattle.tabled_pool.specs.Colours.{Mark, is_same, no_mark}
-use Rattle.tabled_pool.specs.Plan.{DrawingPlan, has_top}
-use Rattle.tabled_pool.specs.declared.color_marks.RunSide.{RunSide}
-use Rattle.tabled_pool.specs.declared.color_marks.RunSide.TheVariants.{Before, Inside, Behind, Outside}
-use Rattle.tabled_pool.specs.Around.{across, around_at, around_part, around_text, beside, is_last_column, is_last_row, main_around}
-use Rattle.tabled_pool.specs.Around.{right_around, run_side, used_main, written_corner}
-use Rattle.tabled_pool.specs.Uncoloured.{AreNoMarks, IsNoMark}
+use Rattle.tabled_pool.proofs.Names.{AreNoMarks, Around, Before, Behind, Bool, DrawingPlan, List, Mark, None, Option, Outside, Part}
+use Rattle.tabled_pool.proofs.Names.{Rectangle, RunSide, Some, [], across, ap, around_at, around_part, around_text, beside, cond, false}
+use Rattle.tabled_pool.proofs.Names.{has_left, has_top, is_last_row, is_line_kind, no_mark, nothing_around, refl, run_side, subst, sym}
+use Rattle.tabled_pool.proofs.Names.{true, unwrap_or, ℕ, ◌+◌, ◌==◌, ◌∷◌, ◌≡◌}
+use Rattle.tabled_pool.specs.Marks.{alone, begun, ended, used_after}
+use Rattle.tabled_pool.specs.Colours.{is_same}
+use Rattle.tabled_pool.specs.declared.color_marks.RunSide.TheVariants.{Inside}
+use Rattle.tabled_pool.specs.Around.{is_last_column, main_around, right_around, used_main, written_corner}
+use Rattle.tabled_pool.specs.Uncoloured.{IsNoMark}
 
 -- ---- empty colours
 

@@ -1,23 +1,13 @@
 -- Each text of a framed tree stands behind a line, where one stands between boxes side by side and at the left.
-use Rattle.std.proofs.Common.{◌≡◌, ℕ, zero, suc, ◌+◌, ◌-◌, ◌<◌, ◌≤◌, true, List, [], ◌∷◌, ◌++◌, Option, Some, None, map}
-use Rattle.std.proofs.Common.{length, refl, sym, ap, ◌∙◌, subst, arith, ⊎_elim, ◌⊎◌, inl, inr, string_bytes}
-use Rattle.tabled_config.specs.declared.sides.Sides.{Sides}
-use Rattle.tabled_pool.specs.declared.sizes.BoxSpacing.{BoxSpacing}
-use Rattle.tabled_pool.specs.declared.pieces.Rectangle.{Rectangle}
-use Rattle.tabled_pool.specs.declared.pieces.Kind.TheVariants.{Leaf, Bar, Rule}
-use Rattle.tabled_pool.specs.declared.tree.TableValue.{TableValue}
-use Rattle.tabled_pool.specs.declared.tree.TableValue.TheOpen.{Row, Column, Cell}
-use Rattle.tabled_pool.specs.declared.tree.TableValue.TheFolds.{fold-roll-TableValue, ind-TableValue, map-TableValue}
-use Rattle.tabled_pool.specs.declared.tree.TableValue.TheViews.{roll-TableValue}
-use Rattle.tabled_pool.specs.declared.sizes.Direction.{Direction}
-use Rattle.tabled_pool.specs.declared.sizes.Direction.TheVariants.{Across, Down}
-use Rattle.tabled_pool.specs.Boxes.{Part, Box, part_of, left_part, right_part, top_part, bottom_part, given_size, needed_by, joined_box}
-use Rattle.tabled_pool.specs.Boxes.{leaf_box, list_box, box_step, box_of, is_line_kind}
-use Rattle.tabled_pool.specs.Tiling.{framed, within, covering, Tiles}
+use Rattle.tabled_pool.proofs.Names.{Across, Bar, Box, BoxSpacing, Cell, Column, Direction, Down, Leaf, List, None, Option, Part, Rectangle}
+use Rattle.tabled_pool.proofs.Names.{Row, Rule, Sides, Some, TableValue, Tiles, [], ap, arith, bottom_part, box_of, box_step, covering}
+use Rattle.tabled_pool.proofs.Names.{fold-roll-TableValue, framed, given_size, ind-TableValue, inl, inr, is_border_before, is_line}
+use Rattle.tabled_pool.proofs.Names.{is_line_kind, joined_box, leaf_box, left_part, length, list_box, map, map-TableValue, needed_by, owner}
+use Rattle.tabled_pool.proofs.Names.{part_of, refl, right_part, roll-TableValue, string_bytes, subst, suc, sym, top_part, true, within}
+use Rattle.tabled_pool.proofs.Names.{zero, ℕ, ⊎_elim, ◌++◌, ◌+◌, ◌-◌, ◌<◌, ◌∙◌, ◌∷◌, ◌≡◌, ◌≤◌, ◌⊎◌}
 use Rattle.tabled_pool.proofs.Framing.{tree_framed_tiles}
 use Rattle.tabled_pool.proofs.Directions.{shares}
 use Rattle.tabled_pool.proofs.Tiling.{covering-append, joined-tiles, list_box-tiles, tree-tiles, AllTile}
-use Rattle.tabled_pool.specs.Owner.{owner, is_border_before, is_line}
 use Rattle.tabled_pool.proofs.Owners.{inside-within, within-inside, within-le, owner-inside, owner-here, owner-behind, counted, is-1}
 
 -- ---- the owner of a place in two lists of parts

@@ -1,9 +1,9 @@
 -- The lines of a block, one after another.
-use Rattle.std.proofs.Common.{◌≡◌, ℕ, ◌+◌, ◌<◌, List, [], ◌∷◌, ◌++◌, length, map, take, drop, slice_index_or, append_assoc, ap, sym, ◌∙◌, refl, add-one}
-use Rattle.std.proofs.lemmas.List.{map-append, take_more, take-append-drop}
-use Rattle.std.specs.List.{flat_map, range_with_len}
-use Rattle.tabled_line.proofs.Each.{each-more, map-more}
-use Rattle.std.proofs.Math.Seq.{drop-cons}
+use Rattle.tabled_pool.proofs.Names.{List, [], add-one, ap, append_assoc, drop, drop-cons, each-more, flat_map, length, map, map-append}
+use Rattle.tabled_pool.proofs.Names.{range_with_len, refl, sym, take, ℕ, ◌++◌, ◌+◌, ◌<◌, ◌∙◌, ◌∷◌, ◌≡◌}
+use Rattle.std.proofs.Common.{slice_index_or}
+use Rattle.std.proofs.lemmas.List.{take_more, take-append-drop}
+use Rattle.tabled_line.proofs.Each.{map-more}
 
 -- one more line, and the lines behind it
 pub texts-more : (f : List ℕ → List ℕ) (ls : List (List ℕ)) (i : ℕ) (line : List ℕ) → i < length ls → line ≡ slice_index_or ls i []

@@ -1,15 +1,11 @@
 -- The characters of lines are all of a kind if those of the borders are.
-use Rattle.std.proofs.Common.{ℕ, ◌+◌, ◌==◌, if◌then◌else◌, Bool, true, false, ◌&&◌, ◌||◌, Option, unwrap_or}
-use Rattle.tabled_config.specs.declared.borders.Borders.{Borders}
+use Rattle.tabled_pool.proofs.Names.{Bar, Bool, Borders, DrawingPlan, EachCharacter, Kind, Leaf, Option, Rectangle, Rule, border_char}
+use Rattle.tabled_pool.proofs.Names.{false, if◌then◌else◌, is_border, is_border_above, is_border_before, true, unwrap_or, ℕ, ◌&&◌, ◌+◌}
+use Rattle.tabled_pool.proofs.Names.{◌==◌, ◌||◌}
 use Rattle.tabled_config.specs.Frame.{has_right}
 use Rattle.tabled_config.specs.Junction.{junction}
-use Rattle.tabled_pool.specs.declared.pieces.Rectangle.{Rectangle}
-use Rattle.tabled_pool.specs.declared.pieces.Kind.{Kind}
-use Rattle.tabled_pool.specs.declared.pieces.Kind.TheVariants.{Leaf, Bar, Rule}
-use Rattle.tabled_pool.specs.Plan.{DrawingPlan, has_bottom}
-use Rattle.tabled_pool.specs.Characters.{EachCharacter}
-use Rattle.tabled_pool.specs.Drawn.{main_of, border_char}
-use Rattle.tabled_pool.specs.Owner.{is_border, is_border_before, is_border_above}
+use Rattle.tabled_pool.specs.Plan.{has_bottom}
+use Rattle.tabled_pool.specs.Drawn.{main_of}
 
 -- a missing character is a space
 abbrev Of : (ℕ → Type 0) → Option ℕ → Type 0

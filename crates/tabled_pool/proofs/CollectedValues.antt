@@ -1,10 +1,8 @@
 -- Rows of values that are collected one after another.
-use Rattle.std.proofs.Common.{◌≡◌, ℕ, List, [], ◌∷◌, ◌++◌, Option, map, sym, ap, ◌∙◌}
+use Rattle.tabled_pool.proofs.Names.{List, Option, TableValue, Tree, [], ap, map, map-append, sym, tree_of, ℕ, ◌++◌, ◌∙◌, ◌∷◌, ◌≡◌}
 use Rattle.std.specs.List.{AllZip}
-use Rattle.std.proofs.lemmas.List.{map-append}
 use Rattle.tabled_base.specs.Given.{Given}
-use Rattle.tabled_pool.specs.declared.tree.TableValue.{TableValue}
-use Rattle.tabled_pool.specs.Tree.{Tree, tree_of, tree_of_row}
+use Rattle.tabled_pool.specs.Tree.{tree_of_row}
 
 all_zip-more : {X Y : Type 0} (R : X → Y → Type 0) (xs : List X) (ys : List Y) (x : X) (y : Y) → AllZip R xs ys
     → R x y → AllZip R (xs ++ x ∷ []) (ys ++ y ∷ [])

@@ -1,19 +1,11 @@
 -- Each drawn line takes the columns of the whole.
-use Rattle.std.proofs.Common.{◌≡◌, ℕ, zero, suc, ◌+◌, ◌<◌, ◌≤◌, List, ◌++◌, Some, refl, sym, ◌∙◌, ap, subst, append-nil, arith, encode_utf8, ◌⊎◌, inl, inr}
-use Rattle.std.specs.List.{All, flat_map, range_with_len}
-use Rattle.std.proofs.lemmas.List.FromFn.{length-map-range_with_len, get_or-map-range_with_len}
-use Rattle.tabled_text.specs.Measure.{line_columns}
-use Rattle.tabled_line.specs.Plain.{EachLineTakes}
-use Rattle.tabled_line.proofs.Each.{each-more}
-use Rattle.tabled_pool.specs.declared.pieces.Rectangle.{Rectangle}
-use Rattle.tabled_pool.specs.declared.pieces.Kind.{Kind}
-use Rattle.tabled_pool.specs.declared.pieces.Kind.TheVariants.{Leaf, Bar, Rule}
-use Rattle.tabled_pool.specs.Boxes.{Part}
-use Rattle.tabled_pool.specs.Marks.{within_marks}
-use Rattle.tabled_pool.specs.Plan.{DrawingPlan}
-use Rattle.tabled_pool.specs.Owner.{owner}
-use Rattle.tabled_pool.specs.Drawn.{border_char, border_text, part_text, owned_text, place_text, drawn_line, drawn}
-use Rattle.tabled_pool.proofs.UpcomingCells.{ahead, ahead_of, ahead_kind, before, ends, leaf-begins, leaf-goes, out-leaf, out-line, owned, Begins, Goes}
+use Rattle.tabled_pool.proofs.Names.{All, Bar, DrawingPlan, EachLineTakes, Kind, Leaf, List, Part, Rectangle, Rule, Some, ap, append-nil}
+use Rattle.tabled_pool.proofs.Names.{arith, border_char, border_text, drawn, drawn_line, each-more, encode_utf8, flat_map}
+use Rattle.tabled_pool.proofs.Names.{get_or-map-range_with_len, inl, inr, length-map-range_with_len, line_columns, owned_text, owner}
+use Rattle.tabled_pool.proofs.Names.{part_text, place_text, range_with_len, refl, subst, suc, sym, within_marks, zero, ℕ, ◌++◌, ◌+◌, ◌<◌}
+use Rattle.tabled_pool.proofs.Names.{◌∙◌, ◌≡◌, ◌≤◌, ◌⊎◌}
+use Rattle.tabled_pool.proofs.UpcomingCells.{ahead, ahead_of, ahead_kind, before, ends, leaf-begins, leaf-goes, out-leaf, out-line, owned}
+use Rattle.tabled_pool.proofs.UpcomingCells.{Begins, Goes}
 use Rattle.tabled_pool.proofs.Drawable.{IsDrawable}
 
 -- without colours a character stands by itself

@@ -1,10 +1,7 @@
 -- What the tests of a place say.
-use Rattle.std.proofs.Common.{◌≡◌, ℕ, ◌+◌, ◌-◌, ◌<◌, ◌≤◌, ◌==◌, false, ltb, refl, arith}
-use Rattle.std.proofs.Math.Nat.{mul-zero, zero-mul, one-mul}
-use Rattle.std.proofs.lemmas.Bool.Decides.{nat_tests}
-use Rattle.tabled_pool.specs.declared.pieces.Rectangle.{Rectangle}
-use Rattle.tabled_pool.specs.Tiling.{spans}
-use Rattle.tabled_pool.specs.Owner.{contains}
+use Rattle.tabled_pool.proofs.Names.{Rectangle, arith, contains, false, ltb, mul-zero, nat_tests, refl, spans, zero-mul, ℕ, ◌+◌, ◌-◌, ◌<◌}
+use Rattle.tabled_pool.proofs.Names.{◌==◌, ◌≡◌, ◌≤◌}
+use Rattle.std.proofs.Math.Nat.{one-mul}
 
 spans-0 : (a n p : ℕ) → (p < a + n → p < a) → spans a n p ≡ 0
 unfolding spans

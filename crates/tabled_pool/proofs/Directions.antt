@@ -1,17 +1,12 @@
 -- Sizes and parts by direction.
-use Rattle.std.proofs.Common.{◌≡◌, ℕ, ◌+◌, ◌-◌, ◌/◌, ◌^◌, ◌<◌, ◌≤◌, max, refl, arith}
+use Rattle.tabled_pool.proofs.Names.{Across, Box, BoxSpacing, Direction, Down, Fits, Rectangle, arith, behind_border, border_size}
+use Rattle.tabled_pool.proofs.Names.{box_across, box_along, first_part, given_size, joined_box, max, nat_tests, needed_by, pick}
+use Rattle.tabled_pool.proofs.Names.{place_along, refl, rest_part, ℕ, ◌+◌, ◌-◌, ◌<◌, ◌≡◌, ◌≤◌}
+use Rattle.std.proofs.Common.{◌/◌, ◌^◌}
 use Rattle.tabled_size.specs.declared.pool_table_dimension.DimensionPriority.{DimensionPriority}
 use Rattle.tabled_size.specs.declared.pool_table_dimension.DimensionPriority.TheVariants.{First, Last, List as Each}
 use Rattle.std.proofs.Math.Nat.{le-mul_of_pos_right}
-use Rattle.std.proofs.lemmas.Bool.Decides.{nat_tests}
-use Rattle.tabled_pool.specs.declared.sizes.BoxSpacing.{BoxSpacing}
-use Rattle.tabled_pool.specs.declared.sizes.Direction.{Direction}
-use Rattle.tabled_pool.specs.declared.sizes.Direction.TheVariants.{Across, Down}
-use Rattle.tabled_pool.specs.declared.pieces.Rectangle.{Rectangle}
-use Rattle.tabled_pool.specs.Boxes.{Box, share, pick, first_part, rest_part, box_along, box_across, place_along}
-use Rattle.tabled_pool.specs.Boxes.{place_across, border_size, given_size, behind_border, needed_by}
-use Rattle.tabled_pool.specs.Boxes.{joined_box}
-use Rattle.tabled_pool.specs.Shown.{Fits}
+use Rattle.tabled_pool.specs.Boxes.{share, place_across}
 
 pub share_within : (q : DimensionPriority) (surplus k : ℕ) → 0 < k → share q surplus k ≤ surplus
 share_within First surplus k h = omega arith

@@ -1,16 +1,6 @@
 -- Plans whose lines are put together piece by piece, each of known columns.
-use Rattle.std.proofs.Common.{◌≡◌, ℕ, suc, ◌+◌, ◌-◌, List, [], ◌++◌, Some, encode_utf8}
-use Rattle.tabled_text.specs.Measure.{line_columns}
-use Rattle.tabled_pool.specs.declared.pieces.Kind.{Kind}
-use Rattle.tabled_pool.specs.declared.pieces.Kind.TheVariants.{Leaf}
-use Rattle.tabled_pool.specs.Boxes.{Part}
-use Rattle.tabled_pool.specs.Tiling.{within, covering}
-use Rattle.tabled_pool.specs.Marks.{nothing_around}
-use Rattle.tabled_pool.specs.Block.{leaf_line}
-use Rattle.tabled_pool.specs.Plan.{DrawingPlan, whole}
-use Rattle.tabled_pool.specs.Around.{around_at}
-use Rattle.tabled_pool.specs.Drawn.{border_char}
-use Rattle.tabled_pool.specs.Owner.{owner}
+use Rattle.tabled_pool.proofs.Names.{DrawingPlan, Kind, Leaf, List, Part, Some, [], around_at, border_char, covering, encode_utf8}
+use Rattle.tabled_pool.proofs.Names.{leaf_line, line_columns, nothing_around, owner, suc, whole, within, ℕ, ◌++◌, ◌+◌, ◌-◌, ◌≡◌}
 
 -- what is known of a text that is out on the line y before the place x, and takes n columns: nothing is out at first,
 -- and each piece that may stand at x adds its columns; a leaf that goes on adds nothing

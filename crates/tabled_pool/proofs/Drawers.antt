@@ -1,21 +1,12 @@
 -- Boxes that are drawn one after another, and hand their sizes on.
-use Rattle.std.proofs.Common.{◌≡◌, ℕ, ◌+◌, ◌<◌, ◌≤◌, List, [], ◌∷◌, ◌++◌, length, map, drop, get_or, refl, sym, ap, subst, ◌∙◌}
-use Rattle.std.proofs.Common.{append_assoc, arith}
-use Rattle.tabled_pool.specs.declared.sizes.BoxSpacing.{BoxSpacing}
-use Rattle.tabled_pool.specs.declared.tree.TableValue.{TableValue}
-use Rattle.tabled_pool.specs.declared.tree.TableValue.TheOpen.{Row, Column, Cell}
-use Rattle.tabled_pool.specs.declared.tree.TableValue.TheFolds.{fold-roll-TableValue, ind-TableValue, map-TableValue}
-use Rattle.tabled_pool.specs.declared.tree.TableValue.TheViews.{roll-TableValue}
-use Rattle.tabled_pool.specs.declared.sizes.Direction.{Direction}
-use Rattle.tabled_pool.specs.declared.sizes.Direction.TheVariants.{Across, Down}
-use Rattle.tabled_pool.specs.Boxes.{Box, box_along, box_step, box_of, given_size, list_box, pick, place_along}
-use Rattle.tabled_pool.specs.Left.{boxes_left}
-use Rattle.std.proofs.lemmas.List.{drop_all, length-map}
-use Rattle.tabled_pool.specs.Inherited.{Children, Drawer, InheritedSheet, PassedOn, boxes, list_children, list_drawer}
-use Rattle.tabled_pool.specs.Inherited.{drawer, drawer_step, passes_across, passes_along, to_first, to_later}
-use Rattle.tabled_pool.specs.Inherited.{joined as joined_children, to_last, with_passed}
-use Rattle.tabled_pool.specs.DrawnBlocks.{BlockSheet}
-use Rattle.tabled_pool.specs.Plan.{DrawingPlan}
+use Rattle.tabled_pool.proofs.Names.{Across, BlockSheet, Box, BoxSpacing, Cell, Column, Direction, Down, DrawingPlan, InheritedSheet, List}
+use Rattle.tabled_pool.proofs.Names.{Row, TableValue, [], ap, append_assoc, arith, box_along, box_of, box_step, boxes_left, drawer, drop}
+use Rattle.tabled_pool.proofs.Names.{fold-roll-TableValue, get_or, given_size, ind-TableValue, length, length-map, list_box, map}
+use Rattle.tabled_pool.proofs.Names.{map-TableValue, pick, place_along, refl, roll-TableValue, subst, sym, ℕ, ◌++◌, ◌+◌, ◌<◌, ◌∙◌, ◌∷◌, ◌≡◌}
+use Rattle.tabled_pool.proofs.Names.{◌≤◌}
+use Rattle.std.proofs.lemmas.List.{drop_all}
+use Rattle.tabled_pool.specs.Inherited.{Children, Drawer, PassedOn, boxes, list_children, list_drawer, drawer_step, passes_across}
+use Rattle.tabled_pool.specs.Inherited.{passes_along, to_first, to_later, joined as joined_children, to_last, with_passed}
 use Rattle.tabled_pool.proofs.Steps.{drop_first}
 
 -- ---- a drawer's box is that of its value

@@ -1,16 +1,9 @@
 -- Each leaf of a tree is given at least its own size.
-use Rattle.std.proofs.Common.{ℕ, ◌+◌, ◌<◌, List, [], ◌∷◌, ◌++◌, map, length, sym, subst, arith, string_bytes}
-use Rattle.tabled_pool.specs.declared.sizes.BoxSpacing.{BoxSpacing}
-use Rattle.tabled_pool.specs.declared.pieces.Rectangle.{Rectangle}
-use Rattle.tabled_pool.specs.declared.sizes.Direction.{Direction}
-use Rattle.tabled_pool.specs.declared.sizes.Direction.TheVariants.{Across, Down}
-use Rattle.tabled_pool.specs.declared.tree.TableValue.{TableValue}
-use Rattle.tabled_pool.specs.declared.tree.TableValue.TheOpen.{Row, Column, Cell}
-use Rattle.tabled_pool.specs.declared.tree.TableValue.TheFolds.{fold-roll-TableValue, ind-TableValue, map-TableValue}
-use Rattle.tabled_pool.specs.declared.tree.TableValue.TheViews.{roll-TableValue}
-use Rattle.tabled_pool.specs.Boxes.{Part, Box, part_of, first_part, place_along, border_kind, given_size, behind_border}
-use Rattle.tabled_pool.specs.Boxes.{needed_by, joined_box, leaf_box, list_box, box_step, box_of}
-use Rattle.tabled_pool.specs.Tiling.{FitsLeaf, EachFits, LeavesFit}
+use Rattle.tabled_pool.proofs.Names.{Across, Box, BoxSpacing, Cell, Column, Direction, Down, EachFits, FitsLeaf, LeavesFit, List, Part}
+use Rattle.tabled_pool.proofs.Names.{Rectangle, Row, TableValue, [], arith, behind_border, border_kind, box_of, box_step, first_part}
+use Rattle.tabled_pool.proofs.Names.{fold-roll-TableValue, given_size, ind-TableValue, joined_box, leaf_box, length, list_box, map}
+use Rattle.tabled_pool.proofs.Names.{map-TableValue, needed_by, part_of, place_along, roll-TableValue, string_bytes, subst, sym, ℕ, ◌++◌}
+use Rattle.tabled_pool.proofs.Names.{◌+◌, ◌<◌, ◌∷◌}
 use Rattle.tabled_pool.proofs.Directions.{shares}
 
 fits-append : (g : BoxSpacing) (ps qs : List Part) → EachFits g ps → EachFits g qs → EachFits g (ps ++ qs)

@@ -1,13 +1,8 @@
 -- A framed box fills its rectangle.
-use Rattle.std.proofs.Common.{◌≡◌, ℕ, ◌+◌, ◌-◌, ◌≤◌, arith}
-use Rattle.tabled_config.specs.declared.sides.Sides.{Sides}
-use Rattle.tabled_pool.specs.declared.pieces.Rectangle.{Rectangle}
-use Rattle.tabled_pool.specs.Boxes.{Box, left_part, right_part, top_part, bottom_part, box_of}
-use Rattle.tabled_pool.specs.Tiling.{within, covering, Tiles, AreTiles, EachFits, LeavesFit, framed}
+use Rattle.tabled_pool.proofs.Names.{AreTiles, Box, BoxSpacing, EachFits, LeavesFit, Rectangle, Sides, TableValue, Tiles, arith}
+use Rattle.tabled_pool.proofs.Names.{bottom_part, box_of, covering, framed, left_part, right_part, top_part, within, ℕ, ◌+◌, ◌-◌, ◌≡◌, ◌≤◌}
 use Rattle.tabled_pool.proofs.Tiling.{within-across, within-down, tree-tiles}
 use Rattle.tabled_pool.proofs.Fitting.{tree-fits}
-use Rattle.tabled_pool.specs.declared.sizes.BoxSpacing.{BoxSpacing}
-use Rattle.tabled_pool.specs.declared.tree.TableValue.{TableValue}
 
 pub framed-tiles : (e : Sides ℕ) (b : Box) (w : Rectangle) (px py : ℕ) → Tiles b
     → e.left + b.width + e.right ≤ w.width → e.top + b.height + e.bottom ≤ w.height → covering (framed e b w) px py ≡ within w px py

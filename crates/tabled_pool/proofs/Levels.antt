@@ -1,11 +1,9 @@
 -- A list that is put below others, and those that are left.
-use Rattle.std.proofs.Common.{◌≡◌, ◌+◌, List, [], ◌∷◌, ◌++◌, map, refl, ap, sym, arith, ◌∙◌}
+use Rattle.tabled_pool.proofs.Names.{List, TableValue, Tree, [], ap, arith, left_in, map, nodes, nodes_in, refl, sym, tree_of, ◌++◌, ◌+◌}
+use Rattle.tabled_pool.proofs.Names.{◌∙◌, ◌∷◌, ◌≡◌}
 use Rattle.tabled_pool.specs.declared.copying.Level.{Level}
-use Rattle.tabled_pool.specs.Nodes.{nodes, nodes_in}
-use Rattle.tabled_pool.specs.declared.tree.TableValue.{TableValue}
-use Rattle.tabled_pool.specs.Tree.{Tree, tree_of}
 use Rattle.tabled_pool.proofs.NodeSums.{nodes_in_cons}
-use Rattle.tabled_pool.specs.Levels.{IsBegun, filled, left_in, list, within}
+use Rattle.tabled_pool.specs.Levels.{IsBegun, filled, list, within}
 
 pub within_push : (ls : List Level) (l : Level) (t : Tree) → within (ls ++ l ∷ []) t ≡ within ls (filled l t)
 within_push [] l t = refl

@@ -1,3 +1,4 @@
+pub mod Names
 pub mod UpcomingCells
 pub mod ApartBlocks
 pub mod Aparts

@@ -1,15 +1,8 @@
 -- Owners of positions in parts that tile a rectangle.
-use Rattle.std.proofs.Common.{◌≡◌, ℕ, zero, suc, ◌+◌, ◌<◌, ◌≤◌, true, List, [], ◌∷◌, Some, None, slice_get, get_or, length, map, drop, add-one, refl, sym, ap, ◌∙◌, subst, arith, ⊎_elim, ◌⊎◌}
-use Rattle.std.specs.Option.{option_map}
-use Rattle.std.proofs.lemmas.Bool.Decides.{nat_tests}
-use Rattle.std.proofs.Math.Seq.{drop-cons}
-use Rattle.std.proofs.lemmas.Option.{slice_get-get_or, slice_get-map, slice_get_read}
-use Rattle.tabled_pool.specs.declared.pieces.Rectangle.{Rectangle}
-use Rattle.tabled_pool.specs.declared.pieces.Piece.{Piece}
-use Rattle.tabled_pool.specs.Boxes.{Part}
-use Rattle.tabled_pool.specs.Shown.{shown}
-use Rattle.tabled_pool.specs.Tiling.{within, covering, AreTiles}
-use Rattle.tabled_pool.specs.Owner.{contains, owner}
+use Rattle.tabled_pool.proofs.Names.{AreTiles, List, None, Part, Piece, Rectangle, Some, [], add-one, ap, arith, contains, covering, drop}
+use Rattle.tabled_pool.proofs.Names.{drop-cons, get_or, length, map, nat_tests, option_map, owner, refl, shown, slice_get, slice_get-get_or}
+use Rattle.tabled_pool.proofs.Names.{slice_get-map, slice_get_read, subst, suc, sym, true, within, zero, ℕ, ⊎_elim, ◌+◌, ◌<◌, ◌∙◌, ◌∷◌, ◌≡◌}
+use Rattle.tabled_pool.proofs.Names.{◌≤◌, ◌⊎◌}
 use Rattle.tabled_pool.proofs.Owners.{within-inside, within-le, owner-here, owner-behind, is-1}
 
 -- a place that no part covers has no owner

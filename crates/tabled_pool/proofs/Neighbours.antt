@@ -1,22 +1,13 @@
 -- A text that draws a border is at the position, or next to it.
-use Rattle.std.proofs.Common.{◌≡◌, ℕ, zero, suc, ◌+◌, ◌-◌, ◌<◌, ◌≤◌, cond, Bool, true, false, List, [], ◌∷◌, Option, Some, None, unwrap_or, slice_get, get_or, drop, length, map, refl, sym, ◌∙◌, ap, subst, arith, ⊎_elim, ◌⊎◌, inl, inr}
-use Rattle.std.specs.Option.{option_map}
-use Rattle.std.proofs.lemmas.Bool.Decides.{nat_tests}
-use Rattle.std.proofs.lemmas.Option.{slice_get-get_or, slice_get-map}
+use Rattle.tabled_pool.proofs.Names.{AreSized, AreTiles, Around, Before, Behind, Bool, DrawingPlan, IsSized, List, None, Option, Outside}
+use Rattle.tabled_pool.proofs.Names.{Part, Piece, Rectangle, RunSide, Some, [], across, ap, arith, around_at, around_part, around_text}
+use Rattle.tabled_pool.proofs.Names.{beside, cond, contains, drop, false, get_or, has_top, inl, inr, is_last_row, is_line_kind, length, map}
+use Rattle.tabled_pool.proofs.Names.{nat_tests, option_map, refl, run_side, shown, slice_get, slice_get-get_or, slice_get-map, subst, suc}
+use Rattle.tabled_pool.proofs.Names.{sym, true, unwrap_or, zero, ℕ, ⊎_elim, ◌+◌, ◌-◌, ◌<◌, ◌∙◌, ◌∷◌, ◌≡◌, ◌≤◌, ◌⊎◌}
 use Rattle.tabled_pool.specs.declared.color_marks.First.{First}
-use Rattle.tabled_pool.specs.declared.color_marks.RunSide.{RunSide}
-use Rattle.tabled_pool.specs.declared.color_marks.RunSide.TheVariants.{Before, Inside as Within, Behind, Outside}
-use Rattle.tabled_pool.specs.declared.pieces.Piece.{Piece}
-use Rattle.tabled_pool.specs.declared.pieces.Rectangle.{Rectangle}
-use Rattle.tabled_pool.specs.Around.{across, around_at, around_part, around_text, beside, is_last_row, run_side}
-use Rattle.tabled_pool.specs.Boxes.{Part, is_line_kind}
-use Rattle.tabled_pool.specs.Plan.{has_top, DrawingPlan}
-use Rattle.tabled_pool.specs.Marks.{Around}
-use Rattle.tabled_pool.specs.Numbers.{AreSized, IsEarlier, IsNumber, IsSized, Skips, SkipsBeside}
-use Rattle.tabled_pool.specs.Owner.{contains}
+use Rattle.tabled_pool.specs.declared.color_marks.RunSide.TheVariants.{Inside as Within}
+use Rattle.tabled_pool.specs.Numbers.{IsEarlier, IsNumber, Skips, SkipsBeside}
 use Rattle.tabled_pool.specs.Plans.{around_of}
-use Rattle.tabled_pool.specs.Shown.{shown}
-use Rattle.tabled_pool.specs.Tiling.{AreTiles}
 use Rattle.tabled_pool.proofs.Listed.{number-unique, piece_owns}
 use Rattle.tabled_pool.proofs.Owners.{inside-within, within-le, le-or}
 

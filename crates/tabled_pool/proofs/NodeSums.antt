@@ -1,9 +1,8 @@
 -- The nodes of lists of trees.
-use Rattle.std.proofs.Common.{◌≡◌, ℕ, zero, suc, ◌+◌, ◌<◌, ◌≤◌, List, [], ◌∷◌, ◌++◌, length, map, get_or, sum, ap, ◌∙◌, arith}
-use Rattle.std.proofs.lemmas.List.{map-append}
+use Rattle.tabled_pool.proofs.Names.{List, TableValue, [], ap, arith, get_or, length, map, map-append, nodes, nodes_in, suc, zero, ℕ, ◌++◌}
+use Rattle.tabled_pool.proofs.Names.{◌+◌, ◌<◌, ◌∙◌, ◌∷◌, ◌≡◌, ◌≤◌}
+use Rattle.std.proofs.Common.{sum}
 use Rattle.std.proofs.lemmas.List.Sums.{sum_by-cons, sum_by_push}
-use Rattle.tabled_pool.specs.declared.tree.TableValue.{TableValue}
-use Rattle.tabled_pool.specs.Nodes.{nodes, nodes_in}
 
 pub nodes_in_cons : (v : TableValue) (xs : List TableValue) → nodes_in (v ∷ xs) ≡ nodes v + nodes_in xs
 nodes_in_cons v xs = sum_by-cons (λ (x : ℕ). x) (nodes v) (map nodes xs)

@@ -1,12 +1,7 @@
 -- A place that is covered once has one owner.
-use Rattle.std.proofs.Common.{◌≡◌, ℕ, zero, suc, ◌+◌, ◌*◌, ◌<◌, ◌≤◌, List, [], ◌∷◌, Some, refl, sym, ◌∙◌, subst, arith, ⊎_elim, ◌⊎◌}
-use Rattle.std.proofs.Math.Nat.{mul-zero, zero-mul}
+use Rattle.tabled_pool.proofs.Names.{List, Part, Rectangle, Some, [], arith, covering, mul-zero, nat_tests, owner, refl, spans, subst, suc}
+use Rattle.tabled_pool.proofs.Names.{sym, within, zero, zero-mul, ℕ, ⊎_elim, ◌*◌, ◌+◌, ◌<◌, ◌∙◌, ◌∷◌, ◌≡◌, ◌≤◌, ◌⊎◌}
 use Rattle.std.proofs.lemmas.Nat.{mul-le}
-use Rattle.std.proofs.lemmas.Bool.Decides.{nat_tests}
-use Rattle.tabled_pool.specs.declared.pieces.Rectangle.{Rectangle}
-use Rattle.tabled_pool.specs.Boxes.{Part}
-use Rattle.tabled_pool.specs.Tiling.{spans, within, covering}
-use Rattle.tabled_pool.specs.Owner.{owner}
 
 pub record Inside (r : Rectangle) (x y : ℕ) : Type 0 where
   pub left : r.x ≤ x

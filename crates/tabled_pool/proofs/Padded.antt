@@ -1,18 +1,13 @@
 -- A text with padding at a side is given a column, and each text a line.
-use Rattle.std.proofs.Common.{◌≡◌, ℕ, zero, suc, ◌+◌, ◌<◌, ◌==◌, ◌&&◌, ◌||◌, Bool, true, false, not, List, [], ◌∷◌, Some, slice_get, refl, sym, subst, arith}
-use Rattle.std.proofs.lemmas.Bool.Decides.{nat_tests}
+use Rattle.tabled_pool.proofs.Names.{AreSized, Bar, Bool, BoxSpacing, EachFits, FitsLeaf, HasColumns, IsSized, Kind, Leaf, List, Part}
+use Rattle.tabled_pool.proofs.Names.{PoolTable, Rule, Some, [], arith, borders_of, common_steps, false, frame_of, frame_place}
+use Rattle.tabled_pool.proofs.Names.{has_zero_width, is_line_kind, nat_tests, plan, refl, slice_get, spacing_of, subst, suc, sym, true}
+use Rattle.tabled_pool.proofs.Names.{zero, ℕ, ◌&&◌, ◌+◌, ◌<◌, ◌==◌, ◌||◌, ◌∷◌, ◌≡◌}
+use Rattle.std.proofs.Common.{not}
 use Rattle.tabled_text.proofs.Bridge.{some_line}
-use Rattle.std.proofs.lemmas.Grind.{common_steps}
-use Rattle.tabled_pool.specs.declared.sizes.BoxSpacing.{BoxSpacing}
-use Rattle.tabled_pool.specs.declared.pieces.Kind.{Kind}
-use Rattle.tabled_pool.specs.declared.pieces.Kind.TheVariants.{Leaf, Bar, Rule}
-use Rattle.tabled_pool.specs.Boxes.{Part, is_line_kind}
-use Rattle.tabled_pool.specs.Numbers.{AreSized, IsSized}
-use Rattle.tabled_pool.specs.Tiling.{EachFits, FitsLeaf}
 use Rattle.tabled_pool.proofs.Framing.{tree_framed_fits}
-use Rattle.tabled_pool.specs.Inherited.{has_zero_width, is_zero_width}
-use Rattle.tabled_pool.specs.declared.pool_table.PoolTable.{PoolTable}
-use Rattle.tabled_pool.specs.Pool.{HasColumns, IsPadded, borders_of, frame_of, frame_place, spacing_of, plan}
+use Rattle.tabled_pool.specs.Inherited.{is_zero_width}
+use Rattle.tabled_pool.specs.Pool.{IsPadded}
 
 not-zero : (n : ℕ) → 0 < n → (n == 0) ≡ false
 not-zero n h = grind (arith, common_steps)

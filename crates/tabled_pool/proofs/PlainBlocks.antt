@@ -1,20 +1,13 @@
 -- The columns of the lines of a block.
-use Rattle.std.proofs.Common.{◌≡◌, ◌++◌, ◌∙◌, ap, append_assoc, ℕ, ◌+◌, ◌-◌, ◌<◌, ◌≤◌, true, false, cond, List, [], length, get_or, append-nil, sym, subst, arith}
-use Rattle.tabled_text.specs.Measure.{lines_of, text_columns, line_columns}
-use Rattle.tabled_text.specs.Plain.{IsAdditive, IsAdditiveColumn, IsAdditiveLine}
-use Rattle.tabled_text.proofs.Bridge.{line_columns-le}
-use Rattle.tabled_text.proofs.PlainLines.{plain_line-append, plain_line-as, plain_line-each, plain_column-space}
+use Rattle.tabled_pool.proofs.Names.{CellStyle, EachFill, IsAdditive, IsAdditiveColumn, IsAdditiveLine, List, Mark, Sides, [], ap}
+use Rattle.tabled_pool.proofs.Names.{append-nil, append_assoc, arith, cell_line, coloured, columns_before, cond, each_side, false, fill}
+use Rattle.tabled_pool.proofs.Names.{get_or, indent, inner_width, length, line_columns, line_columns-le, lines_of, no_mark, plain-fill}
+use Rattle.tabled_pool.proofs.Names.{plain_column-space, plain_line-append, plain_line-as, pool_block, subst, sym, text_columns, text_line}
+use Rattle.tabled_pool.proofs.Names.{true, without_sides, ℕ, ◌++◌, ◌+◌, ◌-◌, ◌<◌, ◌∙◌, ◌≡◌, ◌≤◌}
+use Rattle.tabled_text.proofs.PlainLines.{plain_line-each}
 use Rattle.tabled_config.specs.declared.alignment.AlignmentHorizontal.{AlignmentHorizontal}
 use Rattle.tabled_config.specs.declared.alignment.AlignmentHorizontal.TheVariants as horizontal
-use Rattle.tabled_config.specs.declared.spanned.CellStyle.{CellStyle}
-use Rattle.tabled_line.specs.Block.{before_text, inner_width, columns_before, cell_line}
-use Rattle.tabled_line.specs.Fill.{fill, indent}
-use Rattle.tabled_line.proofs.Plains.{plain-fill}
-use Rattle.tabled_config.specs.declared.sides.Sides.{Sides}
-use Rattle.tabled_config.specs.Compact.{each_side}
-use Rattle.tabled_pool.specs.Block.{pool_block, text_line, without_sides}
-use Rattle.tabled_pool.specs.Characters.{EachFill}
-use Rattle.tabled_pool.specs.Colours.{Mark, coloured, no_mark}
+use Rattle.tabled_line.specs.Block.{before_text}
 use Rattle.tabled_pool.proofs.PoolBlocks.{each_line}
 
 before-le : (a : AlignmentHorizontal) (n : ℕ) → before_text a n ≤ n

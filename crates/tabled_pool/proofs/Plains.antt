@@ -1,18 +1,9 @@
 -- A tree of plain texts is drawable.
-use Rattle.std.proofs.Common.{◌≡◌, ℕ, ◌-◌, List, [], ◌∷◌, Some, get_or, sym, ◌∙◌, subst, arith, ⊎_elim}
-use Rattle.tabled_text.specs.Plain.{IsAdditive, IsAdditiveColumn, IsAdditiveLine}
-use Rattle.tabled_text.proofs.PlainLines.{plain_column-space, plain_line-append, plain_line-nil, plain_line-one}
-use Rattle.tabled_pool.specs.declared.sizes.BoxSpacing.{BoxSpacing}
-use Rattle.tabled_pool.specs.declared.pieces.Kind.TheVariants.{Leaf}
-use Rattle.tabled_pool.specs.Boxes.{Part}
-use Rattle.tabled_pool.specs.Tiling.{within, AreTiles, FitsLeaf, EachFits}
-use Rattle.tabled_pool.specs.Block.{leaf_line, pool_block}
-use Rattle.tabled_pool.specs.Plan.{DrawingPlan, whole}
-use Rattle.tabled_pool.specs.Owner.{owner}
-use Rattle.tabled_pool.specs.Characters.{EachCharacter, EachFill}
-use Rattle.tabled_pool.specs.Colours.{no_mark}
-use Rattle.tabled_pool.specs.Uncoloured.{AreNoMarks}
-use Rattle.tabled_config.specs.Compact.{each_side}
+use Rattle.tabled_pool.proofs.Names.{AreNoMarks, AreTiles, BoxSpacing, DrawingPlan, EachCharacter, EachFill, EachFits, FitsLeaf, IsAdditive}
+use Rattle.tabled_pool.proofs.Names.{IsAdditiveColumn, IsAdditiveLine, Leaf, List, Part, Some, [], arith, each_side, get_or, leaf_line}
+use Rattle.tabled_pool.proofs.Names.{no_mark, owner, plain_column-space, plain_line-append, pool_block, subst, sym, whole, within, ℕ}
+use Rattle.tabled_pool.proofs.Names.{⊎_elim, ◌-◌, ◌∙◌, ◌∷◌, ◌≡◌}
+use Rattle.tabled_text.proofs.PlainLines.{plain_line-nil, plain_line-one}
 use Rattle.tabled_pool.proofs.Bare.{around-bare}
 use Rattle.tabled_pool.proofs.Characters.{char-kind}
 use Rattle.tabled_pool.proofs.Drawable.{IsDrawable}

@@ -1,17 +1,13 @@
 -- The lines of a block, by their index.
-use Rattle.std.proofs.Common.{◌≡◌, ℕ, ◌+◌, ◌-◌, ◌<◌, ◌≤◌, ltb, true, false, cond, if◌then◌else◌, List, [], ◌++◌, Some, None, length, map}
-use Rattle.std.proofs.Common.{replicate, get_or, slice_get, sym, subst, ◌∙◌, ap, arith, ⊎_elim}
-use Rattle.std.proofs.lemmas.List.{get_or-append_right, get_or_append_left, get_or-map, get_or-replicate, length-map, length-replicate}
-use Rattle.std.proofs.lemmas.Option.{get_or_from_slice_get, slice_get-get_or, slice_get_within, slice_get_cases}
+use Rattle.tabled_pool.proofs.Names.{CellStyle, List, Mark, None, Sides, Some, [], ap, arith, coloured, cond, false, fill, get_or}
+use Rattle.tabled_pool.proofs.Names.{if◌then◌else◌, length, length-map, length-replicate, lines_of, ltb, map, nat_tests, pool_block}
+use Rattle.tabled_pool.proofs.Names.{replicate, slice_get, slice_get-get_or, subst, sym, text_line, true, ℕ, ⊎_elim, ◌++◌, ◌+◌, ◌-◌, ◌<◌}
+use Rattle.tabled_pool.proofs.Names.{◌∙◌, ◌≡◌, ◌≤◌}
+use Rattle.std.proofs.lemmas.List.{get_or-append_right, get_or_append_left, get_or-map, get_or-replicate}
+use Rattle.std.proofs.lemmas.Option.{get_or_from_slice_get, slice_get_within, slice_get_cases}
 use Rattle.std.proofs.lemmas.Bool.{cases_lt}
-use Rattle.std.proofs.lemmas.Bool.Decides.{nat_tests}
-use Rattle.tabled_config.specs.declared.spanned.CellStyle.{CellStyle}
-use Rattle.tabled_text.specs.Measure.{lines_of}
-use Rattle.tabled_line.specs.Fill.{fill}
 use Rattle.tabled_line.specs.Block.{free_lines}
-use Rattle.tabled_config.specs.declared.sides.Sides.{Sides}
-use Rattle.tabled_pool.specs.Block.{lines_above, line_below, pool_block, text_line}
-use Rattle.tabled_pool.specs.Colours.{Mark, coloured}
+use Rattle.tabled_pool.specs.Block.{lines_above, line_below}
 
 past_from_none : {X : Type 0} (xs : List X) (k : ℕ) → None ≡ slice_get xs k → length xs ≤ k
 past_from_none xs k e =

@@ -1,22 +1,13 @@
 -- Pool tables as plans.
-use Rattle.std.proofs.Common.{◌≡◌, ℕ, List, true, refl, ap, sym, ◌∙◌, arith}
+use Rattle.tabled_pool.proofs.Names.{AreTiles, BlockSheet, Borders, CellStyle, DrawingPlan, HasColumns, Indent, List, Mark, Part, PoolTable}
+use Rattle.tabled_pool.proofs.Names.{Sides, ap, arith, borders_of, covering, drawn, frame_of, frame_place, framed_height, framed_width}
+use Rattle.tabled_pool.proofs.Names.{has_zero_width, line_marks_of, margin_marks, margin_of, marks_for, marks_of, plan, pool_lines, refl}
+use Rattle.tabled_pool.proofs.Names.{spacing_of, sym, true, with_margin, within, ℕ, ◌∙◌, ◌≡◌}
 use Rattle.std.specs.List.{join_with_byte}
-use Rattle.tabled_config.specs.declared.borders.Borders.{Borders}
-use Rattle.tabled_config.specs.declared.sides.Indent.{Indent}
-use Rattle.tabled_config.specs.declared.sides.Sides.{Sides}
-use Rattle.tabled_config.specs.declared.spanned.CellStyle.{CellStyle}
-use Rattle.tabled_pool.specs.Boxes.{Part}
-use Rattle.tabled_pool.specs.Margins.{with_margin}
-use Rattle.tabled_pool.specs.Tiling.{AreTiles, covering, within}
 use Rattle.tabled_pool.proofs.Framing.{tree_framed_tiles}
-use Rattle.tabled_pool.specs.Colours.{LineMarks, Mark, line_marks_of, marks_of}
-use Rattle.tabled_pool.specs.Plan.{DrawingPlan}
-use Rattle.tabled_pool.specs.Inherited.{inherited_block, has_zero_width}
-use Rattle.tabled_pool.specs.DrawnBlocks.{BlockSheet}
-use Rattle.tabled_pool.specs.declared.pool_table.PoolTable.{PoolTable}
-use Rattle.tabled_pool.specs.Drawn.{drawn}
-use Rattle.tabled_pool.specs.Pool.{HasColumns, borders_of, frame_of, frame_place, framed_height, framed_width, spacing_of, margin_around}
-use Rattle.tabled_pool.specs.Pool.{margin_marks, margin_of, margined, marks_for, plan, pool_lines, pool_text, style_of}
+use Rattle.tabled_pool.specs.Colours.{LineMarks}
+use Rattle.tabled_pool.specs.Inherited.{inherited_block}
+use Rattle.tabled_pool.specs.Pool.{margin_around, margined, pool_text, style_of}
 
 -- the lines of a table whose texts have columns, and of another one
 pub lined : (t : PoolTable) → HasColumns t

@@ -1,20 +1,12 @@
 -- Runs of columns of a line: of one part, with the same parts above and below.
-use Rattle.std.proofs.Common.{◌≡◌, ℕ, zero, suc, ◌+◌, ◌-◌, ◌<◌, ◌≤◌, Bool, true, false, List, [], ◌∷◌, ◌++◌, Some, None, refl, sym, ap, ◌∙◌, arith, ⊎_elim, ◌⊎◌, inr, encode_utf8, append-nil}
-use Rattle.std.specs.List.{flat_map, range_with_len}
+use Rattle.tabled_pool.proofs.Names.{AreTiles, Bar, Bool, DrawingPlan, IsAt, Kind, Leaf, List, None, Part, Rectangle, Rule, Some, [], ap}
+use Rattle.tabled_pool.proofs.Names.{append-nil, arith, around_at, border_char, border_text, encode_utf8, false, fill, flat_map, inr}
+use Rattle.tabled_pool.proofs.Names.{is_border, is_border_above, is_border_before, is_line, is_line_kind, nothing_around, owned_text, owner}
+use Rattle.tabled_pool.proofs.Names.{part_text, place_text, range_with_len, refl, suc, sym, true, whole, within_marks, zero, ℕ, ⊎_elim}
+use Rattle.tabled_pool.proofs.Names.{◌++◌, ◌+◌, ◌-◌, ◌<◌, ◌∙◌, ◌∷◌, ◌≡◌, ◌≤◌, ◌⊎◌}
 use Rattle.std.proofs.lemmas.List.Concat.{flat_map-append}
-use Rattle.tabled_line.specs.Fill.{fill}
 use Rattle.tabled_pool.specs.declared.line.Cursor.{Cursor}
-use Rattle.tabled_pool.specs.declared.pieces.Rectangle.{Rectangle}
-use Rattle.tabled_pool.specs.declared.pieces.Kind.{Kind}
-use Rattle.tabled_pool.specs.declared.pieces.Kind.TheVariants.{Leaf, Bar, Rule}
-use Rattle.tabled_pool.specs.Boxes.{Part, is_line_kind}
-use Rattle.tabled_pool.specs.Tiling.{AreTiles}
-use Rattle.tabled_pool.specs.Owner.{owner, is_border, is_border_above, is_border_before, is_line}
-use Rattle.tabled_pool.specs.Plan.{DrawingPlan, whole}
-use Rattle.tabled_pool.specs.Marks.{nothing_around, within_marks}
-use Rattle.tabled_pool.specs.Around.{around_at}
-use Rattle.tabled_pool.specs.Cursors.{IsAt}
-use Rattle.tabled_pool.specs.Drawn.{armed_char, border_char, border_text, owned_text, part_text, place_text, IsRun}
+use Rattle.tabled_pool.specs.Drawn.{armed_char, IsRun}
 use Rattle.tabled_pool.proofs.Owners.{Inside, inside-within, within-inside, within-le, owner-inside, counted, le-or}
 use Rattle.tabled_pool.proofs.Listed.{outside}
 use Rattle.tabled_pool.proofs.UpcomingCells.{leaf-goes, owned, unique}

@@ -1,18 +1,12 @@
 -- Boxes one after another: the first one, then the others.
-use Rattle.std.proofs.Common.{◌≡◌, ℕ, ◌+◌, ◌<◌, List, [], ◌∷◌, ◌++◌, length, max, map, drop, get_or, append_assoc, refl, ap}
-use Rattle.std.proofs.Common.{sym, subst, ◌∙◌, arith, add-one}
-use Rattle.std.proofs.lemmas.Grind.{common_steps}
-use Rattle.std.proofs.Math.Seq.{drop-cons}
-use Rattle.tabled_pool.specs.declared.tree.TableValue.{TableValue}
-use Rattle.tabled_pool.specs.declared.sizes.BoxSpacing.{BoxSpacing}
-use Rattle.tabled_pool.specs.declared.sizes.Direction.{Direction}
-use Rattle.tabled_pool.specs.declared.pieces.Rectangle.{Rectangle}
-use Rattle.tabled_pool.specs.Boxes.{Part, Box, part_of, first_part, box_along, box_across, place_along, border_kind}
-use Rattle.tabled_pool.specs.Boxes.{border_size, given_size, border_part, behind_border, needed_by, joined_box}
-use Rattle.tabled_pool.specs.Boxes.{joined_parts, list_box, box_of}
-use Rattle.tabled_pool.specs.Left.{AreLeft, CanSplit, boxes_left}
+use Rattle.tabled_pool.proofs.Names.{AreLeft, Box, BoxSpacing, Direction, Fits, List, Part, Rectangle, TableValue, [], add-one, ap}
+use Rattle.tabled_pool.proofs.Names.{append_assoc, arith, behind_border, border_kind, border_part, border_size, box_across, box_along}
+use Rattle.tabled_pool.proofs.Names.{box_of, boxes_left, common_steps, drop, drop-cons, first_part, get_or, given_size, joined_box, length}
+use Rattle.tabled_pool.proofs.Names.{list_box, map, max, needed_by, part_of, place_along, refl, subst, sym, ℕ, ◌++◌, ◌+◌, ◌<◌, ◌∙◌, ◌∷◌}
+use Rattle.tabled_pool.proofs.Names.{◌≡◌}
+use Rattle.tabled_pool.specs.Boxes.{joined_parts}
+use Rattle.tabled_pool.specs.Left.{CanSplit}
 use Rattle.tabled_pool.specs.declared.places.BoxesLeft.{BoxesLeft}
-use Rattle.tabled_pool.specs.Shown.{Fits}
 use Rattle.tabled_pool.proofs.Directions.{fits_across, fits_along, joined_along, joined_across, shares}
 
 pub left_count : (g : BoxSpacing) (front : List TableValue) (last : TableValue) → length (boxes_left g front last) ≡ length front + 1

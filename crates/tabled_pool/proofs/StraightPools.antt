@@ -1,34 +1,16 @@
 -- The lines of straight pool tables: they tile the tree, and take the columns of the whole.
-use Rattle.std.proofs.Common.{◌≡◌, ℕ, ◌+◌, ◌<◌, true, false, cond, List, [], ⊎_elim, ◌⊎◌, inl, inr, refl, sym, ap, subst, arith}
-use Rattle.std.specs.List.{All}
+use Rattle.tabled_pool.proofs.Names.{All, DrawingPlan, EachFill, EachLineTakes, EachText, HasColumns, Indent, IsAdditive, IsAdditiveColumn}
+use Rattle.tabled_pool.proofs.Names.{IsAdditiveLine, IsLine, IsSeparatorColumn, IsUtf8, IsUtf8-nil, List, PoolTable, Sides, Tiled, [], ap}
+use Rattle.tabled_pool.proofs.Names.{arith, borders_of, cond, drawn, drawn_line, each_side, false, frame_of, frame_place, framed_width}
+use Rattle.tabled_pool.proofs.Names.{has_left, inl, inr, line-frame, line-framed, line_columns, margin_line, margin_marks, margin_of}
+use Rattle.tabled_pool.proofs.Names.{marks_of, no_mark, plain-fill, plain_line-append, plain_line-as, plan, pool_lines, refl, spacing_of}
+use Rattle.tabled_pool.proofs.Names.{subst, sym, tree_of, true, with_margin, within_margin, ℕ, ⊎_elim, ◌+◌, ◌<◌, ◌≡◌, ◌⊎◌}
 use Rattle.std.proofs.lemmas.List.Elements.{All-append, All-map, All-replicate}
-use Rattle.std.specs.Str.{IsUtf8}
-use Rattle.std.proofs.lemmas.Str.{IsUtf8-nil}
-use Rattle.tabled_text.specs.Measure.{line_columns}
-use Rattle.tabled_text.specs.Plain.{IsAdditive, IsAdditiveColumn, IsAdditiveLine}
-use Rattle.tabled_text.proofs.PlainLines.{plain_line-append, plain_line-as}
-use Rattle.tabled_text.specs.FramedLines.{IsLine, IsSeparatorColumn}
-use Rattle.tabled_text.proofs.LineLaws.{line-frame, line-framed}
-use Rattle.tabled_config.specs.declared.sides.Indent.{Indent}
-use Rattle.tabled_config.specs.declared.sides.Sides.{Sides}
-use Rattle.tabled_config.specs.Frame.{has_left}
-use Rattle.tabled_config.specs.Compact.{each_side}
 use Rattle.tabled_priority.specs.Sums.{one_if}
-use Rattle.tabled_line.specs.Plain.{EachLineTakes}
-use Rattle.tabled_line.proofs.Plains.{plain-fill}
-use Rattle.tabled_pool.specs.Tree.{tree_of, EachText}
 use Rattle.tabled_pool.proofs.Framing.{tree_framed_tiles, tree_framed_fits}
-use Rattle.tabled_pool.specs.Colours.{marks_of, no_mark}
-use Rattle.tabled_pool.specs.Margins.{margin_line, within_margin, with_margin}
-use Rattle.tabled_pool.specs.Plan.{DrawingPlan}
-use Rattle.tabled_pool.specs.declared.pool_table.PoolTable.{PoolTable}
 use Rattle.tabled_pool.specs.Apart.{IsApartPool, IsStraightPool}
-use Rattle.tabled_pool.specs.Characters.{EachFill}
-use Rattle.tabled_pool.specs.Drawn.{drawn, drawn_line}
 use Rattle.tabled_pool.specs.Plain.{HasSettings, IsAdditivePool, IsPlainPool}
-use Rattle.tabled_pool.specs.Pool.{borders_of, frame_of, frame_place, framed_width, spacing_of, has_margin}
-use Rattle.tabled_pool.specs.Pool.{margin_marks, margin_of, plan, pool_lines, total_width, HasColumns}
-use Rattle.tabled_pool.specs.Tiled.{Tiled}
+use Rattle.tabled_pool.specs.Pool.{has_margin, total_width}
 use Rattle.tabled_pool.proofs.ApartBlocks.{frame-fill, frame-run}
 use Rattle.tabled_pool.proofs.Aparts.{bar_drawable, left_drawable, right_drawable, ApartTree}
 use Rattle.tabled_pool.proofs.BehindLines.{framed-behind}

@@ -1,12 +1,9 @@
 -- The sizes of boxes one after another, from the front.
-use Rattle.std.proofs.Common.{◌≡◌, ℕ, ◌+◌, ◌<◌, ◌≤◌, List, [], ◌∷◌, None, Some, length, map, drop, get_or, ap, sym, subst, ◌∙◌, arith, ⊎_elim, inl, inr}
+use Rattle.tabled_pool.proofs.Names.{Across, Box, BoxSpacing, Direction, Down, IsSize, List, None, Some, TableValue, [], ap, arith, box_of}
+use Rattle.tabled_pool.proofs.Names.{drop, get_or, inl, inr, joined_box, length, list_box, map, sized, subst, sym, ℕ, ⊎_elim, ◌+◌, ◌<◌, ◌∙◌}
+use Rattle.tabled_pool.proofs.Names.{◌∷◌, ◌≡◌, ◌≤◌}
 use Rattle.tabled_pool.specs.declared.sizes.Size.{Size}
-use Rattle.tabled_pool.specs.declared.tree.TableValue.{TableValue}
 use Rattle.tabled_pool.proofs.Steps.{drop_first}
-use Rattle.tabled_pool.specs.declared.sizes.BoxSpacing.{BoxSpacing}
-use Rattle.tabled_pool.specs.declared.sizes.Direction.{Direction}
-use Rattle.tabled_pool.specs.declared.sizes.Direction.TheVariants.{Across, Down}
-use Rattle.tabled_pool.specs.Boxes.{Box, IsSize, box_of, joined_box, list_box, sized}
 
 pub record SameSize (b c : Box) : Type 0 where
   pub wide : b.width ≡ c.width

@@ -1,16 +1,9 @@
 -- What is drawn tiles its parts.
-use Rattle.std.proofs.Common.{◌≡◌, ℕ, ◌+◌, ◌-◌, ◌<◌, ◌≤◌, true, List, ◌++◌, Some, refl, ◌∙◌, ap, arith, encode_utf8, ◌⊎◌, inl, inr}
-use Rattle.std.specs.List.{flat_map, range_with_len}
+use Rattle.tabled_pool.proofs.Names.{Bar, DrawingPlan, Kind, Leaf, List, Part, Rule, Some, Tiled, ap, arith, border_char, drawn_line}
+use Rattle.tabled_pool.proofs.Names.{encode_utf8, flat_map, inl, inr, is_line_kind, leaf_line, owned_text, owner, part_text, place_text}
+use Rattle.tabled_pool.proofs.Names.{range_with_len, refl, true, whole, within, ℕ, ◌++◌, ◌+◌, ◌-◌, ◌<◌, ◌∙◌, ◌≡◌, ◌≤◌, ◌⊎◌}
 use Rattle.tabled_line.proofs.Each.{each-rest}
-use Rattle.tabled_pool.specs.declared.pieces.Kind.{Kind}
-use Rattle.tabled_pool.specs.declared.pieces.Kind.TheVariants.{Leaf, Bar, Rule}
-use Rattle.tabled_pool.specs.Boxes.{Part, is_line_kind}
-use Rattle.tabled_pool.specs.Tiling.{within}
-use Rattle.tabled_pool.specs.Block.{leaf_line}
-use Rattle.tabled_pool.specs.Plan.{DrawingPlan, whole}
-use Rattle.tabled_pool.specs.Owner.{owner}
-use Rattle.tabled_pool.specs.Drawn.{border_char, part_text, owned_text, place_text, drawn_line}
-use Rattle.tabled_pool.specs.Tiled.{StandsAt, Tiled}
+use Rattle.tabled_pool.specs.Tiled.{StandsAt}
 use Rattle.tabled_pool.proofs.Owners.{inside-within, within-inside, within-le, owner-inside, counted}
 use Rattle.tabled_pool.proofs.UpcomingCells.{ahead, whole-inside, unique, Begins, Goes, before, leaf-begins, out-line}
 use Rattle.tabled_pool.proofs.Columns.{border-bare, out, prefix}

@@ -1,20 +1,12 @@
 -- The parts of a tree fill its rectangle, each place once.
-use Rattle.std.proofs.Common.{◌≡◌, ℕ, ◌+◌, ◌-◌, ◌<◌, ◌≤◌, List, [], ◌∷◌, ◌++◌, map, length, refl, sym, subst, arith, string_bytes}
+use Rattle.tabled_pool.proofs.Names.{Across, Box, BoxSpacing, Cell, Column, Direction, Down, List, Part, Rectangle, Row, TableValue, Tiles}
+use Rattle.tabled_pool.proofs.Names.{[], arith, behind_border, border_part, border_size, bottom_part, box_of, box_step, covering}
+use Rattle.tabled_pool.proofs.Names.{first_part, fold-roll-TableValue, given_size, ind-TableValue, joined_box, leaf_box, left_part, length}
+use Rattle.tabled_pool.proofs.Names.{list_box, map, map-TableValue, nat_tests, needed_by, place_along, refl, rest_part, right_part}
+use Rattle.tabled_pool.proofs.Names.{roll-TableValue, spans, string_bytes, subst, sym, top_part, within, ℕ, ◌++◌, ◌+◌, ◌-◌, ◌<◌, ◌∷◌, ◌≡◌}
+use Rattle.tabled_pool.proofs.Names.{◌≤◌}
 use Rattle.std.proofs.Math.Nat.{add-mul, mul-add}
-use Rattle.std.proofs.lemmas.Bool.Decides.{nat_tests}
-use Rattle.tabled_pool.specs.declared.sizes.BoxSpacing.{BoxSpacing}
-use Rattle.tabled_pool.specs.declared.pieces.Rectangle.{Rectangle}
-use Rattle.tabled_pool.specs.declared.sizes.Direction.{Direction}
-use Rattle.tabled_pool.specs.declared.sizes.Direction.TheVariants.{Across, Down}
-use Rattle.tabled_pool.specs.declared.tree.TableValue.{TableValue}
-use Rattle.tabled_pool.specs.declared.tree.TableValue.TheOpen.{Row, Column, Cell}
-use Rattle.tabled_pool.specs.declared.tree.TableValue.TheFolds.{fold-roll-TableValue, ind-TableValue, map-TableValue}
-use Rattle.tabled_pool.specs.declared.tree.TableValue.TheViews.{roll-TableValue}
-use Rattle.tabled_pool.specs.Boxes.{Part, Box, first_part, rest_part, left_part, right_part, top_part, bottom_part}
-use Rattle.tabled_pool.specs.Boxes.{place_along, border_size, given_size, border_part, behind_border, needed_by}
-use Rattle.tabled_pool.specs.Boxes.{joined_box, leaf_box, list_box, box_step, box_of}
 use Rattle.tabled_pool.proofs.Directions.{shares}
-use Rattle.tabled_pool.specs.Tiling.{spans, within, covering, Tiles}
 
 pub spans-split : (a m n k p : ℕ) → m ≤ n → k ≡ a + m → spans a n p ≡ spans a m p + spans k (n - m) p
 unfolding spans

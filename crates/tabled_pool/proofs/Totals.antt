@@ -1,15 +1,10 @@
 -- The lines of a whole pool table.
-use Rattle.std.proofs.Common.{◌≡◌, ℕ, ◌+◌, ◌<◌, List, [], ◌++◌, get_or, length, map, replicate, refl, sym, ap, ◌∙◌, arith}
-use Rattle.std.proofs.lemmas.List.{length-append, length-map, length-replicate}
-use Rattle.std.proofs.lemmas.List.FromFn.{get_or-map-range_with_len, length-map-range_with_len}
-use Rattle.tabled_config.specs.declared.sides.Indent.{Indent}
-use Rattle.tabled_config.specs.declared.sides.Sides.{Sides}
-use Rattle.tabled_pool.specs.Colours.{Mark}
-use Rattle.tabled_pool.specs.Margins.{margin_line, within_margin, with_margin}
-use Rattle.tabled_pool.specs.Plan.{DrawingPlan}
-use Rattle.tabled_pool.specs.declared.pool_table.PoolTable.{PoolTable}
-use Rattle.tabled_pool.specs.Drawn.{drawn, drawn_line}
-use Rattle.tabled_pool.specs.Pool.{HasColumns, framed_height, framed_width, margin_marks, margin_of, plan, pool_lines, total_height}
+use Rattle.tabled_pool.proofs.Names.{DrawingPlan, HasColumns, Indent, List, Mark, PoolTable, Sides, [], ap, arith, drawn, drawn_line}
+use Rattle.tabled_pool.proofs.Names.{framed_height, framed_width, get_or, get_or-map-range_with_len, length, length-map}
+use Rattle.tabled_pool.proofs.Names.{length-map-range_with_len, length-replicate, map, margin_line, margin_marks, margin_of, plan}
+use Rattle.tabled_pool.proofs.Names.{pool_lines, refl, replicate, sym, with_margin, within_margin, ℕ, ◌++◌, ◌+◌, ◌<◌, ◌∙◌, ◌≡◌}
+use Rattle.std.proofs.lemmas.List.{length-append}
+use Rattle.tabled_pool.specs.Pool.{total_height}
 use Rattle.tabled_pool.proofs.PoolLemmas.{lined}
 
 pub drawn-length : (t : DrawingPlan) → length (drawn t) ≡ t.height

@@ -1,24 +1,14 @@
 -- What holds of each text of a tree holds of those of its parts.
-use Rattle.std.proofs.Common.{◌≡◌, ℕ, List, [], ◌∷◌, ◌++◌, Some, map, refl, sym, ◌∙◌, subst, ⊎_elim, string_bytes}
-use Rattle.std.specs.List.{All}
-use Rattle.std.specs.Str.{IsUtf8}
+use Rattle.tabled_pool.proofs.Names.{Across, All, Box, BoxSpacing, Cell, Column, Direction, Down, EachText, IsAdditive, IsPlain, IsUtf8}
+use Rattle.tabled_pool.proofs.Names.{IsUtf8-nil, List, Part, Rectangle, Row, Sides, Some, TableValue, Tree, [], box_of, box_step}
+use Rattle.tabled_pool.proofs.Names.{fold-roll-TableValue, framed, ind-TableValue, leaf, leaf_box, list_box, map, map-TableValue, owner}
+use Rattle.tabled_pool.proofs.Names.{refl, roll-TableValue, string_bytes, subst, sym, tree_of, trees, within, ℕ, ⊎_elim, ◌++◌, ◌∙◌, ◌∷◌}
+use Rattle.tabled_pool.proofs.Names.{◌≡◌}
 use Rattle.std.proofs.lemmas.List.Elements.{All-cons, All-head, All-nil, All-tail}
-use Rattle.std.proofs.lemmas.Str.{IsUtf8-nil, IsUtf8-string_bytes, chars-nil}
-use Rattle.tabled_text.specs.Plain.{IsAdditive, IsPlain}
+use Rattle.std.proofs.lemmas.Str.{IsUtf8-string_bytes, chars-nil}
 use Rattle.tabled_text.proofs.PlainLines.{additive-plain}
-use Rattle.tabled_config.specs.declared.sides.Sides.{Sides}
-use Rattle.tabled_pool.specs.declared.sizes.BoxSpacing.{BoxSpacing}
-use Rattle.tabled_pool.specs.declared.pieces.Rectangle.{Rectangle}
-use Rattle.tabled_pool.specs.declared.tree.TableValue.{TableValue}
-use Rattle.tabled_pool.specs.declared.tree.TableValue.TheOpen.{TableValue-F, Row, Column, Cell}
-use Rattle.tabled_pool.specs.declared.tree.TableValue.TheFolds.{fold-roll-TableValue, ind-TableValue, map-TableValue}
-use Rattle.tabled_pool.specs.declared.tree.TableValue.TheViews.{roll-TableValue}
-use Rattle.tabled_pool.specs.declared.sizes.Direction.{Direction}
-use Rattle.tabled_pool.specs.declared.sizes.Direction.TheVariants.{Across, Down}
-use Rattle.tabled_pool.specs.Boxes.{Part, Box, leaf_box, list_box, box_step, box_of}
-use Rattle.tabled_pool.specs.Tiling.{framed, within}
-use Rattle.tabled_pool.specs.Tree.{Tree, Trees, leaf, across, down, none, one_more, tree_of, tree_step, trees, EachText, EachTextIn}
-use Rattle.tabled_pool.specs.Owner.{owner}
+use Rattle.tabled_pool.specs.declared.tree.TableValue.TheOpen.{TableValue-F}
+use Rattle.tabled_pool.specs.Tree.{Trees, across, down, none, one_more, tree_step, EachTextIn}
 use Rattle.tabled_pool.proofs.Owners.{owner-here, owner-behind, is-1}
 
 -- ---- parts

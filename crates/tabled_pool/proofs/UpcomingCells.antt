@@ -1,16 +1,9 @@
 -- How many columns are out on a line where it comes to a place, and whose place that is.
-use Rattle.std.proofs.Common.{◌≡◌, ℕ, zero, suc, ◌+◌, ◌-◌, ◌<◌, ◌≤◌, true, [], Option, Some, None, refl, ◌∙◌, ap, sym, subst, arith, ⊎_elim, ◌⊎◌, inl, inr}
-use Rattle.std.proofs.lemmas.Bool.Decides.{nat_tests}
-use Rattle.tabled_pool.specs.declared.pieces.Rectangle.{Rectangle}
-use Rattle.tabled_pool.specs.declared.pieces.Kind.{Kind}
-use Rattle.tabled_pool.specs.declared.pieces.Kind.TheVariants.{Leaf, Bar, Rule}
-use Rattle.tabled_pool.specs.Boxes.{Part, is_line_kind}
-use Rattle.tabled_pool.specs.Tiling.{within, AreTiles}
-use Rattle.tabled_pool.specs.Block.{leaf_line}
-use Rattle.tabled_pool.specs.Plan.{DrawingPlan, whole}
-use Rattle.tabled_pool.specs.Drawn.{part_text}
-use Rattle.tabled_pool.specs.Owner.{owner}
-use Rattle.tabled_pool.proofs.Owners.{Inside, inside-within, within-inside, within-le, owner-inside, owner-some, owner-unique, counted, is-1, le-or}
+use Rattle.tabled_pool.proofs.Names.{AreTiles, Bar, DrawingPlan, Kind, Leaf, None, Option, Part, Rectangle, Rule, Some, [], ap, arith, inl}
+use Rattle.tabled_pool.proofs.Names.{inr, is_line_kind, leaf_line, nat_tests, owner, part_text, refl, subst, suc, sym, true, whole, within}
+use Rattle.tabled_pool.proofs.Names.{zero, ℕ, ⊎_elim, ◌+◌, ◌-◌, ◌<◌, ◌∙◌, ◌≡◌, ◌≤◌, ◌⊎◌}
+use Rattle.tabled_pool.proofs.Owners.{Inside, inside-within, within-inside, within-le, owner-inside, owner-some, owner-unique, counted}
+use Rattle.tabled_pool.proofs.Owners.{is-1, le-or}
 
 -- the columns that are out once the places below n are written
 abbrev pub ahead_kind : Kind → Rectangle → ℕ → ℕ

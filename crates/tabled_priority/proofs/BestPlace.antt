@@ -1,15 +1,11 @@
 -- The best place so far.
-use Rattle.std.proofs.Common.{◌≡◌, ◌≢◌, ℕ, ◌<◌, ◌≤◌, ◌==◌, ◌&&◌, ◌||◌, Bool, true, false, List, nat_le, nat_lt, if◌then◌else◌}
-use Rattle.std.proofs.Common.{MatchOption, None, Option, Some, arith, length, subst, sym, ⊎_elim}
-use Rattle.std.proofs.lemmas.Bool.Decides.{nat_tests}
-use Rattle.std.proofs.lemmas.Bool.{cases_lt, cases_eq}
+use Rattle.tabled_priority.proofs.Names.{Bool, IsBefore, IsChosen, List, MatchOption, arith, at, cases_eq, cases_lt, false, if◌then◌else◌}
+use Rattle.tabled_priority.proofs.Names.{in_range, length, nat_le, nat_lt, nat_tests, subst, sym, true, ℕ, ⊎_elim, ◌&&◌, ◌<◌, ◌==◌, ◌||◌}
+use Rattle.tabled_priority.proofs.Names.{◌≡◌, ◌≢◌, ◌≤◌}
+use Rattle.std.proofs.Common.{None, Option, Some}
 use Rattle.tabled_priority.specs.declared.choice.Choice.{Choice}
 use Rattle.tabled_priority.specs.declared.choice.Choice.TheVariants.{Outermost, Greatest, Least}
-use Rattle.tabled_priority.specs.Choices.{IsChosen}
-use Rattle.tabled_priority.specs.Laws.Permitted.{in_range}
 use Rattle.tabled_priority.specs.Peak.{NoneAbove}
-use Rattle.tabled_priority.specs.Permitted.{at}
-use Rattle.tabled_priority.specs.Shrunk.{IsBefore}
 use Rattle.tabled_priority.proofs.Turns.{before-other}
 
 abbrev pub NoneAboveBelow : List ℕ → List ℕ → ℕ → Type 0

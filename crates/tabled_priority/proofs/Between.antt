@@ -1,11 +1,10 @@
 -- Which entries stand between their limits.
-use Rattle.std.proofs.Common.{◌≡◌, ◌≢◌, ℕ, ◌+◌, ◌-◌, ◌<◌, ◌≤◌, Bool, true, false, if◌then◌else◌}
-use Rattle.std.proofs.Common.{◌&&◌, ◌||◌, ◌==◌, List, length, min, sym, ◌∙◌, arith, ⊎_elim, nat_lt}
-use Rattle.std.proofs.lemmas.Bool.Decides.{nat_tests}
-use Rattle.std.proofs.lemmas.Bool.{cases_lt, cases_eq, cases_Bool}
-use Rattle.tabled_priority.specs.Permitted.{at, taken, IsBetween, HasOneBetween, HasEvenLosses}
-use Rattle.tabled_priority.specs.Laws.Permitted.{in_range}
-use Rattle.tabled_priority.specs.Shrunk.{comes_before, is_met, start, IsSideShrunk, IsMinShrunk, IsRoundShrunk}
+use Rattle.tabled_priority.proofs.Names.{Bool, IsMinShrunk, IsRoundShrunk, IsSideShrunk, List, arith, at, cases_eq, cases_lt, false}
+use Rattle.tabled_priority.proofs.Names.{if◌then◌else◌, in_range, is_met, length, min, nat_lt, nat_tests, start, sym, taken, true, ℕ}
+use Rattle.tabled_priority.proofs.Names.{⊎_elim, ◌&&◌, ◌+◌, ◌-◌, ◌<◌, ◌==◌, ◌||◌, ◌∙◌, ◌≡◌, ◌≢◌, ◌≤◌}
+use Rattle.std.proofs.lemmas.Bool.{cases_Bool}
+use Rattle.tabled_priority.specs.Permitted.{IsBetween, HasOneBetween, HasEvenLosses}
+use Rattle.tabled_priority.specs.Shrunk.{comes_before}
 use Rattle.tabled_priority.specs.Laws.Shrunk.{same_where_none, sides}
 
 side_place : (right : Bool) (old mins : List ℕ) (by : ℕ) (new : List ℕ)

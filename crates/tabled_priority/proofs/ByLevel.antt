@@ -1,25 +1,16 @@
 -- Lists that were changed up to a level are those of the priorities.
-use Rattle.std.proofs.Common.{◌≡◌, ℕ, ◌+◌, ◌-◌, ◌<◌, ◌≤◌, List, length, min}
-use Rattle.std.proofs.Common.{arith, ⊎_elim}
-use Rattle.std.proofs.lemmas.Bool.{cases_lt}
-use Rattle.std.proofs.lemmas.List.{get_or_past}
-use Rattle.tabled_priority.specs.Numbers.{greatest_usize}
-use Rattle.tabled_priority.specs.declared.schedule.Schedule.{Schedule}
-use Rattle.tabled_priority.specs.declared.schedule.Schedule.TheVariants.{Depths, Rounds, Heights, Gains}
-use Rattle.tabled_priority.specs.Permitted.{at}
+use Rattle.tabled_priority.proofs.Names.{CanChange, Depths, Gains, Heights, IsChanged, IsReached, IsScheduled, IsSpan, IsSpanBy, List}
+use Rattle.tabled_priority.proofs.Names.{Rounds, Schedule, arith, at, at-le-sum, cases_lt, first_level, get_or_past, greatest_usize}
+use Rattle.tabled_priority.proofs.Names.{last_level, length, min, place_after, share, start_of, total_amount, ℕ, ⊎_elim, ◌+◌, ◌-◌, ◌<◌, ◌≡◌}
+use Rattle.tabled_priority.proofs.Names.{◌≤◌}
 use Rattle.tabled_priority.specs.Laws.Grown.{IsMinGrown-still, IsRoundGrown-still}
 use Rattle.tabled_priority.specs.Laws.Round.{IsRoundShrunk-still}
-use Rattle.tabled_priority.specs.Laws.Shrunk.{IsMaxShrunk-still, at-le-sum}
-use Rattle.tabled_priority.specs.Schedule.{CanChange, StaysInRange, IsChanged, IsReached, IsScheduled}
-use Rattle.tabled_priority.specs.Schedule.{IsSpan, IsSpanBy, amount_by, first_level, last_level}
-use Rattle.tabled_priority.specs.Schedule.{share, start_of, total_amount}
-use Rattle.tabled_priority.specs.Shrunk.{place_after}
-use Rattle.tabled_priority.proofs.Gains.{gains_gain, grown_by_shares, heights_gain, min_grown}
-use Rattle.tabled_priority.proofs.Gains.{round_grown, share_fits}
-use Rattle.tabled_priority.proofs.Gains.{wanted_added, zero_end}
+use Rattle.tabled_priority.specs.Laws.Shrunk.{IsMaxShrunk-still}
+use Rattle.tabled_priority.specs.Schedule.{StaysInRange, amount_by}
+use Rattle.tabled_priority.proofs.Gains.{gains_gain, grown_by_shares, heights_gain, min_grown, round_grown, share_fits, wanted_added}
+use Rattle.tabled_priority.proofs.Gains.{zero_end}
 use Rattle.tabled_priority.proofs.Leveled.{max_shrunk, round_shrunk}
-use Rattle.tabled_priority.proofs.Shares.{depths_spare, depths_within, rounds_spare}
-use Rattle.tabled_priority.proofs.Shares.{taken_by_shares, wanted_taken}
+use Rattle.tabled_priority.proofs.Shares.{depths_spare, depths_within, rounds_spare, taken_by_shares, wanted_taken}
 
 -- sizes and minimums are numbers of the type `usize`
 pub record AreSizes (old mins : List ℕ) : Type 0 where

@@ -1,21 +1,14 @@
 -- What columns gain by their shares.
-use Rattle.std.proofs.Common.{◌≡◌, ℕ, ◌+◌, ◌-◌, ◌<◌, ◌≤◌, ◌^◌, Bool, true, false, cond}
-use Rattle.std.proofs.Common.{if◌then◌else◌, ◌&&◌, ◌==◌, List, length, sum, min, max, refl, sym}
-use Rattle.std.proofs.Common.{ap, ◌∙◌, subst, arith, ⊎_elim, zero, suc, nat_lt, nat_le}
-use Rattle.std.proofs.lemmas.Bool.Decides.{nat_tests}
-use Rattle.std.proofs.lemmas.Bool.{cases_lt, ne_eqb}
-use Rattle.std.proofs.lemmas.List.{get_or_past}
-use Rattle.tabled_priority.specs.Numbers.{greatest_usize}
-use Rattle.tabled_priority.specs.declared.schedule.Schedule.TheVariants.{Heights, Gains}
-use Rattle.tabled_priority.specs.Permitted.{at}
-use Rattle.tabled_priority.specs.Laws.Permitted.{in_range}
-use Rattle.tabled_priority.specs.Shrunk.{ceiling, is_met, start, place_after}
-use Rattle.tabled_priority.specs.Laws.Shrunk.{at-le-sum}
-use Rattle.tabled_priority.specs.Sums.{sum_below, one_if}
-use Rattle.tabled_priority.specs.Laws.Sums.{sum_below-same, sum_below-plus, sum_below-zero, sum_below-term, sum-below}
-use Rattle.tabled_priority.specs.Grown.{added, IsGrownFrom, IsMinGrown, IsRoundGrown}
-use Rattle.tabled_priority.specs.Laws.Grown.{added-some, added-none}
-use Rattle.tabled_priority.specs.Schedule.{IsReached, IsSpan, IsSpanBy, amount, first_level, is_open, last_level, share, total_amount}
+use Rattle.tabled_priority.proofs.Names.{Bool, Gains, Heights, IsGrownFrom, IsMinGrown, IsReached, IsSpan, IsSpanBy, List, added}
+use Rattle.tabled_priority.proofs.Names.{added-none, added-some, amount, ap, arith, at, at-le-sum, cases_lt, ceiling, cond, false}
+use Rattle.tabled_priority.proofs.Names.{first_level, get_or_past, greatest_usize, if◌then◌else◌, in_range, is_met, is_open, last_level}
+use Rattle.tabled_priority.proofs.Names.{length, max, min, nat_le, nat_lt, nat_tests, one_if, place_after, refl, share, start, subst, suc}
+use Rattle.tabled_priority.proofs.Names.{sum, sum-below, sum_below, sum_below-plus, sum_below-same, sum_below-zero, sym, total_amount, true}
+use Rattle.tabled_priority.proofs.Names.{zero, ℕ, ⊎_elim, ◌&&◌, ◌+◌, ◌-◌, ◌<◌, ◌==◌, ◌∙◌, ◌≡◌, ◌≤◌}
+use Rattle.std.proofs.Common.{◌^◌}
+use Rattle.std.proofs.lemmas.Bool.{ne_eqb}
+use Rattle.tabled_priority.specs.Laws.Sums.{sum_below-term}
+use Rattle.tabled_priority.specs.Grown.{IsRoundGrown}
 use Rattle.tabled_priority.proofs.Leveled.{one_if-le, start-zero}
 use Rattle.tabled_priority.proofs.Shares.{shares}
 

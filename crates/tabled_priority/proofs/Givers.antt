@@ -1,10 +1,7 @@
 -- What columns give, the least sizes first.
-use Rattle.std.proofs.Common.{◌≡◌, ℕ, ◌+◌, ◌-◌, ◌<◌, ◌≤◌, List, if◌then◌else◌, length, sum, ap, ◌∙◌, arith, nat_le}
-use Rattle.std.proofs.lemmas.Bool.Decides.{nat_tests}
-use Rattle.tabled_priority.specs.Permitted.{at, spare, spare_total}
-use Rattle.tabled_priority.specs.Spares.{spare_if_up_to, spare_up_to}
-use Rattle.tabled_priority.specs.Sums.{sum_below}
-use Rattle.tabled_priority.specs.Laws.Sums.{sum-below, sum_below-le, sum_below-plus, sum_below-same, sum_below-zero}
+use Rattle.tabled_priority.proofs.Names.{List, ap, arith, at, if◌then◌else◌, length, nat_le, nat_tests, spare, spare_if_up_to, spare_total}
+use Rattle.tabled_priority.proofs.Names.{spare_up_to, sum, sum-below, sum_below, sum_below-le, sum_below-plus, sum_below-same}
+use Rattle.tabled_priority.proofs.Names.{sum_below-zero, ℕ, ◌+◌, ◌-◌, ◌<◌, ◌∙◌, ◌≡◌, ◌≤◌}
 
 none_at_zero : (v m : ℕ) → (if nat_le v 0 then v - m else 0) ≡ 0
 none_at_zero v m = grind (arith, nat_tests)

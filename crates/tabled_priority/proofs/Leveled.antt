@@ -1,16 +1,8 @@
 -- Lists that shrank up to a level are those of the priorities.
-use Rattle.std.proofs.Common.{◌≡◌, ℕ, ◌+◌, ◌-◌, ◌<◌, ◌≤◌, Bool, true, false, if◌then◌else◌, ◌&&◌}
-use Rattle.std.proofs.Common.{List, length, min, max, refl, sym, ap, ◌∙◌, subst, arith, ⊎_elim}
-use Rattle.std.proofs.Common.{nat_lt, nat_le}
-use Rattle.std.proofs.lemmas.Bool.Decides.{nat_tests}
-use Rattle.std.proofs.lemmas.Bool.{cases_lt}
-use Rattle.std.proofs.lemmas.List.{get_or_past}
-use Rattle.tabled_priority.specs.Numbers.{greatest_usize}
-use Rattle.tabled_priority.specs.declared.schedule.Schedule.TheVariants.{Depths, Rounds}
-use Rattle.tabled_priority.specs.Permitted.{at, low, spare, taken, IsTakenFrom}
-use Rattle.tabled_priority.specs.Shrunk.{ceiling, is_met, start, place_after, IsMaxShrunk, IsRoundShrunk}
-use Rattle.tabled_priority.specs.Sums.{one_if}
-use Rattle.tabled_priority.specs.Schedule.{IsSpanBy, first_level, last_level, is_open, share}
+use Rattle.tabled_priority.proofs.Names.{Bool, Depths, IsMaxShrunk, IsRoundShrunk, IsSpanBy, IsTakenFrom, List, Rounds, ap, arith, at}
+use Rattle.tabled_priority.proofs.Names.{cases_lt, ceiling, false, first_level, get_or_past, greatest_usize, if◌then◌else◌, is_met, is_open}
+use Rattle.tabled_priority.proofs.Names.{last_level, length, low, max, min, nat_le, nat_lt, nat_tests, one_if, place_after, refl, share}
+use Rattle.tabled_priority.proofs.Names.{spare, start, subst, sym, taken, true, ℕ, ⊎_elim, ◌&&◌, ◌+◌, ◌-◌, ◌<◌, ◌∙◌, ◌≡◌, ◌≤◌}
 use Rattle.tabled_priority.specs.Laws.Round.{met_itself}
 
 -- ---- the greatest first

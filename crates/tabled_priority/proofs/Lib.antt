@@ -4,6 +4,7 @@ pub mod ByLevel
 pub mod Gains
 pub mod Givers
 pub mod Leveled
+pub mod Names
 pub mod Optimal
 pub mod Passes
 pub mod Ramps

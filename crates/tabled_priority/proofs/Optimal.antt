@@ -1,11 +1,9 @@
 -- A list that is cut at a level has the least greatest entry, one raised to a level the greatest least.
-use Rattle.std.proofs.Common.{ℕ, ◌≤◌, Bool, not, List, [], ◌∷◌, zero, suc, ⊎_elim, arith, sym, ◌∙◌}
-use Rattle.std.proofs.lemmas.Bool.{cases_lt}
+use Rattle.tabled_priority.proofs.Names.{Bool, IsMaxShrunk, IsMinGrown, List, [], arith, at, cases_lt, suc, sym, zero, ℕ, ⊎_elim, ◌∙◌, ◌∷◌}
+use Rattle.tabled_priority.proofs.Names.{◌≤◌}
+use Rattle.std.proofs.Common.{not}
 use Rattle.tabled_text.specs.Measure.{greatest}
-use Rattle.tabled_priority.specs.Permitted.{at}
-use Rattle.tabled_priority.specs.Shrunk.{IsMaxShrunk}
 use Rattle.tabled_priority.specs.Laws.Shrunk.{lt-sum, level-le-ceiling}
-use Rattle.tabled_priority.specs.Grown.{IsMinGrown}
 use Rattle.tabled_priority.specs.Least.{HasLeastGreatest, IsLevel, HasGreatestLeast}
 
 pub at-le-greatest : (xs : List ℕ) (i : ℕ) → at xs i ≤ greatest xs

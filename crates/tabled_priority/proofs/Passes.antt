@@ -1,22 +1,15 @@
 -- Taking from columns of some sizes, turn by turn.
-use Rattle.std.proofs.Common.{◌≡◌, ◌≢◌, ℕ, ◌+◌, ◌-◌, ◌<◌, ◌≤◌, ◌⊎◌, Bool, true, false, List, length, length-set, min, slice_set, sum}
-use Rattle.std.proofs.Common.{refl, sym, ◌∙◌, subst, arith, ⊎_elim, inl, inr, if◌then◌else◌, ◌&&◌, nat_le, nat_lt}
-use Rattle.std.proofs.lemmas.Bool.Decides.{nat_tests}
-use Rattle.std.proofs.lemmas.Bool.{cases_lt, cases_eq}
-use Rattle.std.proofs.lemmas.List.{get_or-set_same, get_or-set_other, get_or_past}
-use Rattle.std.proofs.lemmas.List.Sums.{sum_by-set}
+use Rattle.tabled_priority.proofs.Names.{Bool, IsBefore, IsMinShrunk, IsPermitted, IsSideShrunk, IsTakenFrom, List, arith, at, cases_eq}
+use Rattle.tabled_priority.proofs.Names.{cases_lt, false, get_or-set_other, get_or-set_same, get_or_past, if◌then◌else◌, in_range, inl, inr}
+use Rattle.tabled_priority.proofs.Names.{length, length-set, low, min, nat_le, nat_lt, nat_tests, place_at, refl, slice_set, spare}
+use Rattle.tabled_priority.proofs.Names.{spare_if_up_to, spare_up_to, spare_within, subst, sum, sum_below, sum_below-le, sum_below-same}
+use Rattle.tabled_priority.proofs.Names.{sum_by-set, sym, taken, true, ℕ, ⊎_elim, ◌&&◌, ◌+◌, ◌-◌, ◌<◌, ◌∙◌, ◌≡◌, ◌≢◌, ◌≤◌, ◌⊎◌}
 use Rattle.tabled_priority.specs.declared.schedule.Bracket.{Bracket}
-use Rattle.tabled_priority.specs.Laws.Permitted.{in_range}
-use Rattle.tabled_priority.specs.Peak.{place_at}
 use Rattle.tabled_priority.specs.Laws.Shrunk.{before}
-use Rattle.tabled_priority.specs.Laws.Sums.{sum_below-le, sum_below-same}
-use Rattle.tabled_priority.specs.Permitted.{IsPermitted, IsTakenFrom, at, low, spare, taken}
-use Rattle.tabled_priority.specs.Shrunk.{IsBefore, IsMinShrunk, IsSideShrunk}
-use Rattle.tabled_priority.specs.Spares.{IsTakenInOrder, IsWithin, spare_if_up_to, spare_up_to, spare_within}
-use Rattle.tabled_priority.specs.Sums.{sum_below}
+use Rattle.tabled_priority.specs.Spares.{IsTakenInOrder, IsWithin}
 use Rattle.tabled_priority.proofs.Givers.{all_up_to, none_up_to, spare_up_to-le, sum-each}
-use Rattle.tabled_priority.proofs.Turns.{IsAhead, IsPassed, ahead-after, ahead-more, ahead-place, before-other}
-use Rattle.tabled_priority.proofs.Turns.{passed-all, passed-before, passed-more, passed-none, place_at-lt}
+use Rattle.tabled_priority.proofs.Turns.{IsAhead, IsPassed, ahead-after, ahead-more, ahead-place, before-other, passed-all, passed-before}
+use Rattle.tabled_priority.proofs.Turns.{passed-more, passed-none, place_at-lt}
 
 -- what holds before a turn
 pub record Midway (right : Bool) (sizes : Bracket) (old mins : List ℕ) (by turn : ℕ) (values : List ℕ) (left : ℕ) : Type 0 where

@@ -1,11 +1,8 @@
 -- What columns take as a level rises: linear between the levels at which columns start and end.
-use Rattle.std.proofs.Common.{◌≡◌, ℕ, ◌+◌, ◌-◌, ◌*◌, ◌<◌, ◌≤◌, ◌&&◌, min, sym, ap, ◌∙◌, arith, ⊎_elim, zero, suc, nat_lt, nat_le}
+use Rattle.tabled_priority.proofs.Names.{IsBase, IsReached, amount, ap, arith, cases_lt, is_open, min, nat_le, nat_lt, nat_tests, one_if}
+use Rattle.tabled_priority.proofs.Names.{open_count, suc, sum_below-le, sum_below-plus, sum_below-same, sum_below-zero, sym, total_amount}
+use Rattle.tabled_priority.proofs.Names.{zero, ℕ, ⊎_elim, ◌&&◌, ◌*◌, ◌+◌, ◌-◌, ◌<◌, ◌∙◌, ◌≡◌, ◌≤◌}
 use Rattle.std.proofs.Math.Nat.{suc-mul}
-use Rattle.std.proofs.lemmas.Bool.Decides.{nat_tests}
-use Rattle.std.proofs.lemmas.Bool.{cases_lt}
-use Rattle.tabled_priority.specs.Sums.{one_if}
-use Rattle.tabled_priority.specs.Laws.Sums.{sum_below-same, sum_below-le, sum_below-plus, sum_below-zero}
-use Rattle.tabled_priority.specs.Schedule.{amount, total_amount, is_open, open_count, IsBase, IsReached}
 
 one_more : (a b x : ℕ) → min (x + 1) b - a ≡ (min x b - a) + one_if (nat_le a x && nat_lt x b)
 one_more a b x = grind (arith, nat_tests)

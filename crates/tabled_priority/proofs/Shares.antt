@@ -1,14 +1,9 @@
 -- What columns take or gain by their shares.
-use Rattle.std.proofs.Common.{◌≡◌, ℕ, ◌+◌, ◌-◌, ◌≤◌, Bool, true, false, cond, ◌&&◌, ◌==◌, List, length, min, refl, ap, ◌∙◌, arith, sym}
+use Rattle.tabled_priority.proofs.Names.{Bool, Depths, Gains, Heights, IsReached, IsSpan, IsTakenFrom, List, Rounds, Schedule, amount, ap}
+use Rattle.tabled_priority.proofs.Names.{arith, at, cond, false, first_level, greatest_usize, is_met, is_open, last_level, length, min}
+use Rattle.tabled_priority.proofs.Names.{one_if, refl, share, spare, spare_total, sum-below, sum_below, sum_below-plus, sum_below-same, sym}
+use Rattle.tabled_priority.proofs.Names.{taken, total_amount, true, ℕ, ◌&&◌, ◌+◌, ◌-◌, ◌==◌, ◌∙◌, ◌≡◌, ◌≤◌}
 use Rattle.std.proofs.Math.Bool.{and-true, and-false}
-use Rattle.tabled_priority.specs.Numbers.{greatest_usize}
-use Rattle.tabled_priority.specs.declared.schedule.Schedule.{Schedule}
-use Rattle.tabled_priority.specs.declared.schedule.Schedule.TheVariants.{Depths, Rounds, Heights, Gains}
-use Rattle.tabled_priority.specs.Permitted.{at, spare, spare_total, taken, IsTakenFrom}
-use Rattle.tabled_priority.specs.Sums.{sum_below, one_if}
-use Rattle.tabled_priority.specs.Laws.Sums.{sum_below-same, sum_below-plus, sum-below}
-use Rattle.tabled_priority.specs.Shrunk.{is_met}
-use Rattle.tabled_priority.specs.Schedule.{amount, total_amount, first_level, last_level, is_open, share, IsReached, IsSpan}
 use Rattle.tabled_priority.proofs.Ramps.{amount-more}
 
 -- the levels of a column depend on its value alone

@@ -1,11 +1,7 @@
 -- How many open columns stand from a place round the list to another.
-use Rattle.std.proofs.Common.{◌≡◌, ℕ, ◌+◌, ◌-◌, ◌<◌, ◌≤◌, ◌⊎◌, Bool, true, ◌&&◌, ap, ◌∙◌, arith, ⊎_elim, zero, suc, nat_lt}
-use Rattle.std.proofs.lemmas.Bool.Decides.{nat_tests}
-use Rattle.std.proofs.lemmas.Bool.{cases_lt}
-use Rattle.tabled_priority.specs.Sums.{sum_below, one_if}
-use Rattle.tabled_priority.specs.Laws.Sums.{sum_below-same, sum_below-plus, sum_below-prefix}
-use Rattle.tabled_priority.specs.Shrunk.{is_met}
-use Rattle.tabled_priority.specs.Schedule.{is_open, open_count, IsSpan}
+use Rattle.tabled_priority.proofs.Names.{Bool, IsSpan, ap, arith, cases_lt, is_met, is_open, nat_lt, nat_tests, one_if, open_count, suc}
+use Rattle.tabled_priority.proofs.Names.{sum_below, sum_below-plus, sum_below-prefix, sum_below-same, true, zero, ℕ, ⊎_elim, ◌&&◌, ◌+◌, ◌-◌}
+use Rattle.tabled_priority.proofs.Names.{◌<◌, ◌∙◌, ◌≡◌, ◌≤◌, ◌⊎◌}
 
 kept : (b : Bool) (i k : ℕ) → i < k → one_if (b && nat_lt i k) ≡ one_if b
 kept b i k h = grind (arith, nat_tests)

@@ -1,7 +1,5 @@
 -- Sums of the first numbers of a sequence.
-use Rattle.std.proofs.Common.{ℕ, suc, ◌+◌, ◌<◌, ◌≤◌, arith}
-use Rattle.tabled_priority.specs.Sums.{sum_below}
-use Rattle.tabled_priority.specs.Laws.Sums.{sum_below-prefix}
+use Rattle.tabled_priority.proofs.Names.{arith, suc, sum_below, sum_below-prefix, ℕ, ◌+◌, ◌<◌, ◌≤◌}
 
 -- a part of a sum is at most the whole
 pub sum_step : (f : ℕ → ℕ) (i n : ℕ) → i < n → sum_below f i + f i ≤ sum_below f n

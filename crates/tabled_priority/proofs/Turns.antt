@@ -1,8 +1,6 @@
 -- Turns over the indices of a list, from one side.
-use Rattle.std.proofs.Common.{◌≡◌, ◌≢◌, ℕ, ◌+◌, ◌-◌, ◌<◌, ◌≤◌, ◌⊎◌, Bool, true, false, arith, ⊎_elim, inl, inr}
-use Rattle.std.proofs.lemmas.Bool.{cases_eq}
-use Rattle.tabled_priority.specs.Shrunk.{IsBefore}
-use Rattle.tabled_priority.specs.Peak.{place_at}
+use Rattle.tabled_priority.proofs.Names.{Bool, IsBefore, arith, cases_eq, false, inl, inr, place_at, true, ℕ, ⊎_elim, ◌+◌, ◌-◌, ◌<◌, ◌≡◌}
+use Rattle.tabled_priority.proofs.Names.{◌≢◌, ◌≤◌, ◌⊎◌}
 
 pub place_at-lt : (right : Bool) (count turn : ℕ) → turn < count → place_at right count turn < count
 place_at-lt true count turn h = omega arith

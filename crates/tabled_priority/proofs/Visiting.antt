@@ -1,12 +1,10 @@
 -- Counts of visits.
-use Rattle.std.proofs.Common.{◌≡◌, ℕ, ◌+◌, ◌*◌, ◌≤◌, List, [], ◌∷◌, length, refl, arith, zero, suc}
-use Rattle.std.proofs.lemmas.Bool.Decides.{nat_tests}
+use Rattle.tabled_priority.proofs.Names.{IsGrownFrom, IsTakenFrom, List, [], added, arith, changed, counted, length, nat_tests, refl, suc}
+use Rattle.tabled_priority.proofs.Names.{taken, zero, ℕ, ◌*◌, ◌+◌, ◌∷◌, ◌≡◌, ◌≤◌}
 use Rattle.tabled_priority.specs.declared.column.Steps.{Steps}
 use Rattle.tabled_priority.specs.Changes.{Grows, Shrinks}
-use Rattle.tabled_priority.specs.Grown.{IsGrownFrom, added}
-use Rattle.tabled_priority.specs.Permitted.{IsTakenFrom, taken}
 use Rattle.std.proofs.Math.ListN.{set}
-use Rattle.tabled_priority.specs.Visits.{changed, counted, IsBounded}
+use Rattle.tabled_priority.specs.Visits.{IsBounded}
 
 pub changed-self : (xs : List ℕ) → changed xs xs ≡ 0
 changed-self [] = refl

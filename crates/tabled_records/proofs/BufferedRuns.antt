@@ -1,18 +1,15 @@
 -- Records of which some rows were read ahead.
-use Rattle.std.proofs.Common.{◌≡◌, Bool, true, false, List, [], ◌∷◌, ◌++◌, Option, None, Some, length, refl, sym, ap, subst, ◌∙◌, arith, append-nil}
+use Rattle.tabled_records.proofs.Names.{All, All-cons, All-head, All-nil, All-tail, AllZip, Bool, BufBegin, Count, Drains, Given}
+use Rattle.tabled_records.proofs.Names.{HoldsAlong, IsFinite, IsFiniteIterable, List, None, Option, Reads, ReadsTo, RowsBegin, RowsEnd}
+use Rattle.tabled_records.proofs.Names.{Some, Yields, [], ap, append-nil, arith, cells_ahead, false, length, refl, subst, sym, true, ◌++◌}
+use Rattle.tabled_records.proofs.Names.{◌∙◌, ◌∷◌, ◌≡◌}
 use Rattle.std.specs.Prelude.{MatchOption, ⊤}
-use Rattle.std.specs.List.{All, AllZip}
-use Rattle.std.specs.Iterator.{Count, Drains, HoldsAlong, IsFinite, IsFiniteIterable, Yields}
 use Rattle.std.specs.Vec.Iter.{into_iter_items, into_iter_len, into_iter_steps}
 use Rattle.std.specs.declared.vec.Vec.{Vec}
 use Rattle.std.specs.declared.vec.IntoIter.{IntoIter}
 use Rattle.std.specs.declared.alloc.Global.{Global}
 use Rattle.std.proofs.lemmas.List.{nil_from_length}
-use Rattle.std.proofs.lemmas.List.Elements.{All-cons, All-head, All-nil, All-tail}
-use Rattle.tabled_base.specs.Given.{Given}
-use Rattle.tabled_base.specs.RowsGiven.{RowsBegin, RowsEnd}
-use Rattle.tabled_records.specs.Reading.{Reads, ReadsTo}
-use Rattle.tabled_records.specs.Buffered.{BufBegin, MayGiveLater, ReadsLater, buf_cell_steps, buf_steps, can_cell, cells_ahead, cells_left, rows_left}
+use Rattle.tabled_records.specs.Buffered.{MayGiveLater, ReadsLater, buf_cell_steps, buf_steps, can_cell, cells_left, rows_left}
 use Rattle.tabled_records.specs.declared.buffer.BufCells.{BufCells}
 use Rattle.tabled_records.specs.declared.buffer.BufCells.TheVariants.{Kept, Later}
 use Rattle.tabled_records.specs.declared.buffer.BufRows.{BufRows}

@@ -1,10 +1,13 @@
 -- Rows of cells some of which have changed.
-use Rattle.std.proofs.Common.{◌≡◌, ℕ, zero, suc, ◌+◌, ◌*◌, ◌-◌, ◌<◌, ◌≤◌, List, [], ◌∷◌, length, drop, get_or, replicate, refl, sym, ap, ◌∙◌, arith, All}
+use Rattle.tabled_records.proofs.Names.{IsRectangular, List, [], ap, arith, cell_at, changed_rows, columns, drop, get_or, get_or-drop}
+use Rattle.tabled_records.proofs.Names.{length, length-drop, refl, replicate, suc, sym, text_of, zero, ℕ, ◌*◌, ◌+◌, ◌-◌, ◌<◌, ◌∙◌, ◌∷◌, ◌≡◌}
+use Rattle.tabled_records.proofs.Names.{◌≤◌}
+use Rattle.std.proofs.Common.{All}
 use Rattle.std.proofs.Math.ListN.{set}
-use Rattle.std.proofs.lemmas.List.{get_or_default, drop-drop, drop-replicate, drop-set-add, drop-set-lt, get_or-drop, length-drop}
+use Rattle.std.proofs.lemmas.List.{get_or_default, drop-drop, drop-replicate, drop-set-add, drop-set-lt}
 use Rattle.std.proofs.lemmas.Nat.{mul-add-lt}
-use Rattle.tabled_base.specs.Cells.{IsInside, IsRectangular, cell_at, columns, with_cell}
-use Rattle.tabled_records.specs.Changed.{IsPlace, changed_row, changed_rows, text_of}
+use Rattle.tabled_base.specs.Cells.{IsInside, with_cell}
+use Rattle.tabled_records.specs.Changed.{IsPlace, changed_row}
 use Rattle.tabled_records.specs.declared.changed_cell.ChangedCell.{ChangedCell}
 
 -- ---- one row

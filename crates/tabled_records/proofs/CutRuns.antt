@@ -1,9 +1,9 @@
 -- Cells with the widths of their columns.
-use Rattle.std.proofs.Common.{◌≡◌, ℕ, List, [], ◌∷◌, Option, None, Some, refl, sym, ap, subst, ◌∙◌}
-use Rattle.std.specs.Iterator.{Drains, Yields}
+use Rattle.tabled_records.proofs.Names.{Drains, List, None, Option, Some, Yields, [], ap, cut_cells_steps, refl, subst, sym, with_widths, ℕ}
+use Rattle.tabled_records.proofs.Names.{◌∙◌, ◌∷◌, ◌≡◌}
 use Rattle.tabled_records.specs.declared.truncate.CutCell.{CutCell}
 use Rattle.tabled_records.specs.declared.truncate.CutCells.{CutCells}
-use Rattle.tabled_records.specs.CutRows.{TakesWidth, cut_cells_steps, with_widths}
+use Rattle.tabled_records.specs.CutRows.{TakesWidth}
 
 with_widths-cons : {A : Type 0} (widths others : List ℕ) (width : Option ℕ) (cell : A) (cells : List A) → TakesWidth widths width others
     → with_widths widths (cell ∷ cells) ≡ record { cell = cell; width = width } ∷ with_widths others cells

@@ -1,19 +1,17 @@
 -- What holds while a text is cut into cells and rows.
-use Rattle.std.proofs.Common.{◌≡◌, ◌==◌, true, ℕ, ◌+◌, ◌-◌, ◌<◌, ◌≤◌, false, List, [], ◌∷◌, ◌++◌, length, take, drop, get_or, append_assoc, length-append, refl, sym, ap, subst, ◌∙◌, ⊎_elim, arith}
-use Rattle.std.specs.Int.{is_in_range}
-use Rattle.std.specs.List.{All, slice_range}
-use Rattle.std.specs.Str.{IsCharBoundary, IsUtf8}
-use Rattle.std.proofs.Math.Seq.{take-length}
+use Rattle.tabled_records.proofs.Names.{All, All-nil, AreKept, AreRanges, HasNo, IsCharBoundary, IsCharBoundary-after_ascii, IsPrintable}
+use Rattle.tabled_records.proofs.Names.{IsUtf8, List, [], ap, append_assoc, arith, behind, cases_lt, drop, drop-append-le, false, get_or}
+use Rattle.tabled_records.proofs.Names.{get_or-drop, get_or-take, is_in_range, length, length-append, length-drop, length-take, map-append}
+use Rattle.tabled_records.proofs.Names.{part, parts, refl, slice_range, subst, sym, take, take-length, texts_from, true, ℕ, ◌++◌, ◌+◌, ◌-◌}
+use Rattle.tabled_records.proofs.Names.{◌<◌, ◌==◌, ◌∙◌, ◌∷◌, ◌≡◌, ◌≤◌}
+use Rattle.std.proofs.Common.{⊎_elim}
 use Rattle.std.proofs.lemmas.Bool.Decides.{nat_tests}
-use Rattle.std.proofs.lemmas.Bool.{cases_lt}
-use Rattle.std.proofs.lemmas.List.{drop-append-le, drop_all, drop_more, get_or-drop, get_or-take, get_or_past, length-drop, length-take, map-append}
-use Rattle.std.proofs.lemmas.Str.{IsCharBoundary-after_ascii, IsCharBoundary-start}
+use Rattle.std.proofs.lemmas.List.{drop_all, drop_more, get_or_past}
+use Rattle.std.proofs.lemmas.Str.{IsCharBoundary-start}
 use Rattle.std.proofs.lemmas.List.Folds.{drop_split}
-use Rattle.std.proofs.lemmas.List.Elements.{All-from_get_or, All-nil}
+use Rattle.std.proofs.lemmas.List.Elements.{All-from_get_or}
 use Rattle.std.proofs.lemmas.List.Sums.{list_all-from_AllPass}
-use Rattle.tabled_records.specs.Joined.{AreKept, behind, texts_from}
-use Rattle.tabled_records.specs.JoinedRows.{AreRanges, part, parts}
-use Rattle.tabled_records.specs.LentRows.{HasNo, IsLent, IsPrintable}
+use Rattle.tabled_records.specs.LentRows.{IsLent}
 use Rattle.tabled_records.proofs.Joining.{behind-next, kept-next, length-texts, texts-next}
 use Rattle.tabled_records.proofs.Rows.{part-last, parts-append, ranges-grown, ranges-next}
 use Rattle.tabled_records.proofs.RowsLeft.{prepended, prepended-more, prepended-none, rows-end, rows-feed, rows-tab, rows_of}

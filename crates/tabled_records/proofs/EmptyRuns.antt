@@ -1,13 +1,11 @@
 -- What empty rows give.
-use Rattle.std.proofs.Common.{◌≡◌, ℕ, zero, suc, List, [], ◌∷◌, length, map, replicate, slice_index_or, Bor, Option, refl, sym, ap, subst, ◌∙◌}
-use Rattle.std.specs.List.{AllZip}
+use Rattle.tabled_records.proofs.Names.{AllZip, Given, List, Option, RowsGiven, [], ap, cell_at, length, map, refl, replicate, subst, suc}
+use Rattle.tabled_records.proofs.Names.{sym, zero, ℕ, ◌∙◌, ◌∷◌, ◌≡◌}
+use Rattle.std.proofs.Common.{slice_index_or, Bor}
 use Rattle.std.specs.Iterator.{YieldsFirst, YieldsFirstBy}
 use Rattle.std.proofs.lemmas.Iterator.{YieldsList, items_from_drains}
 use Rattle.std.proofs.lemmas.Iterator.Consumers.{YieldsList-from_shown}
 use Rattle.std.proofs.lemmas.List.{map-id}
-use Rattle.tabled_base.specs.Cells.{cell_at}
-use Rattle.tabled_base.specs.Given.{Given}
-use Rattle.tabled_base.specs.RowsGiven.{RowsGiven}
 use Rattle.tabled_records.specs.declared.empty.EmptyCells.{EmptyCells}
 use Rattle.tabled_records.specs.declared.empty.EmptyRows.{EmptyRows}
 use Rattle.tabled_records.specs.Empty.{cells_left, rows_left}

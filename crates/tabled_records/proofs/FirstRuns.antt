@@ -1,8 +1,8 @@
 -- The first cells of a row.
-use Rattle.std.proofs.Common.{◌≡◌, ℕ, zero, suc, ◌+◌, ◌<◌, List, [], ◌∷◌, Option, None, take, refl, sym, ap, subst, ◌∙◌, arith, add-one}
-use Rattle.std.specs.Iterator.{Drains, Yields}
+use Rattle.tabled_records.proofs.Names.{Drains, List, None, Option, Yields, [], ap, arith, first_cells_steps, refl, subst, suc, sym, take}
+use Rattle.tabled_records.proofs.Names.{zero, ℕ, ◌+◌, ◌<◌, ◌∙◌, ◌∷◌, ◌≡◌}
+use Rattle.std.proofs.Common.{add-one}
 use Rattle.tabled_records.specs.declared.limits.FirstCells.{FirstCells}
-use Rattle.tabled_records.specs.FirstCells.{first_cells_steps}
 
 take-cons : {A : Type 0} (n k : ℕ) (x : A) (xs : List A) → k + 1 ≡ n → take n (x ∷ xs) ≡ x ∷ take k xs
 take-cons n k x xs e = ap (λ m. take m (x ∷ xs)) (sym e ∙ add-one k)

@@ -1,15 +1,15 @@
 -- Texts that stand one behind another in one text, to which more is added.
-use Rattle.std.proofs.Common.{◌≡◌, ℕ, zero, suc, ◌+◌, ◌-◌, ◌<◌, ◌≤◌, List, [], ◌∷◌, ◌++◌, length, get_or, max, refl, sym, ap, subst, ◌∙◌, arith, inl, inr, take, drop, length-append, Result, Ok, Err, OnErr, OnOk}
-use Rattle.std.proofs.lemmas.Bool.{cases_lt}
-use Rattle.std.proofs.lemmas.List.{take-append-le, drop-append-le, length-drop, take_all, get_or_append_left, get_or-append-add, get_or-take}
+use Rattle.tabled_records.proofs.Names.{AreKept, AreLines, IsCharBoundary-at_seam, IsJoined, List, [], ap, arith, begin, behind, cases_lt}
+use Rattle.tabled_records.proofs.Names.{drop, drop-append-le, drop-append_seam, get_or, get_or-take, get_or_append_left, inl, inr, length}
+use Rattle.tabled_records.proofs.Names.{length-append, length-drop, lines_of, max, refl, slice_range, subst, suc, sym, take, take-append-le}
+use Rattle.tabled_records.proofs.Names.{text_columns, texts_from, zero, ℕ, ◌++◌, ◌+◌, ◌-◌, ◌<◌, ◌∙◌, ◌∷◌, ◌≡◌, ◌≤◌}
+use Rattle.std.proofs.Common.{Result, Ok, Err, OnErr, OnOk}
+use Rattle.std.proofs.lemmas.List.{take_all, get_or-append-add}
 use Rattle.std.proofs.Math.ListN.{get_or-append}
-use Rattle.std.proofs.Math.Seq.{drop-append_seam}
-use Rattle.std.proofs.lemmas.Str.{IsCharBoundary-at_seam, IsCharBoundary-end}
+use Rattle.std.proofs.lemmas.Str.{IsCharBoundary-end}
 use Rattle.std.specs.Prelude.{IsCharBoundary, IsUtf8}
-use Rattle.std.specs.List.{slice_range}
-use Rattle.tabled_text.specs.Measure.{lines_of, text_columns}
 use Rattle.tabled_text.proofs.PlainLines.{plain_line-nil}
-use Rattle.tabled_records.specs.Joined.{AreFilled, AreJoined, AreKept, AreLines, IsJoined, AreMeasures, begin, behind, texts_from}
+use Rattle.tabled_records.specs.Joined.{AreFilled, AreJoined, AreMeasures}
 
 -- a place where a text may be cut stays one
 boundary-more : (whole more : List ℕ) (i : ℕ) → IsUtf8 more → IsCharBoundary whole i → IsCharBoundary (whole ++ more) i

@@ -1,16 +1,9 @@
 -- Rows behind those that were passed over.
-use Rattle.std.proofs.Common.{◌≡◌, ℕ, ◌≤◌, Bool, true, false, List, [], ◌∷◌, ◌++◌, Option, None, Some, length, drop, refl, sym, ap, subst, arith, zero, suc}
-use Rattle.std.specs.List.{All, AllZip}
-use Rattle.std.specs.Iterator.{Count, HoldsAlong, IsFinite, IsFiniteIterable, Yields, YieldsThen}
-use Rattle.std.proofs.iter.runs.Lists.{Yields-both}
-use Rattle.tabled_base.specs.Given.{Given}
-use Rattle.tabled_base.specs.RowsGiven.{RowsBegin, RowsEnd}
-use Rattle.tabled_records.specs.declared.limits.LaterRows.{LaterRows}
-use Rattle.tabled_records.specs.LaterRows.{SkipsRows}
-use Rattle.tabled_records.specs.Reading.{MayGive}
-use Rattle.tabled_records.specs.RowByRow.{AreChanged}
+use Rattle.tabled_records.proofs.Names.{All, AllZip, AllZip-long, AreChanged, Bool, Count, Given, HoldsAlong, IsFinite, IsFiniteIterable}
+use Rattle.tabled_records.proofs.Names.{LaterRows, List, MayGive, None, Option, RowsBegin, RowsEnd, SkipsRows, Some, Yields, Yields-both}
+use Rattle.tabled_records.proofs.Names.{YieldsThen, [], ap, arith, drop, false, length, refl, subst, suc, sym, true, zero, ℕ, ◌++◌, ◌∷◌}
+use Rattle.tabled_records.proofs.Names.{◌≡◌, ◌≤◌}
 use Rattle.tabled_records.proofs.Runs.{all_behind, zip_append}
-use Rattle.std.proofs.lemmas.Slice.Zip.{AllZip-long}
 
 drop-all : {A : Type 0} (n : ℕ) (xs : List A) → length xs ≤ n → [] ≡ drop n xs
 drop-all zero [] h = refl

@@ -7,6 +7,7 @@ pub mod FirstRuns
 pub mod Joining
 pub mod LaterRuns
 pub mod LimitedRuns
+pub mod Names
 pub mod PassRuns
 pub mod Rows
 pub mod RowsLeft

@@ -1,14 +1,11 @@
 -- The first rows of a source.
-use Rattle.std.proofs.Common.{◌≡◌, ℕ, ◌+◌, Bool, true, false, List, [], ◌∷◌, Option, None, length, sym, ap, subst, inl, inr, arith}
+use Rattle.tabled_records.proofs.Names.{AllZip-long, Bool, Count, Given, List, None, Option, RowsBegin, RowsEnd, Yields, [], ap, arith}
+use Rattle.tabled_records.proofs.Names.{cases_lt, false, inl, inr, length, subst, sym, true, ℕ, ◌+◌, ◌∷◌, ◌≡◌}
 use Rattle.std.specs.declared.iter.Take.{Take}
-use Rattle.std.specs.Iterator.{Count, Yields, at_most, count_min}
+use Rattle.std.specs.Iterator.{at_most, count_min}
 use Rattle.std.specs.Iterator.Adapters.{take_steps}
-use Rattle.std.proofs.lemmas.Bool.{cases_lt}
 use Rattle.std.proofs.iter.Next.{least_first}
-use Rattle.tabled_base.specs.Given.{Given}
-use Rattle.tabled_base.specs.RowsGiven.{RowsBegin, RowsEnd}
 use Rattle.tabled_records.specs.Limited.{IsLimited}
-use Rattle.std.proofs.lemmas.Slice.Zip.{AllZip-long}
 
 module _ {S W : Type 0} (steps : S → Option W → S → Type 0) where
   -- a limited run is one of the source, and counts

@@ -1,13 +1,9 @@
 -- What was walked so far, and what may still be.
-use Rattle.std.proofs.Common.{◌≡◌, ℕ, ◌+◌, ◌≤◌, List, [], ◌∷◌, ◌++◌, Option, None, Some, length, refl, subst, arith, length-append}
-use Rattle.std.specs.List.{AllZip}
-use Rattle.std.specs.Iterator.{Count, IsFiniteIterable, MakesProgress, Yields, YieldsThen, size}
-use Rattle.std.proofs.iter.runs.Lists.{Yields-both}
+use Rattle.tabled_records.proofs.Names.{AllZip, Count, Given, IsFiniteIterable, LaterRows, List, MayGive, None, Option, SkipsRows, Some}
+use Rattle.tabled_records.proofs.Names.{Walked, Yields, Yields-both, YieldsThen, [], arith, length, length-append, refl, size, subst, ℕ}
+use Rattle.tabled_records.proofs.Names.{◌++◌, ◌+◌, ◌∷◌, ◌≡◌, ◌≤◌}
+use Rattle.std.specs.Iterator.{MakesProgress}
 use Rattle.std.proofs.iter.Next.{Yields-more, on}
-use Rattle.tabled_base.specs.Given.{Given}
-use Rattle.tabled_records.specs.declared.limits.LaterRows.{LaterRows}
-use Rattle.tabled_records.specs.LaterRows.{SkipsRows}
-use Rattle.tabled_records.specs.Reading.{MayGive, Walked}
 use Rattle.tabled_records.proofs.Runs.{zip_append}
 use Rattle.tabled_records.proofs.RowsRead.{may-cells, may-step}
 

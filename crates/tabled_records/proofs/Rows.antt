@@ -1,15 +1,14 @@
 -- Rows whose texts stand in one list.
-use Rattle.std.proofs.Common.{◌≡◌, ℕ, zero, suc, ◌+◌, ◌-◌, ◌<◌, ◌≤◌, List, [], ◌∷◌, ◌++◌, length, map, max, take, drop, replicate, get_or, refl, sym, ap, ◌∙◌, arith, length-append}
-use Rattle.std.proofs.Math.Seq.{drop-append_seam, take-length}
-use Rattle.std.proofs.lemmas.List.{drop-append-le, get_or-append_right, get_or-drop, get_or-map, get_or-take, get_or_append_left, length-drop, length-map, length-take, map-append, take-append-le}
-use Rattle.std.proofs.lemmas.List.Elements.{All-append, All-cons, All-head, All-nil, All-tail}
+use Rattle.tabled_records.proofs.Names.{All-append, All-cons, All-head, All-nil, All-tail, AreRanges, List, [], ap, arith, cell_at}
+use Rattle.tabled_records.proofs.Names.{cells_of, columns, drop, drop-append-le, drop-append_seam, get_or, get_or-drop, get_or-take}
+use Rattle.tabled_records.proofs.Names.{get_or_append_left, greatest, length, length-append, length-drop, length-lengthened, length-map}
+use Rattle.tabled_records.proofs.Names.{length-take, lengthened, lengthened_rows, longest_range, map, map-append, max, most_cells, part}
+use Rattle.tabled_records.proofs.Names.{parts, refl, replicate, rows_in, suc, sym, take, take-append-le, take-length, with_record, zero, ℕ}
+use Rattle.tabled_records.proofs.Names.{◌++◌, ◌+◌, ◌-◌, ◌<◌, ◌∙◌, ◌∷◌, ◌≡◌, ◌≤◌}
+use Rattle.std.proofs.lemmas.List.{get_or-append_right, get_or-map}
 use Rattle.std.proofs.lemmas.Simd.{map-map}
-use Rattle.tabled_text.specs.Measure.{greatest}
-use Rattle.tabled_base.specs.Cells.{cell_at, columns, lengthened, lengthened_rows, longest, with_record}
-use Rattle.tabled_base.proofs.Lengthening.{length-lengthened}
+use Rattle.tabled_base.specs.Cells.{longest}
 use Rattle.tabled_base.proofs.LengthenedRows.{lengthened_rows-more}
-use Rattle.tabled_records.specs.JoinedRows.{AreRanges, longest_range, part, parts, rows_in}
-use Rattle.tabled_records.specs.TextRows.{cells_of, most_cells}
 
 length-part : {A : Type 0} (texts : List A) (range : ℕ × ℕ) → range.0 + range.1 ≤ length texts → length (part texts range) ≡ range.1
 length-part texts range h = omega (arith, length-take range.1 (drop range.0 texts), length-drop range.0 texts)

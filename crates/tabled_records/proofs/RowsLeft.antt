@@ -1,11 +1,9 @@
 -- The rows of what is left of a text, where its first cell ends.
-use Rattle.std.proofs.Common.{◌≡◌, ◌==◌, ℕ, ◌<◌, List, [], ◌∷◌, ◌++◌, length, map, cond, false, append_assoc, refl, sym, ap, ◌∙◌, arith}
+use Rattle.tabled_records.proofs.Names.{All-append, All-cons, All-head, All-nil, All-tail, HasNo, List, [], ap, append_assoc, arith}
+use Rattle.tabled_records.proofs.Names.{cells_of, cond, false, length, lines_of, map, refl, slice_split_none, sym, ℕ, ◌++◌, ◌<◌, ◌==◌, ◌∙◌}
+use Rattle.tabled_records.proofs.Names.{◌∷◌, ◌≡◌}
 use Rattle.std.specs.List.{onto_first}
-use Rattle.std.proofs.lemmas.List.Elements.{All-append, All-cons, All-head, All-nil, All-tail}
-use Rattle.std.proofs.lemmas.List.Splits.{length-slice_split, slice_split_at, slice_split_none}
-use Rattle.tabled_text.specs.Measure.{lines_of}
-use Rattle.tabled_records.specs.LentRows.{HasNo}
-use Rattle.tabled_records.specs.TextRows.{cells_of}
+use Rattle.std.proofs.lemmas.List.Splits.{length-slice_split, slice_split_at}
 
 -- the rows of a text
 abbrev pub rows_of : List ℕ → List (List (List ℕ))

@@ -1,14 +1,10 @@
 -- Rows that are read of an iterator.
-use Rattle.std.proofs.Common.{ℕ, ◌<◌, true, false, List, [], ◌∷◌, ◌++◌, length, refl, arith, length-append}
+use Rattle.tabled_records.proofs.Names.{All-head, All-tail, Count, Given, IsFinite, IsFiniteIterable, List, MayGive, Reads, ReadsTo}
+use Rattle.tabled_records.proofs.Names.{RowsBegin, Yields-both, [], arith, false, length, length-append, refl, true, ℕ, ◌++◌, ◌<◌, ◌∷◌}
 use Rattle.std.specs.declared.option.Option.{Option}
 use Rattle.std.specs.declared.option.Option.TheVariants.{Some, None}
-use Rattle.std.specs.Iterator.{Count, IsFinite, IsFiniteIterable}
-use Rattle.std.proofs.iter.runs.Lists.{Yields-both}
-use Rattle.std.proofs.lemmas.List.Elements.{All-head, All-tail}
-use Rattle.tabled_base.specs.Given.{Given}
-use Rattle.tabled_base.specs.RowsGiven.{RowsBegin}
 use Rattle.tabled_records.proofs.Runs.{zip_append}
-use Rattle.tabled_records.specs.Reading.{MayGive, Reads, ReadsSome, ReadsTo}
+use Rattle.tabled_records.specs.Reading.{ReadsSome}
 
 module _ {S W T A : Type 0} {steps : S → Option W → S → Type 0} {becomes : W → T → Type 0} {cell_steps : T → Option A → T → Type 0} where
   pub reads-none : (a : S) → Reads steps becomes cell_steps a [] a

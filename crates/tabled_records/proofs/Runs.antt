@@ -1,11 +1,8 @@
 -- Runs of rows, and rows that are made of those of a source, one of each.
-use Rattle.std.proofs.Common.{◌≡◌, Bool, true, List, [], ◌∷◌, ◌++◌, Option, map, refl, sym, ap, subst, ◌∙◌}
-use Rattle.std.specs.List.{All, AllZip}
-use Rattle.std.specs.Iterator.{Count, IsFinite, IsFiniteIterable, Yields}
-use Rattle.std.proofs.lemmas.List.Elements.{All-cons, All-head, All-nil, All-tail}
-use Rattle.tabled_base.specs.Given.{Given}
-use Rattle.tabled_base.specs.RowsGiven.{RowsBegin, RowsEnd, RowsGiven}
-use Rattle.tabled_records.specs.RowByRow.{AreChanged, RowOfRow}
+use Rattle.tabled_records.proofs.Names.{All, All-cons, All-head, All-nil, All-tail, AllZip, AreChanged, Bool, Count, Given, IsFinite}
+use Rattle.tabled_records.proofs.Names.{IsFiniteIterable, List, Option, RowsBegin, RowsEnd, RowsGiven, Yields, [], ap, map, refl, subst}
+use Rattle.tabled_records.proofs.Names.{sym, true, ◌++◌, ◌∙◌, ◌∷◌, ◌≡◌}
+use Rattle.tabled_records.specs.RowByRow.{RowOfRow}
 
 -- lists that go together, with others behind them
 pub zip_append : {X Y : Type 0} (R : X → Y → Type 0) (xs us : List X) (ys vs : List Y) → AllZip R xs ys → AllZip R us vs → AllZip R (xs ++ us) (ys ++ vs)

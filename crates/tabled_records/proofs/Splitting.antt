@@ -1,9 +1,8 @@
 -- The rows of a text.
-use Rattle.std.proofs.Common.{◌≡◌, ℕ, ◌≤◌, List, [], ◌∷◌, length, map, get_or, arith, All}
-use Rattle.std.proofs.lemmas.List.Elements.{All-cons, All-nil, All-map}
-use Rattle.tabled_base.specs.Cells.{IsRectangular, lengthened}
-use Rattle.tabled_records.specs.TextRows.{cells_of, most_cells}
-use Rattle.tabled_base.proofs.Lengthening.{length-lengthened, rectangular-from_length}
+use Rattle.tabled_records.proofs.Names.{All-cons, All-map, All-nil, IsRectangular, List, [], arith, cells_of, get_or, length}
+use Rattle.tabled_records.proofs.Names.{length-lengthened, lengthened, map, most_cells, ℕ, ◌∷◌, ◌≡◌, ◌≤◌}
+use Rattle.std.proofs.Common.{All}
+use Rattle.tabled_base.proofs.Lengthening.{rectangular-from_length}
 
 -- no line has more cells than the longest
 most-above : (lines : List (List ℕ)) → All (λ line. length (cells_of line) ≤ most_cells lines) lines

@@ -1,17 +1,17 @@
 -- The cells of a text are texts.
-use Rattle.std.proofs.Common.{◌≡◌, ℕ, zero, suc, ◌+◌, ◌-◌, ◌<◌, ◌≤◌, ◌==◌, Bool, cond, List, [], length, get_or, take, drop, replicate, sym, subst, arith, All, inl, inr}
+use Rattle.tabled_records.proofs.Names.{All-append, All-cons, All-map, All-nil, Bool, IsCharBoundary-after_ascii, IsUtf8, List, [], arith}
+use Rattle.tabled_records.proofs.Names.{cases_lt, cells_of, cond, drop, get_or, inl, inr, length, length-drop, lengthened, lines_of}
+use Rattle.tabled_records.proofs.Names.{most_cells, replicate, slice_split_none, subst, suc, sym, take, zero, ℕ, ◌+◌, ◌-◌, ◌<◌, ◌==◌, ◌≡◌}
+use Rattle.tabled_records.proofs.Names.{◌≤◌}
+use Rattle.std.proofs.Common.{All}
 use Rattle.std.specs.List.{position_or_len, slice_index, slice_split}
-use Rattle.std.specs.Str.{IsUtf8}
-use Rattle.std.proofs.lemmas.Bool.{cases_lt, cases_Bool, eqb-true}
-use Rattle.std.proofs.lemmas.List.{length-drop}
-use Rattle.std.proofs.lemmas.List.Elements.{All-append, All-cons, All-map, All-nil, All-replicate}
-use Rattle.std.proofs.lemmas.List.Splits.{slice_split_first, slice_split_none}
+use Rattle.std.proofs.lemmas.Bool.{cases_Bool, eqb-true}
+use Rattle.std.proofs.lemmas.List.Elements.{All-replicate}
+use Rattle.std.proofs.lemmas.List.Splits.{slice_split_first}
 use Rattle.std.proofs.lemmas.List.Sums.{fails_before_first, passes_at_first}
-use Rattle.std.proofs.lemmas.Str.{IsCharBoundary-after_ascii, IsCharBoundary-before_ascii, IsUtf8-drop, IsUtf8-nil, IsUtf8-take}
-use Rattle.tabled_text.specs.Measure.{lines_of}
+use Rattle.std.proofs.lemmas.Str.{IsCharBoundary-before_ascii, IsUtf8-drop, IsUtf8-nil, IsUtf8-take}
 use Rattle.tabled_text.proofs.Bridge.{utf8_lines}
-use Rattle.tabled_base.specs.Cells.{lengthened}
-use Rattle.tabled_records.specs.TextRows.{cells_of, most_cells, row_lines, text_rows, without_last_feed}
+use Rattle.tabled_records.specs.TextRows.{row_lines, text_rows, without_last_feed}
 
 -- a text that is cut at its first ASCII character of some kind, and what follows
 split_step : (d : ℕ) → d < 128 → (bs : List ℕ) → IsUtf8 bs

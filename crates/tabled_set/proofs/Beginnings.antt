@@ -1,14 +1,11 @@
 -- What is truncated in its place is truncated, and takes just so many bytes.
-use Rattle.std.proofs.Common.{◌≡◌, ◌-◌, ℕ, zero, suc, Bool, true, false, List, [], ◌∷◌, ◌++◌, MatchBool, length, nat_lt, take, refl, sym, ap, subst, ◌∙◌, ⊎_elim}
-use Rattle.std.proofs.Math.Dec.{eqb-suc-zero}
-use Rattle.std.proofs.lemmas.Bool.{MatchBool-at_true, MatchBool-at_false, cases_Bool}
+use Rattle.tabled_set.proofs.Names.{Bool, Cut, HasEndedLines, Ignore, IsCut, IsCutAt, IsEnded, IsLimited, IsTruncated, IsUsed, List}
+use Rattle.tabled_set.proofs.Names.{MatchBool, MatchBool-at_false, MatchBool-at_true, Replace, SuffixLimit, [], ap, cases_Bool, cut-once}
+use Rattle.tabled_set.proofs.Names.{eqb-suc-zero, false, length, lines_of, nat_lt, refl, subst, suc, suffix_columns, sym, take, true, zero}
+use Rattle.tabled_set.proofs.Names.{ℕ, ⊎_elim, ◌++◌, ◌-◌, ◌∙◌, ◌∷◌, ◌≡◌}
 use Rattle.std.proofs.lemmas.List.{length-take-le}
 use Rattle.tabled_base.specs.ShortOr.{FitsBehind}
-use Rattle.tabled_set.specs.Common.{IsCut, lines_of}
-use Rattle.tabled_text.proofs.CutOnce.{cut-once}
-use Rattle.tabled_set.specs.Truncated.{IsCutAt, IsTruncatedInPlace}
-use Rattle.tabled_set.specs.Truncated.{HasEndedLines, IsEnded, IsLimited, IsTruncated, IsUsed, suffix_columns, SuffixLimit}
-use Rattle.tabled_set.specs.Truncated.{Cut, Ignore, Replace}
+use Rattle.tabled_set.specs.Truncated.{IsTruncatedInPlace}
 
 -- ---- what is left of a text is truncated
 

@@ -1,9 +1,11 @@
 -- Cells that are changed one after another.
-use Rattle.std.proofs.Common.{◌≡◌, ℕ, ◌<◌, ◌==◌, Bool, true, false, ◌||◌, List, [], ◌∷◌, MatchBool, length, slice_index_or, refl, sym, ap, subst, ◌∙◌, ⊎_elim, ◌+◌, ◌≤◌, ◌&&◌, nat_lt, arith}
-use Rattle.std.proofs.lemmas.Bool.{MatchBool-at_true, MatchBool-at_false, and_parts, cases_Bool, eqb-true}
-use Rattle.tabled_set.specs.Common.{Cell, cell_at, columns, covers, IsInside}
-use Rattle.tabled_set.specs.CellChanges.{AreChanged, AreChangedBefore, line_of, place_of, precedes, WalkOrder}
-use Rattle.tabled_set.specs.CellChanges.{ByColumn, ByRow, is_within, lines_in, on_line, places_in}
+use Rattle.tabled_set.proofs.Names.{AreChanged, AreChangedBefore, Bool, ByColumn, ByRow, IsInside, List, MatchBool, MatchBool-at_false}
+use Rattle.tabled_set.proofs.Names.{MatchBool-at_true, WalkOrder, [], ap, arith, cases_Bool, cell_at, columns, covers, false, length}
+use Rattle.tabled_set.proofs.Names.{nat_lt, on_line, precedes, refl, slice_index_or, subst, sym, true, ℕ, ⊎_elim, ◌&&◌, ◌+◌, ◌<◌, ◌==◌}
+use Rattle.tabled_set.proofs.Names.{◌||◌, ◌∙◌, ◌∷◌, ◌≡◌, ◌≤◌}
+use Rattle.std.proofs.lemmas.Bool.{and_parts, eqb-true}
+use Rattle.tabled_set.specs.Common.{Cell}
+use Rattle.tabled_set.specs.CellChanges.{line_of, place_of, is_within, lines_in, places_in}
 use Rattle.std.specs.declared.ops.Range.{Range as Band}
 
 pub match-true : {b : Bool} (P Q : Type 0) → b ≡ true → P → MatchBool b P Q

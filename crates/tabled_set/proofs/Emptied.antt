@@ -1,14 +1,13 @@
 -- Cells without a text: as many, and their columns are no wider than the padding asks for.
-use Rattle.std.proofs.Common.{◌≡◌, ℕ, ◌<◌, ◌≤◌, ◌==◌, ◌||◌, List, [], ◌∷◌, length, replicate, refl, ap, ◌∙◌, arith}
+use Rattle.tabled_set.proofs.Names.{List, SpannedConfig, [], ap, arith, at, cell_at, columns, emptied, estimated_widths, is_empty, length}
+use Rattle.tabled_set.proofs.Names.{minimums, needed_width, refl, replicate, side_padding, text_columns, widths_length, ℕ, ◌<◌, ◌==◌, ◌||◌}
+use Rattle.tabled_set.proofs.Names.{◌∙◌, ◌∷◌, ◌≡◌, ◌≤◌}
 use Rattle.std.proofs.lemmas.List.{length-replicate}
-use Rattle.tabled_set.specs.Common.{at, cell_at, columns, estimated_widths, is_empty, SpannedConfig, text_columns}
 use Rattle.tabled_records.proofs.EmptyRuns.{cell_of_empty}
-use Rattle.tabled_size.specs.Estimates.{column_width, needed_width}
+use Rattle.tabled_size.specs.Estimates.{column_width}
 use Rattle.tabled_size.proofs.Passing.{width_at, width_ge}
 use Rattle.tabled_size.proofs.ShrunkTotals.{estimated_widths-le}
-use Rattle.tabled_size.proofs.Totalling.{widths_length}
 use Rattle.tabled_text.proofs.StayLemmas.{StaysWithin-none, text_columns-stays}
-use Rattle.tabled_set.specs.Minimums.{emptied, minimums, side_padding}
 
 pub emptied-rows : (cells : List (List (List ℕ))) → length (emptied cells) ≡ length cells
 emptied-rows cells = length-replicate (length cells) (replicate (columns cells) [])

@@ -1,27 +1,23 @@
 -- A narrowed table has its total and holds its cells.
-use Rattle.std.proofs.Common.{◌≡◌, ℕ, ◌+◌, ◌-◌, ◌<◌, ◌≤◌, ◌==◌, ◌||◌, Bool, true, false, cond, List, [], length, sum, max, take, nat_le, nat_lt, None, Some, if◌then◌else◌, sym, ap, ◌∙◌, subst, arith, le_of_eq, ⊎_elim}
+use Rattle.tabled_set.proofs.Names.{AreChanged, AreTexts, Bool, CompleteDimension, FitsIn, HasExactTotal, IsAdditive, IsFilledIn}
+use Rattle.tabled_set.proofs.Names.{IsNarrowed, IsRectangular, IsSized, IsTakenFrom, IsUtf8, List, MatchBool-at_false, Narrows, None, Sheet}
+use Rattle.tabled_set.proofs.Names.{Shrinks, Some, SpannedConfig, TakesFrom, TakesGreatest, [], ap, arith, at, cases_Bool, cell_at, columns}
+use Rattle.tabled_set.proofs.Names.{cond, effective, effective_sizes, emptied, estimated, estimated_heights, estimated_widths, false}
+use Rattle.tabled_set.proofs.Names.{filled_width, for_content_size, frame_width, get_or_default, heights_length, heights_of, if_sized}
+use Rattle.tabled_set.proofs.Names.{if◌then◌else◌, inner_width, is_empty, le-leb, length, lt-leb, lt-ltb, max, minimums, nat_le, nat_lt}
+use Rattle.tabled_set.proofs.Names.{needed_width, side_padding, subst, sum, sym, take, take-length, total_width, true, widths_length}
+use Rattle.tabled_set.proofs.Names.{widths_of, ℕ, ⊎_elim, ◌+◌, ◌-◌, ◌<◌, ◌==◌, ◌||◌, ◌∙◌, ◌≡◌, ◌≤◌}
+use Rattle.std.proofs.Common.{le_of_eq}
 use Rattle.std.specs.Prelude.{MatchBool}
 use Rattle.std.specs.List.{slice_index_or, All}
-use Rattle.std.proofs.Math.Seq.{take-length}
-use Rattle.std.proofs.lemmas.Bool.{MatchBool-at_false, and_from, cases_Bool, le-leb, lt-leb, lt-ltb}
-use Rattle.std.proofs.lemmas.List.{get_or_default}
-use Rattle.std.specs.Str.{IsUtf8}
-use Rattle.tabled_set.specs.Common.{AreAdditive, AreTexts, at, cell_at, columns, CompleteDimension, effective, effective_sizes, estimated}
-use Rattle.tabled_set.specs.Common.{estimated_heights, estimated_widths, filled_width, FitsIn, heights_of, Holds, is_empty, IsAdditive}
-use Rattle.tabled_set.specs.Common.{IsFilledIn, IsRectangular, IsSized, IsTakenFrom, Sheet, SpannedConfig, total_width, widths_of}
-use Rattle.tabled_size.specs.Estimates.{needed_width}
+use Rattle.std.proofs.lemmas.Bool.{and_from}
+use Rattle.tabled_set.specs.Common.{AreAdditive, Holds}
 use Rattle.tabled_priority.specs.Least.{HasLeastGreatest}
 use Rattle.tabled_priority.proofs.Optimal.{HasLeastGreatest-from_level, IsLevel-from_max}
-use Rattle.tabled_size.proofs.ShrunkTotals.{above_minimum, frame_width, narrowed_total}
-use Rattle.tabled_size.proofs.Totalling.{heights_length, widths_length}
-use Rattle.tabled_set.specs.CellChanges.{AreChanged, if_sized}
+use Rattle.tabled_size.proofs.ShrunkTotals.{above_minimum, narrowed_total}
 use Rattle.tabled_set.proofs.ChangingCells.{columns-changed}
 use Rattle.tabled_set.proofs.Totals.{full_total}
-use Rattle.tabled_set.specs.Minimums.{emptied, minimums, side_padding}
-use Rattle.tabled_set.specs.Narrowed.{IsNarrowed, Narrows, for_content_size}
-use Rattle.tabled_set.specs.BestNarrowing.{inner_width}
-use Rattle.tabled_set.specs.ExactTotal.{HasExactTotal, empty_width}
-use Rattle.tabled_set.specs.Priorities.{Shrinks, TakesFrom, TakesGreatest}
+use Rattle.tabled_set.specs.ExactTotal.{empty_width}
 use Rattle.tabled_set.proofs.Emptied.{emptied-columns, emptied-empty, minimums-le, minimums-length, side_padding-le}
 
 -- a text that is changed for a content size fits in it

@@ -1,10 +1,9 @@
 -- Lines joined one after another.
-use Rattle.std.proofs.Common.{◌≡◌, ℕ, Bool, true, false, cond, List, [], ◌∷◌, ◌++◌, refl, sym, ap, ◌∙◌, append-nil, append_assoc, zero, suc, encode_utf8_all, lit<, replicate, ◌+◌, ◌==◌, length, sum_by, arith}
-use Rattle.std.specs.List.{join_with_byte}
-use Rattle.std.proofs.lemmas.Str.{encode_ascii}
-use Rattle.tabled_set.specs.Common.{IsCut, line_columns, lines_of}
-use Rattle.tabled_set.specs.Truncated.{AddsEnded, suffix_columns}
-use Rattle.std.proofs.lemmas.List.Splits.{length-slice_split}
+use Rattle.tabled_set.proofs.Names.{Bool, IsCut, List, [], ap, append-nil, arith, cond, encode_ascii, encode_utf8_all, false}
+use Rattle.tabled_set.proofs.Names.{join_with_byte, length, length-slice_split, line_columns, lines_of, lit<, refl, replicate, suc}
+use Rattle.tabled_set.proofs.Names.{suffix_columns, sum_by, sym, true, zero, ℕ, ◌++◌, ◌+◌, ◌==◌, ◌∙◌, ◌∷◌, ◌≡◌}
+use Rattle.std.proofs.Common.{append_assoc}
+use Rattle.tabled_set.specs.Truncated.{AddsEnded}
 
 -- what the lines that are left append, where some stand before them or none does
 abbrev pub appended : Bool → List (List ℕ) → List ℕ

@@ -2,6 +2,7 @@ pub mod Beginnings
 pub mod ChangingCells
 pub mod Emptied
 pub mod ExactTotals
+pub mod Names
 pub mod Totals
 pub mod JoinedLines
 pub mod NarrowingTables

@@ -1,27 +1,25 @@
 -- Tables that are narrowed.
-use Rattle.std.proofs.Common.{◌≡◌, ℕ, ◌-◌, ◌<◌, Bool, true, false, ◌&&◌, nat_lt, nat_le, List, length, take, Option, Some, None, if◌then◌else◌, refl, sym, ap, subst, ◌∙◌, ⊎_elim, arith, ◌⊎◌, inl, inr, Result, Ok, Err, IfErr, IsOk, IsTrue, ◌≤◌, ◌^◌, unwrap_or, cond, IfSome, is_some, ◌+◌}
-use Rattle.std.proofs.lemmas.Bool.{cases_Bool}
-use Rattle.std.proofs.lemmas.Bool.Decides.{nat_tests}
-use Rattle.std.proofs.lemmas.List.{get_or-take, length-take}
-use Rattle.tabled_set.specs.Common.{at, cell_at, Sheet, SpannedConfig, columns, CompleteDimension, effective, effective_sizes}
-use Rattle.tabled_set.specs.Common.{estimated_heights, estimated_widths, filled_width, FitsMinimums, heights_of, is_empty, IsFilledIn}
-use Rattle.tabled_set.specs.Common.{IsTooWide, Memory, Range, TableError, total_width, widths_of}
-use Rattle.tabled_set.specs.CellChanges.{AreChanged, AreChangedBefore, NeedsMemoryIn, if_taken, if_sized, WalkOrder, CellFilter}
-use Rattle.tabled_set.specs.CellChanges.{ByColumn}
-use Rattle.tabled_set.specs.Narrowed.{is_permitted, content_width, less_padding, permitted_width, for_content_size, needs_for_content_size, IsNarrowed}
-use Rattle.tabled_set.specs.Narrowed.{Narrows, NarrowingOutOfRange, StopsNarrowing, WiderOutOfRange, IsFound}
-use Rattle.tabled_set.specs.Minimums.{minimums, own_padding, side_columns, side_padding, emptied}
+use Rattle.tabled_set.proofs.Names.{AreChanged, AreChangedBefore, Bool, ByColumn, CompleteDimension, Err, IfErr, IfSome, IsFilledIn}
+use Rattle.tabled_set.proofs.Names.{IsFound, IsNarrowed, List, Memory, NarrowingOutOfRange, Narrows, None, Ok, Option, Range, Result, Sheet}
+use Rattle.tabled_set.proofs.Names.{Shrinks, Some, SpannedConfig, TableError, WalkOrder, ap, arith, at, cases_Bool, cell_at, columns, cond}
+use Rattle.tabled_set.proofs.Names.{content_width, effective, effective_sizes, emptied, estimated_heights, estimated_widths, false}
+use Rattle.tabled_set.proofs.Names.{filled_width, for_content_size, heights_length, heights_of, if_sized, if◌then◌else◌, inl, inr, is_empty}
+use Rattle.tabled_set.proofs.Names.{length, length-take, less_padding, minimums, nat_le, nat_lt, nat_tests, own_padding, permitted_width}
+use Rattle.tabled_set.proofs.Names.{refl, side_columns, side_padding, subst, sym, take, take-length, total_width, true, widths_length}
+use Rattle.tabled_set.proofs.Names.{widths_of, ℕ, ⊎_elim, ◌&&◌, ◌+◌, ◌-◌, ◌<◌, ◌^◌, ◌∙◌, ◌≡◌, ◌≤◌, ◌⊎◌}
+use Rattle.std.proofs.Common.{IsOk, IsTrue, unwrap_or, is_some}
+use Rattle.std.proofs.lemmas.List.{get_or-take}
+use Rattle.tabled_set.specs.Common.{FitsMinimums, IsTooWide}
+use Rattle.tabled_set.specs.CellChanges.{NeedsMemoryIn, if_taken, CellFilter}
+use Rattle.tabled_set.specs.Narrowed.{is_permitted, needs_for_content_size, StopsNarrowing, WiderOutOfRange}
 use Rattle.tabled_config.specs.Settings.{style_at}
 use Rattle.tabled_entity.specs.Changes.{shared}
 use Rattle.tabled_config.specs.declared.sides.Indent.{Indent}
 use Rattle.tabled_config.specs.declared.sides.Sides.{Sides}
 use Rattle.tabled_set.proofs.ChangingCells.{AreChanged-as, match-false, match-true}
 use Rattle.std.specs.Result.{IsErrAnd}
-use Rattle.std.proofs.Math.Seq.{take-length}
-use Rattle.tabled_size.proofs.Totalling.{heights_length, widths_length}
 use Rattle.tabled_set.proofs.Emptied.{minimums-length}
 use Rattle.tabled_set.proofs.Totals.{short-widths}
-use Rattle.tabled_set.specs.Priorities.{Shrinks}
 
 -- the test of a column by a list of minimums that goes as far as the widths
 pub permitted-content_size : (t : Sheet) (widths mins : List ℕ) (column : ℕ) → mins ≡ take (length widths) (minimums t.cells t.config) → is_permitted widths (minimums t.cells t.config) column ≡ is_permitted widths mins column

@@ -1,10 +1,11 @@
 -- The greatest or the least of the first numbers of a sequence, one number further.
-use Rattle.std.proofs.Common.{◌≡◌, ◌≢◌, ℕ, zero, suc, ◌+◌, List, [], ◌∷◌, ◌++◌, map, max, min, arith, refl, ap, ◌∙◌}
-use Rattle.std.specs.List.{range_with_len}
+use Rattle.tabled_set.proofs.Names.{List, [], ap, arith, map, max, min, picked, range_with_len, refl, suc, zero, ℕ, ◌++◌, ◌+◌, ◌∙◌, ◌∷◌}
+use Rattle.tabled_set.proofs.Names.{◌≡◌}
+use Rattle.std.proofs.Common.{◌≢◌}
 use Rattle.std.proofs.lemmas.List.FromFn.{map-range_with_len_more}
 use Rattle.tabled_size.proofs.Greatest.{greatest_more}
 use Rattle.tabled_text.specs.Measure.{greatest}
-use Rattle.tabled_set.specs.Extremes.{least, least_of, picked, Pick, Greatest, Least}
+use Rattle.tabled_set.specs.Extremes.{least, least_of, Pick, Greatest, Least}
 
 least_of-push : (x : ℕ) (xs : List ℕ) (y : ℕ) → least_of x (xs ++ y ∷ []) ≡ min (least_of x xs) y
 least_of-push x [] y = refl

@@ -1,24 +1,18 @@
 -- What tables that grew, or whose rows shrank, keep of what is promised.
-use Rattle.std.proofs.Common.{◌≡◌, ℕ, ◌+◌, ◌-◌, ◌*◌, ◌<◌, ◌≤◌, ◌^◌, true, false, nat_le, List, Some, length, sum, refl, sym, ap, subst, ◌∙◌, cond, arith, [], MatchBool, None, take, inl, inr, ◌⊎◌, ⊎_elim}
-use Rattle.tabled_set.specs.Common.{at, columns, CompleteDimension, effective, estimated, estimated_heights, filled_height, filled_width}
-use Rattle.tabled_set.specs.Common.{Sheet, heights_of, is_empty, IsFilledIn, SpannedConfig, total_height, total_width, widths_of}
-use Rattle.tabled_set.specs.Common.{AreCleared, effective_sizes, estimated_widths, IsSized, IsTakenFrom}
-use Rattle.tabled_config.specs.Frame.{has_inner, has_left, has_right}
+use Rattle.tabled_set.proofs.Names.{AreChanged, AreCleared, CompleteDimension, IsFilledIn, IsGrownBy, IsSized, IsTakenFrom, List, MatchBool}
+use Rattle.tabled_set.proofs.Names.{MatchBool-at_false, MatchBool-at_true, None, Sheet, Shrinks, Some, SpannedConfig, [], ap, arith, at}
+use Rattle.tabled_set.proofs.Names.{cases_Bool, columns, cond, effective, effective_sizes, estimated, estimated_heights, estimated_widths}
+use Rattle.tabled_set.proofs.Names.{false, filled_height, filled_width, frame_height, frame_width, has_inner, has_left, has_right}
+use Rattle.tabled_set.proofs.Names.{heights_length, heights_of, inl, inr, is_empty, le-leb, length, lt-leb, nat_le, one_if, part_height}
+use Rattle.tabled_set.proofs.Names.{refl, subst, sum, sum-below, sum_below, sym, take, take-length, total_height, total_width, true}
+use Rattle.tabled_set.proofs.Names.{widths_of, ℕ, ⊎_elim, ◌*◌, ◌+◌, ◌-◌, ◌<◌, ◌^◌, ◌∙◌, ◌≡◌, ◌≤◌, ◌⊎◌}
 use Rattle.tabled_set.proofs.ChangingCells.{match-false, match-true}
-use Rattle.tabled_priority.specs.Laws.Sums.{sum-below, sum_below-le, sum_below-prefix}
-use Rattle.tabled_priority.specs.Sums.{one_if, sum_below}
-use Rattle.tabled_size.specs.Totals.{part_height}
-use Rattle.tabled_size.proofs.Totalling.{heights_length}
-use Rattle.tabled_set.specs.Increased.{IsGrownBy, IncreasesWidth, IsWidened, IncreasesHeight, IsHeightened}
+use Rattle.tabled_priority.specs.Laws.Sums.{sum_below-le, sum_below-prefix}
+use Rattle.tabled_set.specs.Increased.{IncreasesWidth, IsWidened, IncreasesHeight, IsHeightened}
 use Rattle.tabled_set.proofs.NarrowingTables.{effective-filled, effective-total, filled-size, effective-same}
 use Rattle.tabled_set.proofs.Totals.{short-widths, filled_height-frame, grown-sum, shrunk-total, some-lines, full_total}
-use Rattle.std.proofs.lemmas.Bool.{le-leb, lt-leb, MatchBool-at_false, MatchBool-at_true, cases_Bool}
-use Rattle.tabled_set.specs.Priorities.{Grows, AddsTo, Shrinks}
-use Rattle.std.proofs.Math.Seq.{take-length}
+use Rattle.tabled_set.specs.Priorities.{Grows, AddsTo}
 use Rattle.std.proofs.lemmas.List.{take_all}
-use Rattle.tabled_size.proofs.ShrunkTotals.{frame_width}
-use Rattle.tabled_set.specs.HeightFrame.{frame_height}
-use Rattle.tabled_set.specs.CellChanges.{AreChanged}
 use Rattle.tabled_set.specs.Narrowed.{IsShrunkBy, IsLowered, LimitsHeight, for_height}
 use Rattle.tabled_set.proofs.ExactTotals.{changed_empty}
 use Rattle.tabled_set.specs.Promised.{HeightensAsPromised, LimitsAsPromised, WidensAsPromised}

@@ -1,7 +1,8 @@
 -- What a refused change leaves.
-use Rattle.std.proofs.Common.{◌≡◌, ℕ, Bool, List, Result, Ok, Err, IfErr, OnErr, inr, refl}
-use Rattle.tabled_set.specs.Common.{CompleteDimension, Memory, Range, TableError}
-use Rattle.tabled_set.specs.CellChanges.{AreChangedBefore, StopsChanging, WalkOrder}
+use Rattle.tabled_set.proofs.Names.{AreChangedBefore, Bool, CompleteDimension, Err, IfErr, List, Memory, Ok, Range, Result, TableError}
+use Rattle.tabled_set.proofs.Names.{WalkOrder, inr, refl, ℕ, ◌≡◌}
+use Rattle.std.proofs.Common.{OnErr}
+use Rattle.tabled_set.specs.CellChanges.{StopsChanging}
 use Rattle.tabled_set.specs.Increased.{StopsFilling}
 
 -- with `Memory` the cells before some cell are changed

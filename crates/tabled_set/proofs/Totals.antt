@@ -1,24 +1,19 @@
 -- The totals of tables whose rows grew or shrank, or for which too few widths may be stored.
-use Rattle.std.proofs.Common.{◌≡◌, ℕ, ◌+◌, ◌-◌, ◌==◌, ◌<◌, false, List, [], length, sum, max, refl, sym, ap, ◌∙◌, arith, cond, if◌then◌else◌, zero, suc, ◌≤◌, Option, Some, None, ⊎_elim, ◌*◌, ◌^◌, MatchOption, subst}
-use Rattle.std.proofs.lemmas.Bool.Decides.{nat_tests}
-use Rattle.tabled_set.specs.Common.{at, cell_at, columns, CompleteDimension, effective, effective_sizes, estimated_heights, Sheet}
-use Rattle.tabled_set.specs.Common.{total_width, estimated_widths, filled_height, filled_width, is_empty, IsTakenFrom, SpannedConfig}
-use Rattle.tabled_set.specs.Common.{widths_of}
+use Rattle.tabled_set.proofs.Names.{CompleteDimension, IsTakenFrom, List, MatchOption, None, Option, Sheet, Some, SpannedConfig, [], ap}
+use Rattle.tabled_set.proofs.Names.{arith, at, cell_at, columns, cond, effective, effective_sizes, estimated_heights, estimated_widths}
+use Rattle.tabled_set.proofs.Names.{false, filled_height, filled_width, frame_height, frame_width, has_inner, has_left, has_right}
+use Rattle.tabled_set.proofs.Names.{heights_length, if◌then◌else◌, is_empty, length, length-take, max, nat_tests, one_if, part_height}
+use Rattle.tabled_set.proofs.Names.{reached, refl, subst, suc, sum, sum-below, sum_below, sym, total_width, widths_length, widths_of, zero}
+use Rattle.tabled_set.proofs.Names.{ℕ, ⊎_elim, ◌*◌, ◌+◌, ◌-◌, ◌<◌, ◌==◌, ◌^◌, ◌∙◌, ◌≡◌, ◌≤◌}
 use Rattle.tabled_priority.specs.Grown.{IsGrownFrom, added}
-use Rattle.tabled_priority.specs.Laws.Sums.{sum-below, sum_below-plus, sum_below-same, sum_below-term, sum_below-zero}
+use Rattle.tabled_priority.specs.Laws.Sums.{sum_below-plus, sum_below-same, sum_below-term, sum_below-zero}
 use Rattle.tabled_priority.specs.Permitted.{spare, spare_total}
-use Rattle.tabled_priority.specs.Sums.{sum_below, one_if}
-use Rattle.tabled_size.specs.Totals.{part_height, rules_at}
+use Rattle.tabled_size.specs.Totals.{rules_at}
 use Rattle.tabled_size.proofs.Passing.{height_at, height_ge}
-use Rattle.tabled_size.proofs.Totalling.{heights_length, widths_length}
 use Rattle.tabled_text.proofs.Bridge.{some_line}
-use Rattle.tabled_set.specs.HeightFrame.{frame_height}
 use Rattle.std.proofs.lemmas.Bool.{cases_lt}
-use Rattle.std.proofs.lemmas.List.{get_or_past, length-take}
-use Rattle.tabled_size.proofs.ShrunkTotals.{frame_width}
+use Rattle.std.proofs.lemmas.List.{get_or_past}
 use Rattle.std.specs.List.{slice_index}
-use Rattle.tabled_config.specs.Frame.{has_left, has_right, has_inner}
-use Rattle.tabled_size.specs.Reached.{reached}
 use Rattle.tabled_size.proofs.Reaching.{reached_at, reached_so}
 
 -- where there is a height a row, the whole is their sum and the frame

@@ -1,27 +1,24 @@
 -- Truncated texts stay in their content size.
-use Rattle.std.proofs.Common.{◌≡◌, ◌-◌, ℕ, zero, suc, true, false, List, [], ◌∷◌, ◌++◌, MatchBool, nat_lt, chars, replicate, refl, sym, ap, subst, ◌∙◌, append-nil, arith, ⊎_elim, ◌+◌, ◌<◌, ◌≤◌, ◌==◌, Bool, All, encode_utf8_all, length, sum_by}
-use Rattle.std.specs.List.{AllZip, join_with_byte}
-use Rattle.std.proofs.Math.Dec.{eqb-suc-zero}
-use Rattle.std.proofs.lemmas.Bool.{MatchBool-at_true, MatchBool-at_false, cases_Bool, ltb-false, ltb-true}
+use Rattle.tabled_set.proofs.Names.{AllZip, Bool, Cut, FitsIn, Ignore, IsAdditive, IsAdditiveLimit, IsCut, IsEnded, IsLimited, IsTruncated}
+use Rattle.tabled_set.proofs.Names.{IsUsed, IsUtf8, List, MatchBool, MatchBool-at_false, MatchBool-at_true, Replace, SuffixLimit, [], ap}
+use Rattle.tabled_set.proofs.Names.{append-nil, arith, cases_Bool, cut-once, encode_utf8_all, eqb-suc-zero, false, get_or_default, if_wider}
+use Rattle.tabled_set.proofs.Names.{join_with_byte, length, length-slice_split, line_columns, lines_of, nat_lt, refl, replicate, subst, suc}
+use Rattle.tabled_set.proofs.Names.{suffix_columns, sum_by, sym, text_columns, true, truncating, zero, ℕ, ⊎_elim, ◌++◌, ◌+◌, ◌-◌, ◌<◌, ◌==◌}
+use Rattle.tabled_set.proofs.Names.{◌∙◌, ◌∷◌, ◌≡◌, ◌≤◌}
+use Rattle.std.proofs.Common.{chars, All}
+use Rattle.std.proofs.lemmas.Bool.{ltb-false, ltb-true}
 use Rattle.std.proofs.lemmas.List.Sums.{sum_by-cons}
 use Rattle.std.proofs.lemmas.Str.{IsUtf8-nil, chars-nil}
-use Rattle.tabled_set.specs.Common.{IsCut, IsExactLine, IsLongestCut, line_columns, lines_of, FitsIn, IsAdditive, IsAdditiveColumn}
-use Rattle.tabled_set.specs.Common.{text_columns}
+use Rattle.tabled_set.specs.Common.{IsExactLine, IsLongestCut, IsAdditiveColumn}
 use Rattle.tabled_text.specs.Cut.{missing_columns}
 use Rattle.tabled_text.proofs.CutLemmas.{IsReached-nil, longest_at_full}
 use Rattle.tabled_text.proofs.PlainLines.{plain_line-nil, plain_line-each, plain_text-line}
 use Rattle.tabled_text.proofs.ExactLines.{exact-longest}
-use Rattle.tabled_set.specs.Truncated.{SuffixLimit, IsEnded, IsLimited, IsTruncated, IsUsed, suffix_columns, HasLongestLines}
-use Rattle.tabled_set.specs.Truncated.{IsAdditiveLimit, Cut, Ignore, Replace}
-use Rattle.std.specs.Str.{IsUtf8}
-use Rattle.std.proofs.lemmas.List.{get_or_default}
+use Rattle.tabled_set.specs.Truncated.{HasLongestLines}
 use Rattle.std.proofs.lemmas.List.Elements.{All-head, All-tail, All-cons, All-nil, length_all_zip}
-use Rattle.std.proofs.lemmas.List.Splits.{length-slice_split}
 use Rattle.tabled_text.specs.Room.{StaysWithin}
 use Rattle.tabled_text.proofs.FittingLaws.{fits-cut, fits-suffix, fits-joined, fits-filled}
 use Rattle.tabled_text.proofs.StayLemmas.{StaysWithin-cut, StaysWithin-suffix, StaysWithin-join, StaysWithin-filled}
-use Rattle.tabled_text.proofs.CutOnce.{cut-once}
-use Rattle.tabled_set.specs.CellChanges.{if_wider, truncating}
 
 missing-none : (rest : List ℕ) → missing_columns 0 [] rest ≡ 0
 missing-none [] = refl

@@ -1,19 +1,17 @@
 -- What wrapped and truncated tables keep of what is promised.
-use Rattle.std.proofs.Common.{◌≡◌, ℕ, ◌<◌, Bool, true, false, List, [], Option, Some, None, nat_lt, refl, sym, ap, ◌∙◌, subst, ⊎_elim}
-use Rattle.std.proofs.lemmas.Bool.{MatchBool-at_true, MatchBool-at_false, cases_Bool, lt-ltb}
-use Rattle.tabled_set.specs.Common.{AreCleared, AreTexts, cell_at, CompleteDimension, effective, Entity, heights_of, IsAdditive, IsInside}
-use Rattle.tabled_set.specs.Common.{IsRectangular, Row, SpannedConfig, text_columns, widths_of}
+use Rattle.tabled_set.proofs.Names.{AreCleared, AreTexts, Bool, CompleteDimension, HasExactTotal, IsAdditive, IsAdditiveLimit, IsInside}
+use Rattle.tabled_set.proofs.Names.{IsNarrowed, IsRectangular, IsTruncated, List, MatchBool-at_false, MatchBool-at_true, Narrows, None}
+use Rattle.tabled_set.proofs.Names.{Option, Shrinks, Some, SpannedConfig, SuffixLimit, TakesFrom, TakesGreatest, [], ap, cases_Bool}
+use Rattle.tabled_set.proofs.Names.{cell_at, effective, false, heights_of, if_wider, inner_width, lt-ltb, nat_lt, refl, subst, sym}
+use Rattle.tabled_set.proofs.Names.{text_columns, true, truncating, widths_of, ℕ, ⊎_elim, ◌<◌, ◌∙◌, ◌≡◌}
+use Rattle.tabled_set.specs.Common.{Entity, Row}
 use Rattle.tabled_text.proofs.FewestLines.{fewest-wrapped}
 use Rattle.tabled_text.proofs.OwnBreaking.{old_text}
 use Rattle.tabled_text.proofs.StayLemmas.{IsAdditive-stays, StaysWithin-wrapped}
 use Rattle.tabled_text.proofs.FittingLaws.{fits-wrapped}
 use Rattle.tabled_size.specs.Entries.{clears_heights, clears_widths, unless_cleared}
-use Rattle.tabled_set.specs.BestNarrowing.{HasLeastWidth, IsBestCut, inner_width}
-use Rattle.tabled_set.specs.CellChanges.{if_wider, truncating, wrapping}
-use Rattle.tabled_set.specs.ExactTotal.{HasExactTotal}
-use Rattle.tabled_set.specs.Narrowed.{IsNarrowed, Narrows}
-use Rattle.tabled_set.specs.Truncated.{IsAdditiveLimit, IsTruncated, SuffixLimit}
-use Rattle.tabled_set.specs.Priorities.{Shrinks, TakesFrom, TakesGreatest}
+use Rattle.tabled_set.specs.BestNarrowing.{HasLeastWidth, IsBestCut}
+use Rattle.tabled_set.specs.CellChanges.{wrapping}
 use Rattle.tabled_set.specs.Promised.{IsWiderThan, TruncatesAsPromised, WrapsAsPromised}
 use Rattle.tabled_set.proofs.TruncatedTexts.{longest_lines, longest_truncated, StaysWithin-truncated, fits-if_wider}
 use Rattle.tabled_set.proofs.ExactTotals.{CharsFit, IsNarrowed-wider, KeepsPlain, changed_for_room, exact_total, leveled}

@@ -1,13 +1,10 @@
 -- Totals of estimated sizes.
-use Rattle.std.proofs.Common.{◌≡◌, ℕ, ◌+◌, ◌<◌, ◌≤◌, ◌^◌, suc, false, List, MatchOption, Option, None, length, ap, arith, cond, subst, sym}
-use Rattle.std.specs.List.{slice_index}
-use Rattle.tabled_base.specs.Cells.{columns}
-use Rattle.tabled_config.specs.declared.spanned.SpannedConfig.{SpannedConfig}
-use Rattle.tabled_priority.proofs.Sums.{sum_step}
-use Rattle.tabled_priority.specs.Sums.{sum_below}
-use Rattle.tabled_size.specs.Estimates.{estimated_heights, estimated_widths}
-use Rattle.tabled_size.specs.Sheet.{estimated, is_empty}
-use Rattle.tabled_size.specs.Totals.{filled_height, filled_width, framed_height, framed_width, part_height, total_height, total_width}
+use Rattle.tabled_size.proofs.Names.{List, MatchOption, None, Option, SpannedConfig, ap, arith, columns, estimated_heights}
+use Rattle.tabled_size.proofs.Names.{estimated_widths, false, filled_height, filled_width, framed_height, framed_width, is_empty, length}
+use Rattle.tabled_size.proofs.Names.{part_height, slice_index, subst, suc, sum_below, sum_step, sym, ℕ, ◌+◌, ◌<◌, ◌^◌, ◌≡◌, ◌≤◌}
+use Rattle.std.proofs.Common.{cond}
+use Rattle.tabled_size.specs.Sheet.{estimated}
+use Rattle.tabled_size.specs.Totals.{total_height, total_width}
 
 pub none-of : (P : Type 0) (Q : ℕ → Type 0) (o : Option ℕ) → o ≡ None → P → MatchOption o P Q
 none-of P Q o e p = subst (λ (q : Option ℕ). MatchOption q P Q) (sym e) p

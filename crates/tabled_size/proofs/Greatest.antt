@@ -1,10 +1,9 @@
 -- The greatest of the first numbers of a sequence, one number further.
-use Rattle.std.proofs.Common.{◌≡◌, ℕ, zero, suc, ◌+◌, ◌<◌, ◌≤◌, List, [], ◌∷◌, ◌++◌, length, take, drop, map}
-use Rattle.std.proofs.Common.{max, replicate, arith, sym, ap, ◌∙◌, ⊎_elim}
-use Rattle.std.specs.List.{range_with_len, slice_index}
-use Rattle.std.proofs.lemmas.Bool.{cases_lt}
+use Rattle.tabled_size.proofs.Names.{List, [], ap, arith, cases_lt, fill_by_all, get_or-map-range_with_len, length}
+use Rattle.tabled_size.proofs.Names.{length-map-range_with_len, map, map-range_with_len_more, max, range_with_len, replicate, slice_index}
+use Rattle.tabled_size.proofs.Names.{suc, sym, take, zero, ℕ, ⊎_elim, ◌++◌, ◌+◌, ◌<◌, ◌∙◌, ◌∷◌, ◌≡◌, ◌≤◌}
+use Rattle.std.proofs.Common.{drop}
 use Rattle.std.proofs.lemmas.List.{get_or-replicate, length-replicate}
-use Rattle.std.proofs.lemmas.List.FromFn.{fill_by_all, get_or-map-range_with_len, length-map-range_with_len, map-range_with_len_more}
 use Rattle.std.proofs.Math.Seq.{take-append_seam}
 use Rattle.tabled_text.specs.Measure.{greatest}
 

@@ -1,5 +1,6 @@
 pub mod EstimatedTotals
 pub mod Greatest
+pub mod Names
 pub mod Passing
 pub mod Raising
 pub mod Reaching

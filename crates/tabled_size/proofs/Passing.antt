@@ -1,17 +1,12 @@
 -- Where a cell needs more than a number can say, so does the whole.
-use Rattle.std.proofs.Common.{◌≡◌, ℕ, ◌+◌, ◌^◌, ◌<◌, ◌≤◌, ◌⊎◌, ⊎_elim, inl, inr, List, length, Option, Some, None, IfNone, arith, subst}
-use Rattle.std.specs.List.{slice_index}
-use Rattle.std.proofs.lemmas.List.FromFn.{get_or-map-range_with_len}
-use Rattle.tabled_base.specs.Cells.{columns}
-use Rattle.tabled_config.specs.declared.spanned.SpannedConfig.{SpannedConfig}
-use Rattle.tabled_size.specs.Added.{PassesRange, added_at}
-use Rattle.tabled_size.specs.declared.added_padding.Extent.{Extent}
-use Rattle.tabled_size.specs.Estimates.{IsTooHigh, IsTooWide, column_width, estimated_heights}
-use Rattle.tabled_size.specs.Estimates.{estimated_widths, needed_height, needed_width, row_height}
-use Rattle.tabled_priority.specs.Sums.{sum_below}
-use Rattle.tabled_size.specs.Totals.{filled_height, filled_width, part_height}
+use Rattle.tabled_size.proofs.Names.{Extent, List, None, Option, Some, SpannedConfig, added_at, arith, column_width, columns}
+use Rattle.tabled_size.proofs.Names.{estimated_heights, estimated_widths, filled_height, filled_width, get_or-map-range_with_len, inl, inr}
+use Rattle.tabled_size.proofs.Names.{length, needed_height, needed_width, part_height, row_height, slice_index, subst, sum_below, sum_step}
+use Rattle.tabled_size.proofs.Names.{ℕ, ⊎_elim, ◌+◌, ◌<◌, ◌^◌, ◌≡◌, ◌≤◌, ◌⊎◌}
+use Rattle.std.proofs.Common.{IfNone}
+use Rattle.tabled_size.specs.Added.{PassesRange}
+use Rattle.tabled_size.specs.Estimates.{IsTooHigh, IsTooWide}
 use Rattle.tabled_size.proofs.Greatest.{greatest_ge}
-use Rattle.tabled_priority.proofs.Sums.{sum_step}
 
 -- the estimated width of a column, and what its cells need
 pub width_at : (cells : List (List (List ℕ))) (config : SpannedConfig) (column : ℕ) → column < columns cells

@@ -1,6 +1,6 @@
 -- Widths that are raised column by column.
-use Rattle.std.proofs.Common.{◌≡◌, ◌+◌, ◌<◌, ◌≤◌, ◌∙◌, List, ap, arith, get_or, inl, inr, length, max, set, ℕ}
-use Rattle.std.proofs.lemmas.Bool.{cases_lt}
+use Rattle.tabled_size.proofs.Names.{List, ap, arith, cases_lt, get_or, inl, inr, length, max, ℕ, ◌+◌, ◌<◌, ◌∙◌, ◌≡◌, ◌≤◌}
+use Rattle.std.proofs.Common.{set}
 use Rattle.std.proofs.lemmas.Grind.{get_or-set_at}
 use Rattle.std.proofs.lemmas.List.{get_or-set_other}
 

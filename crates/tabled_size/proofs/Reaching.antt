@@ -1,14 +1,13 @@
 -- What a dimension answers, place by place.
-use Rattle.std.proofs.Common.{◌≡◌, ℕ, zero, suc, ◌<◌, ◌≤◌, List, [], ◌∷◌, length, map, take, Option, Some, None, is_some, Bool, true, false}
-use Rattle.std.proofs.Common.{nat_lt, unwrap_or, get_or, min, refl, sym, ap, ◌∙◌, arith}
-use Rattle.std.specs.List.{range_with_len, slice_index}
+use Rattle.tabled_size.proofs.Names.{List, None, Option, Some, [], ap, arith, effective_sizes, false, get_or, get_or-map-range_with_len}
+use Rattle.tabled_size.proofs.Names.{is_some, length, length-map-range_with_len, map, range_with_len, reached, refl, slice_index, stored_at}
+use Rattle.tabled_size.proofs.Names.{suc, sym, take, true, zero, ℕ, ◌<◌, ◌∙◌, ◌∷◌, ◌≡◌, ◌≤◌}
+use Rattle.std.proofs.Common.{Bool, nat_lt, unwrap_or, min}
 use Rattle.std.proofs.lemmas.Bool.Decides.{nat_tests}
 use Rattle.std.proofs.Math.Seq.{take-length}
 use Rattle.std.proofs.lemmas.List.{ext_get_or, get_or-take, length-take}
-use Rattle.std.proofs.lemmas.List.FromFn.{get_or-map-range_with_len, length-map-range_with_len}
-use Rattle.tabled_size.specs.Reached.{leading, reached}
-use Rattle.tabled_size.specs.Entries.{entry, stored_at}
-use Rattle.tabled_size.specs.Effective.{effective_sizes}
+use Rattle.tabled_size.specs.Reached.{leading}
+use Rattle.tabled_size.specs.Entries.{entry}
 
 leading_le : (sizes : List (Option ℕ)) → length (leading sizes) ≤ length sizes
 leading_le [] = omega arith

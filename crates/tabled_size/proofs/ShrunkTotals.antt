@@ -1,15 +1,13 @@
 -- What the widths of a table add to after they were shrunk for a total, and how they follow the texts.
-use Rattle.std.proofs.Common.{◌≡◌, ℕ, zero, suc, ◌+◌, ◌-◌, ◌*◌, ◌<◌, ◌≤◌, List, length, sum, max, arith, ap, ◌∙◌, ⊎_elim}
-use Rattle.std.proofs.lemmas.Bool.{cases_lt}
+use Rattle.tabled_size.proofs.Names.{List, SpannedConfig, ap, arith, cases_lt, column_width, columns, estimated_widths, length, max}
+use Rattle.tabled_size.proofs.Names.{needed_width, one_if, suc, sum_below, zero, ℕ, ⊎_elim, ◌+◌, ◌<◌, ◌∙◌, ◌≡◌, ◌≤◌}
+use Rattle.std.proofs.Common.{◌-◌, ◌*◌, sum}
 use Rattle.std.proofs.lemmas.List.{get_or_past}
-use Rattle.tabled_base.specs.Cells.{cell_at, columns}
+use Rattle.tabled_base.specs.Cells.{cell_at}
 use Rattle.tabled_config.specs.Frame.{has_inner, has_left, has_right}
-use Rattle.tabled_config.specs.declared.spanned.SpannedConfig.{SpannedConfig}
 use Rattle.tabled_text.specs.Measure.{text_columns}
-use Rattle.tabled_size.specs.Estimates.{column_width, estimated_widths, needed_width}
 use Rattle.tabled_priority.specs.Permitted.{at, spare, spare_total, IsPermitted, IsTakenFrom}
 use Rattle.tabled_priority.specs.Laws.Sums.{sum-below, sum_below-plus, sum_below-same}
-use Rattle.tabled_priority.specs.Sums.{one_if, sum_below}
 use Rattle.tabled_size.proofs.Greatest.{greatest_below, greatest_step}
 use Rattle.tabled_size.proofs.Passing.{width_at}
 use Rattle.tabled_size.proofs.Totalling.{widths_length}

@@ -1,15 +1,11 @@
 -- The totals of the sizes that stand.
-use Rattle.std.proofs.Common.{◌≡◌, ℕ, ◌≤◌, ◌^◌, ◌⊎◌, ⊎_elim, List, length, Option, Some, None, Result, Ok, Err, is_some, sym, ap, subst, ◌∙◌, arith}
+use Rattle.tabled_size.proofs.Names.{List, None, Option, Some, SpannedConfig, ap, arith, column_width, columns, effective_sizes}
+use Rattle.tabled_size.proofs.Names.{estimated_heights, estimated_widths, is_some, length, length-map-range_with_len, reached, row_height}
+use Rattle.tabled_size.proofs.Names.{stored_at, subst, sym, ℕ, ⊎_elim, ◌^◌, ◌∙◌, ◌≡◌, ◌≤◌, ◌⊎◌}
+use Rattle.std.proofs.Common.{Result, Ok, Err}
 use Rattle.std.specs.Result.{IsErrAnd}
-use Rattle.std.proofs.lemmas.List.FromFn.{length-map-range_with_len}
-use Rattle.tabled_base.specs.Cells.{columns}
 use Rattle.tabled_base.specs.declared.error.TableError.{TableError}
 use Rattle.tabled_base.specs.declared.error.TableError.TheVariants.{Memory, Range}
-use Rattle.tabled_config.specs.declared.spanned.SpannedConfig.{SpannedConfig}
-use Rattle.tabled_size.specs.Estimates.{column_width, estimated_heights, estimated_widths, row_height}
-use Rattle.tabled_size.specs.Reached.{reached}
-use Rattle.tabled_size.specs.Entries.{stored_at}
-use Rattle.tabled_size.specs.Effective.{effective_sizes}
 use Rattle.tabled_size.specs.EffectiveTotals.{ReturnsTotal}
 use Rattle.tabled_size.proofs.Reaching.{reached_filled, reached_effective}
 

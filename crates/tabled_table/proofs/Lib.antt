@@ -1,3 +1,4 @@
+pub mod Names
 pub mod NewTables
 pub mod Progressions
 pub mod Sheets

@@ -1,30 +1,17 @@
 -- The settings of a new table are plain characters of one column, so its lines are straight.
-use Rattle.std.proofs.Common.{◌≡◌, inl, ℕ, ◌+◌, ◌<◌, ◌≤◌, ◌==◌, cond, arith, Bool, true, false, List, length, Option, None, Some, refl, ap}
-use Rattle.std.proofs.Common.{sym, subst, ◌∙◌}
-use Rattle.tabled_text.specs.Plain.{IsAdditiveColumn}
+use Rattle.tabled_table.proofs.Names.{Bool, Holds, HorizontalLine, IsAdditiveColumn, IsApartConfig, IsApartStyle, IsPlainConfig}
+use Rattle.tabled_table.proofs.Names.{IsPlainStyle, IsSeparatorColumn, List, None, Option, Sheet, Some, SpannedConfig, Table, ap, arith}
+use Rattle.tabled_table.proofs.Names.{columns, cond, estimated_heights, estimated_widths, false, heights_of, inl, is_empty, length, refl}
+use Rattle.tabled_table.proofs.Names.{rule_at, sheet, style_at, subst, sum_below, sum_step, sym, total_height, true, widths_of, ℕ, ◌+◌, ◌<◌}
+use Rattle.tabled_table.proofs.Names.{◌==◌, ◌∙◌, ◌≡◌, ◌≤◌}
 use Rattle.tabled_text.proofs.PlainLines.{plain_column-printable, plain_column-space}
-use Rattle.tabled_base.specs.Cells.{columns}
-use Rattle.tabled_config.specs.declared.borders.HorizontalLine.{HorizontalLine}
-use Rattle.tabled_config.specs.Settings.{rule_at, style_at}
-use Rattle.tabled_config.specs.declared.spanned.SpannedConfig.{SpannedConfig}
-use Rattle.tabled_size.specs.Estimates.{estimated_heights, estimated_widths}
-use Rattle.tabled_size.specs.Sheet.{Sheet, is_empty}
 use Rattle.tabled_size.specs.Effective.{effective_sizes}
-use Rattle.tabled_size.specs.Stored.{heights_of, widths_of}
-use Rattle.tabled_priority.specs.Sums.{sum_below}
-use Rattle.tabled_size.specs.Totals.{filled_height, part_height, total_height}
-use Rattle.tabled_priority.proofs.Sums.{sum_step}
-use Rattle.tabled_size.specs.Holds.{Holds}
-use Rattle.tabled_line.specs.Plain.{IsPlainRule, IsPlainStyle}
-use Rattle.tabled_grid.specs.PlainSheet.{IsPlainConfig}
+use Rattle.tabled_size.specs.Totals.{filled_height, part_height}
+use Rattle.tabled_line.specs.Plain.{IsPlainRule}
 use Rattle.tabled_grid.proofs.EstimatedSizes.{holds_estimated}
-use Rattle.tabled_text.specs.FramedLines.{IsSeparatorColumn}
-use Rattle.tabled_line.specs.Apart.{IsApartStyle}
-use Rattle.tabled_grid.specs.ApartSheet.{IsApartConfig}
 use Rattle.tabled_table.specs.NewConfig.{new_config}
 use Rattle.tabled_table.specs.NewTable.{IsNew}
-use Rattle.tabled_table.specs.TableSheet.{new_sheet, sheet}
-use Rattle.tabled_table.specs.declared.table.Table.{Table}
+use Rattle.tabled_table.specs.TableSheet.{new_sheet}
 
 plus : IsAdditiveColumn 43
 plus = plain_column-printable 43 refl

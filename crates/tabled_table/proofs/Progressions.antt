@@ -1,9 +1,11 @@
 -- Where batches begin, one after another.
-use Rattle.std.proofs.Common.{◌≡◌, ⊎_elim, ℕ, ◌+◌, ◌-◌, ◌*◌, ◌/◌, ◌<◌, ◌^◌, min, ◌≤◌, ◌==◌, ◌&&◌, suc, zero, arith, true, false, cond, List, [], ◌∷◌, length, nat_lt, Some, None, slice_get, refl, ap, sym, subst, ◌∙◌}
+use Rattle.tabled_table.proofs.Names.{LayoutIterator, List, None, Some, [], ap, arith, batches_left, cases_lt, cond, false, length, min}
+use Rattle.tabled_table.proofs.Names.{nat_lt, refl, subst, suc, sym, true, zero, ℕ, ⊎_elim, ◌&&◌, ◌*◌, ◌+◌, ◌-◌, ◌<◌, ◌==◌, ◌^◌, ◌∙◌, ◌∷◌}
+use Rattle.tabled_table.proofs.Names.{◌≡◌, ◌≤◌}
+use Rattle.std.proofs.Common.{◌/◌, slice_get}
 use Rattle.std.proofs.Math.Nat.{add-div_right, div-eq_of_lt}
-use Rattle.std.proofs.lemmas.Bool.{cases_lt, le-ltb, lt-ltb, ne_eqb}
-use Rattle.tabled_table.specs.Batches.{batch_at, batch_count, batches_left, progression}
-use Rattle.tabled_table.specs.declared.batches.LayoutIterator.{LayoutIterator}
+use Rattle.std.proofs.lemmas.Bool.{le-ltb, lt-ltb, ne_eqb}
+use Rattle.tabled_table.specs.Batches.{batch_at, batch_count, progression}
 
 abbrev rounded : ℕ → ℕ → ℕ
 rounded n batch = (n + (batch - 1)) / batch

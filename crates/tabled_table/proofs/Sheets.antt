@@ -1,15 +1,6 @@
 -- The lines of a table's picture.
-use Rattle.std.proofs.Common.{◌≡◌, length}
-use Rattle.tabled_base.specs.Cells.{IsRectangular, columns}
-use Rattle.tabled_size.specs.Sheet.{Sheet}
-use Rattle.tabled_size.specs.Totals.{total_height, total_width}
-use Rattle.tabled_size.specs.Holds.{Holds}
-use Rattle.tabled_grid.specs.Picture.{picture}
-use Rattle.tabled_size.specs.PlainCells.{AreAdditive}
-use Rattle.tabled_line.specs.Plain.{EachLineTakes}
-use Rattle.tabled_grid.specs.ApartSheet.{IsApartConfig}
-use Rattle.tabled_grid.specs.PlainSheet.{IsPlainConfig}
-use Rattle.tabled_size.specs.TextCells.{AreTexts}
+use Rattle.tabled_table.proofs.Names.{AreAdditive, AreTexts, EachLineTakes, Holds, IsApartConfig, IsPlainConfig, IsRectangular, Sheet}
+use Rattle.tabled_table.proofs.Names.{columns, length, picture, total_height, total_width, ◌≡◌}
 use Rattle.tabled_grid.proofs.ApartPictures.{apart_columns}
 use Rattle.tabled_grid.proofs.Whole.{picture_columns, picture_lines}
 

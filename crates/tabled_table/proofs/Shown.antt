@@ -1,40 +1,23 @@
 -- What a table keeps and gains where it is shown with a width and an alignment of its own.
-use Rattle.std.proofs.Common.{◌≡◌, ℕ, ◌+◌, ◌-◌, ◌≤◌, ◌==◌, cond, arith, Bool, true, false, List, Option, None, Some, refl, ap, sym, subst}
-use Rattle.std.proofs.Common.{inl, inr, ⊎_elim, ◌⊎◌, ◌<◌, ◌||◌, ◌&&◌, max, not, length, Result, Ok, Err, is_some, nat_lt, ◌∙◌}
+use Rattle.tabled_table.proofs.Names.{AlignmentHorizontal, AreAdditive, AreTexts, Bool, EachLineTakes, Err, Holds, IsAdditiveColumn}
+use Rattle.tabled_table.proofs.Names.{IsApartConfig, IsApartStyle, IsErrAnd, IsPlainConfig, IsPlainStyle, IsRectangular, IsSeparatorColumn}
+use Rattle.tabled_table.proofs.Names.{List, Memory, None, Ok, Option, Result, Sent, Sheet, Some, SpannedConfig, Table, TableError, ap}
+use Rattle.tabled_table.proofs.Names.{arith, cells_of, column_width, columns, cond, estimated_widths, false, filled_width, frame}
+use Rattle.tabled_table.proofs.Names.{heights_of, inl, inr, is_empty, is_some, length, max, nat_lt, not, picture, refl, rule_at, sheet}
+use Rattle.tabled_table.proofs.Names.{shown, shown_config, style_at, subst, sym, total_width, true, widths_of, ℕ, ⊎_elim, ◌&&◌, ◌+◌, ◌-◌}
+use Rattle.tabled_table.proofs.Names.{◌<◌, ◌==◌, ◌||◌, ◌∙◌, ◌≡◌, ◌≤◌, ◌⊎◌}
 use Rattle.std.proofs.lemmas.Bool.{eqb-true, ltb-false}
-use Rattle.tabled_text.specs.Plain.{IsAdditiveColumn}
-use Rattle.tabled_text.specs.FramedLines.{IsSeparatorColumn}
 use Rattle.tabled_config.specs.declared.sides.Indent.{Indent}
 use Rattle.tabled_config.specs.declared.sides.Sides.{Sides}
-use Rattle.tabled_config.specs.declared.alignment.AlignmentHorizontal.{AlignmentHorizontal}
 use Rattle.tabled_config.specs.declared.alignment.AlignmentHorizontal.TheVariants.{Left, Center, Right}
-use Rattle.tabled_config.specs.Settings.{frame, rule_at, style_at}
-use Rattle.tabled_config.specs.declared.spanned.SpannedConfig.{SpannedConfig}
 use Rattle.tabled_size.specs.declared.complete_dimension.CompleteDimension.{CompleteDimension}
-use Rattle.tabled_size.specs.Estimates.{column_width, estimated_widths}
-use Rattle.tabled_size.specs.Holds.{Holds}
 use Rattle.tabled_size.specs.Effective.{effective}
-use Rattle.tabled_size.specs.Totals.{filled_width, total_width}
-use Rattle.tabled_line.specs.Apart.{AreApartCells, IsApartStyle}
-use Rattle.tabled_line.specs.Plain.{IsPlainStyle, EachLineTakes}
-use Rattle.tabled_grid.specs.ApartSheet.{IsApartConfig}
-use Rattle.tabled_grid.specs.PlainSheet.{IsPlainConfig}
-use Rattle.tabled_table.specs.PrintedWith.{grown, left_part, shown_config, shown_fill, widened, asked, missing_columns, missing_to, shown}
-use Rattle.tabled_table.specs.PrintedWith.{takes_memory}
-use Rattle.std.specs.Result.{IsErrAnd}
-use Rattle.tabled_base.specs.Cells.{IsRectangular, columns}
-use Rattle.tabled_base.specs.declared.error.TableError.{TableError}
-use Rattle.tabled_base.specs.declared.error.TableError.TheVariants.{Memory, ShortWidths}
-use Rattle.tabled_size.specs.PlainCells.{AreAdditive}
-use Rattle.tabled_size.specs.Sheet.{Sheet, is_empty}
-use Rattle.tabled_size.specs.Stored.{heights_of, is_stored, widths_of}
-use Rattle.tabled_size.specs.TextCells.{AreTexts}
-use Rattle.tabled_line.specs.Sent.{Sent}
-use Rattle.tabled_grid.specs.Picture.{picture}
+use Rattle.tabled_line.specs.Apart.{AreApartCells}
+use Rattle.tabled_table.specs.PrintedWith.{grown, left_part, shown_fill, widened, asked, missing_columns, missing_to, takes_memory}
+use Rattle.tabled_base.specs.declared.error.TableError.TheVariants.{ShortWidths}
+use Rattle.tabled_size.specs.Stored.{is_stored}
 use Rattle.tabled_grid.specs.Printed.{IsFailure, Prints}
 use Rattle.tabled_grid.proofs.Printing.{refused_so}
-use Rattle.tabled_table.specs.TableSheet.{cells_of, sheet}
-use Rattle.tabled_table.specs.declared.table.Table.{Table}
 use Rattle.tabled_table.proofs.Sheets.{sheet_columns, sheet_texts}
 
 pub left_most : (align : Option AlignmentHorizontal) (missing : ℕ) → left_part align missing ≤ missing

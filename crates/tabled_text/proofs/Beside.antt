@@ -1,13 +1,8 @@
 -- A beginning of a text that is read by itself, beside the whole: what is known of both readings.
-use Rattle.std.proofs.Common.{◌≡◌, ℕ, ◌+◌, ◌<◌, ◌≤◌, ⊎_elim, Bool, true, false, cond, not, nat_le, ◌==◌, ◌&&◌, refl, sym, ap, arith, subst, max}
-use Rattle.std.proofs.lemmas.Bool.{and_parts, cases_lt, not-true}
-use Rattle.std.proofs.lemmas.Bool.Decides.{nat_tests}
-use Rattle.unicode_width.specs.declared.state.After.{After}
-use Rattle.unicode_width.specs.declared.state.After.TheVariants.{LineFeed, RegionalIndicator, RegionalIndicators, KiratE, KiratAi}
-use Rattle.unicode_width.specs.declared.state.State.{State}
-use Rattle.unicode_width.specs.Kind.{kind}
-use Rattle.unicode_width.specs.Width.{before, plain, alone, Reading, added, if_kept, is_kept, past_emoji}
-use Rattle.tabled_text.specs.Measure.{char_columns, char_count}
+use Rattle.tabled_text.proofs.Names.{After, Bool, KiratAi, KiratE, LineFeed, Reading, RegionalIndicator, RegionalIndicators, State, added}
+use Rattle.tabled_text.proofs.Names.{alone, and_parts, ap, arith, before, cases_lt, char_columns, char_count, cond, false, if_kept, is_kept}
+use Rattle.tabled_text.proofs.Names.{kind, max, nat_le, nat_tests, not, not-true, past_emoji, plain, refl, subst, sym, true, ℕ, ⊎_elim}
+use Rattle.tabled_text.proofs.Names.{◌&&◌, ◌+◌, ◌<◌, ◌==◌, ◌≡◌, ◌≤◌}
 use Rattle.tabled_text.proofs.CountBound.{slack_after, flag, slack, columns-high, of_kind-bound, IsLess-kept}
 use Rattle.tabled_text.proofs.Joining.{is_linked, is_open, calm-slack}
 

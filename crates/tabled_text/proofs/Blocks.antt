@@ -1,11 +1,10 @@
 -- Blocks of bytes that are tested at once.
-use Rattle.std.proofs.Common.{◌≡◌, ℕ, ◌+◌, ◌-◌, ◌%◌, ◌<◌, ◌≤◌, Bool, not, ltb, List, [], ◌∷◌, length, map, refl, ap, subst, ◌∙◌, arith, inl, inr, w8, Fits}
-use Rattle.std.specs.Int.{is_in_range}
+use Rattle.tabled_text.proofs.Names.{Bool, List, [], ap, arith, cases_lt, chunk, inl, inr, is_in_range, length, ltb, map, mask_l, nat_tests}
+use Rattle.tabled_text.proofs.Names.{not, refl, subst, w8, ℕ, ◌%◌, ◌+◌, ◌-◌, ◌<◌, ◌∙◌, ◌∷◌, ◌≡◌, ◌≤◌}
+use Rattle.std.proofs.Common.{Fits}
 use Rattle.std.specs.List.{prefix_len}
-use Rattle.std.specs.Simd.Lanes.{Each1, chunk, mask_l}
+use Rattle.std.specs.Simd.Lanes.{Each1}
 use lib.Count.{count_trailing_zeros}
-use Rattle.std.proofs.lemmas.Bool.{cases_lt}
-use Rattle.std.proofs.lemmas.Bool.Decides.{nat_tests}
 use Rattle.std.proofs.lemmas.Simd.{length-chunk, trailing_mask_l}
 
 -- a byte lies outside of a range where it is past the range that was lowered to 0

@@ -1,14 +1,10 @@
 -- Bounds on the lines and the columns of a text by its bytes.
-use Rattle.std.proofs.Common.{◌≡◌, ℕ, ◌+◌, ◌*◌, ◌≤◌, true, ◌==◌, ◌&&◌, ◌||◌, List, [], ◌∷◌, chars, length, ap, arith, ⊎_elim, sum_by, sym, subst}
-use Rattle.std.specs.List.{list_all, slice_index_or}
-use Rattle.std.proofs.lemmas.Bool.{and_parts, or_cases, eqb-true}
-use Rattle.std.proofs.lemmas.List.{get_or_default}
-use Rattle.std.proofs.lemmas.List.Splits.{length-slice_split}
-use Rattle.std.proofs.lemmas.List.Sums.{sum_by-cons, count_by-le-length}
-use Rattle.std.proofs.lemmas.Str.{encodes-chars, length-le-encodes}
-use Rattle.unicode_width.proofs.Rules.{is_simple}
-use Rattle.tabled_text.specs.Measure.{lines_of, line_columns, text_columns, char_columns}
-use Rattle.tabled_text.specs.Plain.{is_listed_or_drawn, has_plain_width, is_additive, IsAdditive, IsAdditiveLine}
+use Rattle.tabled_text.proofs.Names.{IsAdditive, IsAdditiveLine, List, [], and_parts, ap, arith, char_columns, chars, encodes-chars}
+use Rattle.tabled_text.proofs.Names.{eqb-true, get_or_default, has_plain_width, is_additive, is_listed_or_drawn, is_simple, length}
+use Rattle.tabled_text.proofs.Names.{length-slice_split, line_columns, lines_of, list_all, or_cases, slice_index_or, subst, sum_by}
+use Rattle.tabled_text.proofs.Names.{sum_by-cons, sym, text_columns, true, ℕ, ⊎_elim, ◌&&◌, ◌*◌, ◌+◌, ◌==◌, ◌||◌, ◌∷◌, ◌≡◌, ◌≤◌}
+use Rattle.std.proofs.lemmas.List.Sums.{count_by-le-length}
+use Rattle.std.proofs.lemmas.Str.{length-le-encodes}
 use Rattle.tabled_text.proofs.Bridge.{lines_length, greatest-le}
 use Rattle.tabled_text.proofs.PlainLemmas.{line_columns-plain}
 use Rattle.tabled_text.proofs.PlainLines.{plain_line-each}

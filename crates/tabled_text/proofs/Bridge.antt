@@ -1,18 +1,15 @@
 -- The lines of a text's bytes, as lines of its characters, and the columns of a text by its lines.
-use Rattle.std.proofs.Common.{◌≡◌, ℕ, zero, suc, ◌<◌, ◌≤◌, Bool, true, false, cond, ◌==◌, ◌||◌}
-use Rattle.std.proofs.Common.{◌&&◌, List, [], ◌∷◌, ◌++◌, chars, length, get_or, map, max}
-use Rattle.std.proofs.Common.{encode_utf8, encode_utf8_all, refl, sym, ap, ◌∙◌, subst, arith, All}
-use Rattle.std.proofs.Common.{⊎_elim, lit<, append-nil}
-use Rattle.std.specs.List.{list_all, list_any, onto_first, slice_index_or, join_with_byte}
-use Rattle.std.specs.Str.{IsUtf8}
-use Rattle.std.proofs.Math.Utf8.{scalar, scalars}
-use Rattle.std.proofs.lemmas.Bool.{and_parts, and_from, or_parts, cases_Bool, eqb-true, or_right}
-use Rattle.std.proofs.lemmas.List.{get_or_default}
-use Rattle.std.proofs.lemmas.List.Elements.{All-head, All-tail, All-cons, All-nil, All-map}
-use Rattle.std.proofs.lemmas.List.Splits.{slice_split-cons_no, length-slice_split, join_with_byte-slice_split}
-use Rattle.std.proofs.lemmas.Str.{encode_ascii, inside_one, chars-encodes, encodes-chars, scalars-chars}
-use Rattle.unicode_width.specs.Width.{str_width}
-use Rattle.tabled_text.specs.Measure.{lines_of, line_columns, greatest, text_columns}
+use Rattle.tabled_text.proofs.Names.{All, All-cons, All-head, All-nil, All-tail, Bool, IsUtf8, List, [], and_from, and_parts, ap, arith}
+use Rattle.tabled_text.proofs.Names.{cases_Bool, chars, chars-encodes, cond, encode_ascii, encode_utf8, encode_utf8_all, encodes-chars}
+use Rattle.tabled_text.proofs.Names.{eqb-true, false, get_or, get_or_default, greatest, join_with_byte, join_with_byte-slice_split, length}
+use Rattle.tabled_text.proofs.Names.{length-slice_split, line_columns, lines_of, list_all, lit<, map, max, onto_first, or_right, refl}
+use Rattle.tabled_text.proofs.Names.{scalar, scalars, scalars-chars, slice_index_or, slice_split-cons_no, str_width, subst, suc, sym}
+use Rattle.tabled_text.proofs.Names.{text_columns, true, zero, ℕ, ⊎_elim, ◌&&◌, ◌++◌, ◌<◌, ◌==◌, ◌||◌, ◌∙◌, ◌∷◌, ◌≡◌, ◌≤◌}
+use Rattle.std.proofs.Common.{append-nil}
+use Rattle.std.specs.List.{list_any}
+use Rattle.std.proofs.lemmas.Bool.{or_parts}
+use Rattle.std.proofs.lemmas.List.Elements.{All-map}
+use Rattle.std.proofs.lemmas.Str.{inside_one}
 
 abbrev is_feed : ℕ → Bool
 is_feed c = c == 10

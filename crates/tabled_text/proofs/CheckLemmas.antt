@@ -1,18 +1,10 @@
 -- A text is the wrapping exactly if it is what the walk writes.
-use Rattle.std.proofs.Common.{◌≡◌, ◌≢◌, ℕ, ◌<◌, Bool, true, false, List, [], ◌∷◌, ◌++◌, ◌↔◌, Option}
-use Rattle.std.proofs.Common.{Some, None, MatchOption, Bor, refl, sym, ap, ◌∙◌, subst, chars}
-use Rattle.std.proofs.Common.{encode_utf8_all, append-nil, option_copied, IsUtf8, ◌⊎◌, ⊎_elim, ◌==◌}
-use Rattle.std.proofs.Common.{arith}
-use Rattle.std.specs.Prelude.{MatchBool}
-use Rattle.std.specs.List.{AllZip, list_all}
-use Rattle.std.proofs.lemmas.Bool.{ne_eqb}
+use Rattle.tabled_text.proofs.Names.{AllZip, Bool, Expects, IsFittingWrapping, IsFullest, IsFullestText, List, MatchBool, None, Option}
+use Rattle.tabled_text.proofs.Names.{Some, TextUnit, [], ap, append_all, arith, chars, chars_from_encodes, encode_utf8_all, encodes-chars}
+use Rattle.tabled_text.proofs.Names.{false, fits_line, lines_of, list_all, ne_eqb, option_copied, pending, refl, subst, sym, text_of_lines}
+use Rattle.tabled_text.proofs.Names.{true, units, ℕ, ⊎_elim, ◌++◌, ◌<◌, ◌==◌, ◌↔◌, ◌∙◌, ◌∷◌, ◌≡◌, ◌⊎◌}
+use Rattle.std.proofs.Common.{◌≢◌, MatchOption, Bor, append-nil, IsUtf8}
 use Rattle.std.proofs.lemmas.List.{append_cancel_left}
-use Rattle.std.proofs.lemmas.Str.{chars_from_encodes, encodes-chars}
-use Rattle.tabled_text.specs.Measure.{lines_of}
-use Rattle.tabled_text.specs.Units.{TextUnit, units}
-use Rattle.tabled_text.specs.Wrapping.{IsFullest, IsFullestText, text_of_lines, IsFittingWrapping}
-use Rattle.tabled_text.specs.Walk.{append_all, pending, fits_line}
-use Rattle.tabled_text.specs.Expected.{Expects}
 use Rattle.tabled_text.proofs.FitLemmas.{fits_lines-iff}
 use Rattle.tabled_text.proofs.Filling.{text_is}
 use Rattle.tabled_text.proofs.WriteLemmas.{AllZip-broken, text_of_lines-broken}

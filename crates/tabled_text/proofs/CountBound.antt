@@ -1,26 +1,14 @@
 -- No text takes more columns than its characters count.
-use Rattle.std.proofs.Common.{◌≡◌, ℕ, ◌+◌, ◌≤◌, Bool, true, false, cond, not, nat_le, ◌==◌, ◌&&◌}
-use Rattle.std.proofs.Common.{List, [], ◌∷◌, Option, Some, None, refl, ap, arith, subst, max}
-use Rattle.std.proofs.lemmas.Bool.{and_parts, not-false}
-use Rattle.std.proofs.lemmas.Bool.Decides.{nat_tests}
-use Rattle.std.proofs.lemmas.List.Sums.{sum_by-cons}
-use Rattle.ucd_emoji.specs.Binary.{is_emoji_variation_base}
-use Rattle.ucd_bidi.specs.JoiningType.{joining_type, joining_type_eq}
-use Rattle.ucd_bidi.specs.declared.JoiningType.TheVariants.{Transparent}
-use Rattle.unicode_width.specs.declared.kind.Kind.{Kind}
+use Rattle.tabled_text.proofs.Names.{After, Bool, Change, Kind, Less, List, None, One, Option, Reading, Same, Some, State, Three}
+use Rattle.tabled_text.proofs.Names.{Transparent, [], added, alone, and_parts, ap, arith, before_alef, char_columns, char_count, char_width}
+use Rattle.tabled_text.proofs.Names.{columns_of, cond, count_of, false, if_kept, in_context, is_emoji_variation_base, is_joined_emoji}
+use Rattle.tabled_text.proofs.Names.{is_kept, is_lam, is_ligature_transparent, is_line_feed, is_plain, is_quote, is_text_presentation_base}
+use Rattle.tabled_text.proofs.Names.{joined_or, joining_type, joining_type_eq, joins, kind, max, nat_le, nat_tests, not, not-false, of_kind}
+use Rattle.tabled_text.proofs.Names.{past_emoji, past_selectors, plain, read_before, refl, single, skips_marks, step, str_width, subst}
+use Rattle.tabled_text.proofs.Names.{sum_by-cons, true, ℕ, ◌&&◌, ◌+◌, ◌==◌, ◌∷◌, ◌≡◌, ◌≤◌}
 use Rattle.unicode_width.specs.declared.kind.Kind.TheVariants as kinds
-use Rattle.unicode_width.specs.declared.state.After.{After}
 use Rattle.unicode_width.specs.declared.state.After.TheVariants as states
-use Rattle.unicode_width.specs.declared.state.State.{State}
-use Rattle.unicode_width.specs.declared.state.Change.{Change}
-use Rattle.unicode_width.specs.declared.state.Change.TheVariants.{Less, Same, One, Three}
-use Rattle.unicode_width.specs.Kind.{kind, is_ligature_transparent, is_text_presentation_base}
-use Rattle.unicode_width.specs.Width.{plain, single, of_kind, alone, char_width, before_alef, joins}
-use Rattle.unicode_width.specs.Width.{Reading, added, joined_or, with_joiner, if_kept}
-use Rattle.unicode_width.specs.Width.{is_joined_emoji, is_kept, is_lam, skips_marks, is_line_feed}
-use Rattle.unicode_width.specs.Width.{is_quote, is_plain, past_selectors, in_context, past_emoji}
-use Rattle.unicode_width.specs.Width.{step, read_before, str_width}
-use Rattle.tabled_text.specs.Measure.{char_columns, char_count, columns_of, count_of}
+use Rattle.unicode_width.specs.Width.{with_joiner}
 
 -- ---- what a state keeps back
 

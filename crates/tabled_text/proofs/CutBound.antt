@@ -1,16 +1,10 @@
 -- A cut text stays in its columns, whatever its characters are.
-use Rattle.std.proofs.Common.{◌≡◌, ℕ, ◌+◌, ◌<◌, ◌≤◌, true, List, [], ◌∷◌, ◌++◌, length, refl, sym, arith, subst, All, replicate, chars, sum_by}
-use Rattle.std.specs.Str.{IsUtf8}
-use Rattle.std.proofs.lemmas.Str.{IsUtf8-append, chars-append}
-use Rattle.std.proofs.lemmas.List.Elements.{All-head, All-tail}
-use Rattle.tabled_text.specs.Measure.{lines_of, count_of, text_columns, line_columns}
-use Rattle.tabled_text.specs.Plain.{IsAdditive}
-use Rattle.tabled_text.specs.Room.{stays}
+use Rattle.tabled_text.proofs.Names.{All, All-head, All-tail, IsAdditive, IsCut, IsUtf8, IsUtf8-append, List, [], arith, chars}
+use Rattle.tabled_text.proofs.Names.{chars-append, count_of, is_no_feed, last_of, length, line_columns, lines_of, missing_columns, refl}
+use Rattle.tabled_text.proofs.Names.{replicate, stays, subst, sum_by, sym, text_columns, true, ℕ, ◌++◌, ◌+◌, ◌<◌, ◌∷◌, ◌≡◌, ◌≤◌}
 use Rattle.tabled_text.proofs.StayLemmas.{stays-suffix}
-use Rattle.tabled_text.specs.Cut.{last_of, missing_columns, IsCut}
 use Rattle.tabled_text.proofs.Bridge.{some_line}
 use Rattle.tabled_text.proofs.Each.{list_all-copies}
-use Rattle.tabled_text.specs.FramedLines.{is_no_feed}
 use Rattle.tabled_text.proofs.CountBound.{columns-count}
 use Rattle.tabled_text.proofs.Within.{Within, Within-followed, text_columns-within, add_last, lines_of-last, columns-filled}
 use Rattle.tabled_text.proofs.CutRoom.{missing-le}

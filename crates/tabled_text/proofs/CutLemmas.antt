@@ -1,18 +1,15 @@
 -- One more character at the end of a beginning.
-use Rattle.std.proofs.Common.{◌≡◌, ℕ, ◌+◌, ◌-◌, ◌<◌, ◌≤◌, Bool, true, false, cond, List, [], ◌∷◌}
-use Rattle.std.proofs.Common.{◌++◌, length, take, drop, refl, sym, ap, ◌∙◌, subst, arith, All}
-use Rattle.std.proofs.Common.{replicate, length-append, chars, ⊎_elim, ◌==◌, zero, suc}
-use Rattle.std.specs.List.{onto_first}
-use Rattle.std.specs.Str.{IsUtf8, IsCharBoundary}
+use Rattle.tabled_text.proofs.Names.{All, All-cons, All-head, All-nil, All-tail, Bool, IsCharBoundary, IsCharBoundary-at_seam, IsCut}
+use Rattle.tabled_text.proofs.Names.{IsLongestReached, IsParted, IsReached, IsScalar, IsUtf8, IsUtf8-append, IsUtf8-encode, IsUtf8-nil}
+use Rattle.tabled_text.proofs.Names.{List, [], and_parts, ap, append-nil, append_assoc, arith, cases_lt, char_count, chars, chars-append}
+use Rattle.tabled_text.proofs.Names.{chars-encodes, chars-nil, chars_past_char, cond, count_of, drop, drop_at, false, last_line, last_of}
+use Rattle.tabled_text.proofs.Names.{length, length-append, length-take-le, lines_of, missing_columns, ne_eqb, onto_first, refl, replicate}
+use Rattle.tabled_text.proofs.Names.{scalars-chars, subst, suc, sum_by_push, sym, take, take-append-le, take-take, take_at, true, zero, ℕ}
+use Rattle.tabled_text.proofs.Names.{⊎_elim, ◌++◌, ◌+◌, ◌-◌, ◌<◌, ◌==◌, ◌∙◌, ◌∷◌, ◌≡◌, ◌≤◌}
 use Rattle.std.specs.Prelude.{encode_utf8, encode_utf8_all}
-use Rattle.std.proofs.lemmas.List.Elements.{All-nil, All-cons, All-head, All-tail, All-push}
-use Rattle.std.proofs.lemmas.List.{append_assoc, append-nil, take_at, drop_at, take-append-le, length_push, take-take, length-take-le}
-use Rattle.std.proofs.lemmas.List.Sums.{sum_by_push}
-use Rattle.std.proofs.lemmas.Str.{IsUtf8-nil, chars-nil, chars-append, IsUtf8-append, chars_past_char, chars-encodes, IsUtf8-encode, scalars-chars, IsCharBoundary-at_seam}
-use Rattle.std.proofs.lemmas.Bool.{and_parts, ne_eqb, cases_lt}
-use Rattle.tabled_text.specs.Measure.{lines_of, count_of, char_count}
-use Rattle.tabled_text.specs.Cut.{last_of, last_line, IsReached, IsLongestReached, missing_columns, following, IsParted, IsCut, IsSplit}
-use Rattle.std.specs.Char.{IsScalar}
+use Rattle.std.proofs.lemmas.List.Elements.{All-push}
+use Rattle.std.proofs.lemmas.List.{length_push}
+use Rattle.tabled_text.specs.Cut.{following, IsSplit}
 use lib.Utf8.{scalar, scalars}
 
 abbrev onto_last : ℕ → List (List ℕ) → List (List ℕ)

@@ -1,8 +1,8 @@
 -- Of the beginnings of a text that are reached only one is the longest, so that it is cut in one way.
-use Rattle.std.proofs.Common.{◌≡◌, ℕ, ◌≤◌, List, ◌++◌, length, take, drop, replicate, refl, sym, ap, ◌∙◌, subst, arith, chars, encode_utf8_all, length-append}
-use Rattle.std.proofs.lemmas.List.{take_at, drop_at}
-use Rattle.std.proofs.lemmas.Str.{encodes-chars}
-use Rattle.tabled_text.specs.Cut.{IsCut, IsReached, IsLongestReached, IsParted, NeedsFill, missing_columns}
+use Rattle.tabled_text.proofs.Names.{IsCut, IsLongestReached, IsParted, IsReached, List, ap, arith, chars, drop, drop_at, encode_utf8_all}
+use Rattle.tabled_text.proofs.Names.{encodes-chars, length, length-append, missing_columns, refl, replicate, subst, sym, take, take_at, ℕ}
+use Rattle.tabled_text.proofs.Names.{◌++◌, ◌∙◌, ◌≡◌, ◌≤◌}
+use Rattle.tabled_text.specs.Cut.{NeedsFill}
 
 -- no other one is longer
 not_longer : (n : ℕ) (text front rest front' rest' : List ℕ) → IsLongestReached n text front rest → IsLongestReached n text front' rest'

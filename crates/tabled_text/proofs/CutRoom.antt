@@ -1,17 +1,9 @@
 -- Cut plain texts stay in their columns, and so does what follows them.
-use Rattle.std.proofs.Common.{◌≡◌, ℕ, ◌+◌, ◌-◌, ◌<◌, ◌≤◌, Bool, true, List, [], ◌∷◌, ◌++◌}
-use Rattle.std.proofs.Common.{length, refl, sym, ◌∙◌, subst, arith, All, sum_by, replicate, zero}
-use Rattle.std.proofs.Common.{suc, chars}
-use Rattle.std.specs.List.{list_all, join_with_byte}
-use Rattle.std.proofs.lemmas.List.{append_assoc, append-nil}
-use Rattle.std.proofs.lemmas.List.Splits.{join_with_byte-slice_split}
-use Rattle.std.proofs.lemmas.List.Elements.{All-head, All-tail}
-use Rattle.std.proofs.lemmas.List.Sums.{sum_by-cons}
-use Rattle.std.proofs.lemmas.Bool.{and_parts, and_from}
-use Rattle.tabled_text.specs.Measure.{lines_of, columns_of, char_columns, count_of}
-use Rattle.tabled_text.specs.Plain.{is_additive, is_additive_or_feed}
-use Rattle.tabled_text.specs.Room.{is_additive_text, stays}
-use Rattle.tabled_text.specs.Cut.{last_of, last_line, missing_columns, IsCut}
+use Rattle.tabled_text.proofs.Names.{All, All-head, All-tail, Bool, IsCut, List, [], and_from, and_parts, append-nil, append_assoc, arith}
+use Rattle.tabled_text.proofs.Names.{char_columns, chars, columns_of, count_of, is_additive, is_additive_or_feed, is_additive_text}
+use Rattle.tabled_text.proofs.Names.{join_with_byte, join_with_byte-slice_split, last_line, last_of, length, lines_of, list_all}
+use Rattle.tabled_text.proofs.Names.{missing_columns, refl, replicate, stays, subst, suc, sum_by, sum_by-cons, sym, true, zero, ℕ, ◌++◌}
+use Rattle.tabled_text.proofs.Names.{◌+◌, ◌-◌, ◌<◌, ◌∙◌, ◌∷◌, ◌≡◌, ◌≤◌}
 use Rattle.tabled_text.proofs.PlainLemmas.{columns_of-plain, count_of-plain}
 use Rattle.tabled_text.proofs.WrapRoom.{Lines, EachPlain, EachPlain-lines, plain_replacement, stays-line, stays-break, stays-nothing}
 use Rattle.tabled_text.proofs.Bridge.{some_line}

@@ -1,22 +1,14 @@
 -- A text of at most n bytes is cut to itself: no character counts more columns than it has bytes.
-use Rattle.std.proofs.Common.{◌≡◌, ℕ, ◌+◌, ◌≤◌, ◌<◌, false, ◌==◌, List, [], ◌∷◌, ◌++◌, append-nil, append_assoc, ap, arith, chars, encode_utf8, encode_utf8_all}
-use Rattle.std.proofs.Common.{inl, inr, length, length-append, refl, subst, sym, ◌∙◌, ⊎_elim}
-use Rattle.std.specs.Char.{len_utf8}
-use Rattle.std.specs.Str.{IsUtf8}
-use Rattle.std.proofs.lemmas.Bool.{cases_Bool, cases_lt, eqb-false, eqb-true}
-use Rattle.std.proofs.lemmas.Bool.Decides.{nat_tests}
-use Rattle.std.proofs.lemmas.List.Sums.{sum_by-cons}
-use Rattle.std.proofs.lemmas.Str.{chars-nil, encodes-chars, len_utf8_bounds, length-encode}
-use Rattle.unicode_width.specs.declared.kind.Kind.{Kind}
+use Rattle.tabled_text.proofs.Names.{IsCut, IsParted, IsReached, IsUtf8, Kind, List, [], alone, ap, arith, cases_Bool, cases_lt}
+use Rattle.tabled_text.proofs.Names.{char_columns, char_count, char_width, chars, chars-nil, count_of, encode_utf8, encode_utf8_all}
+use Rattle.tabled_text.proofs.Names.{encodes-chars, eqb-false, eqb-true, false, inl, inr, kind, last_line, len_utf8, len_utf8_bounds}
+use Rattle.tabled_text.proofs.Names.{length, length-append, length-encode, nat_tests, of_kind, refl, single, subst, sum_by-cons, sym}
+use Rattle.tabled_text.proofs.Names.{width_or_zero-le, ℕ, ⊎_elim, ◌++◌, ◌+◌, ◌<◌, ◌==◌, ◌∙◌, ◌∷◌, ◌≡◌, ◌≤◌}
+use Rattle.std.proofs.Common.{append-nil, append_assoc}
 use Rattle.unicode_width.specs.declared.kind.Kind.TheVariants as kinds
-use Rattle.unicode_width.specs.Kind.{kind}
-use Rattle.unicode_width.specs.Width.{alone, char_width, of_kind, single}
-use Rattle.unicode_width.proofs.Rules.{width_or_zero-le}
-use Rattle.tabled_text.specs.Cut.{IsCut, IsParted, IsReached, last_line}
-use Rattle.tabled_text.specs.Measure.{char_columns, char_count, count_of}
 use Rattle.tabled_text.proofs.CountBound.{count-some}
-use Rattle.tabled_text.proofs.CutLemmas.{IsCut-filled, IsReached-feed, IsReached-nil, IsReached-push, count_of-push}
-use Rattle.tabled_text.proofs.CutLemmas.{last_line-feed, last_line-push, longest_at_end}
+use Rattle.tabled_text.proofs.CutLemmas.{IsCut-filled, IsReached-feed, IsReached-nil, IsReached-push, count_of-push, last_line-feed}
+use Rattle.tabled_text.proofs.CutLemmas.{last_line-push, longest_at_end}
 
 -- only one character takes three columns, and it has three bytes
 single-two : (c : ℕ) → (c == 0x17D8) ≡ false → (single false c).0 ≤ 2

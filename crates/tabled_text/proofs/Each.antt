@@ -1,10 +1,7 @@
 -- What holds of each character of a line holds of each in its words and its units.
-use Rattle.std.proofs.Common.{◌≡◌, ℕ, Bool, true, false, cond, ◌==◌, nat_le, List, [], ◌∷◌, ◌++◌, sym, subst, refl, ⊎_elim, map, replicate, zero, suc}
-use Rattle.std.specs.Prelude.{⊤}
-use Rattle.std.specs.List.{list_all, slice_split, onto_first}
-use Rattle.std.proofs.lemmas.Bool.{and_parts, and_from, cases_Bool}
-use Rattle.tabled_text.specs.Measure.{columns_of}
-use Rattle.tabled_text.specs.Units.{TextUnit, unit_of_char, space, words_of, units_of_word, units_of_words, units}
+use Rattle.tabled_text.proofs.Names.{Bool, List, TextUnit, [], and_from, and_parts, cases_Bool, columns_of, cond, false, list_all, map}
+use Rattle.tabled_text.proofs.Names.{nat_le, onto_first, refl, replicate, slice_split, space, subst, suc, sym, true, unit_of_char, units}
+use Rattle.tabled_text.proofs.Names.{units_of_word, units_of_words, words_of, zero, ℕ, ⊎_elim, ⊤, ◌++◌, ◌==◌, ◌∷◌, ◌≡◌}
 
 -- each character of each line passes
 abbrev pub Each : (ℕ → Bool) → List (List ℕ) → Type 0

@@ -1,17 +1,10 @@
 -- Texts that begin or end apart, by bytes, and lines that are joined of them.
-use Rattle.std.proofs.Common.{◌≡◌, ℕ, ◌+◌, ◌<◌, ◌==◌, Bool, true, false, not, ◌&&◌, List, [], ◌∷◌, ◌++◌, chars, encode_utf8, refl, sym, ap, ◌∙◌, append_assoc, arith, subst}
-use Rattle.std.specs.List.{list_all}
-use Rattle.std.specs.Str.{IsUtf8}
-use Rattle.std.proofs.lemmas.Bool.{and_from, and_parts, or_left, or_right}
-use Rattle.std.proofs.lemmas.Bool.Decides.{nat_tests}
-use Rattle.std.proofs.lemmas.Str.{chars-append, chars-nil, IsUtf8-nil}
-use Rattle.std.proofs.lemmas.List.{append-nil}
-use Rattle.unicode_width.specs.Width.{str_width}
-use Rattle.tabled_text.specs.Measure.{line_columns, columns_of}
-use Rattle.tabled_text.specs.FramedLines.{is_no_feed, EndsApart, IsFrame, IsLine}
-use Rattle.unicode_width.proofs.Rules.{is_simple}
-use Rattle.tabled_text.specs.Plain.{is_listed_or_drawn, has_plain_width, is_additive, IsAdditiveColumn}
-use Rattle.tabled_text.specs.Separators.{is_keycap_base, is_separator, begins_with_selector, stands_before, begins_apart, ends_before}
+use Rattle.tabled_text.proofs.Names.{Bool, EndsApart, IsAdditiveColumn, IsFrame, IsLine, IsUtf8, IsUtf8-nil, List, [], and_from, and_parts}
+use Rattle.tabled_text.proofs.Names.{ap, append-nil, arith, begins_apart, begins_with_selector, chars, chars-append, chars-nil, columns_of}
+use Rattle.tabled_text.proofs.Names.{encode_utf8, ends_before, false, has_plain_width, is_additive, is_keycap_base, is_listed_or_drawn}
+use Rattle.tabled_text.proofs.Names.{is_no_feed, is_separator, is_simple, line_columns, list_all, nat_tests, not, or_left, or_right, refl}
+use Rattle.tabled_text.proofs.Names.{stands_before, str_width, subst, sym, true, ℕ, ◌&&◌, ◌++◌, ◌+◌, ◌<◌, ◌==◌, ◌∙◌, ◌∷◌, ◌≡◌}
+use Rattle.std.proofs.Common.{append_assoc}
 use Rattle.tabled_text.proofs.LineLaws.{chars-one, line-append, line-one}
 use Rattle.tabled_text.proofs.SeparatorLaws.{begins_apart-separators, ends_before-separators}
 

@@ -1,12 +1,11 @@
 -- A line whose characters count as many as its columns has only such beginnings. It is read from its end: the reading of the whole
 -- is followed by that of a beginning, which starts where the rest was read, and loses no column where the whole loses none.
-use Rattle.std.proofs.Common.{◌≡◌, ℕ, ◌+◌, ◌-◌, ◌<◌, ◌≤◌, false, List, [], ◌∷◌, ◌++◌, refl, sym, ap, ◌∙◌, arith, subst, take, drop, take-append-drop}
-use Rattle.std.proofs.lemmas.List.Sums.{sum_by-cons}
-use Rattle.unicode_width.specs.declared.state.State.{State}
-use Rattle.unicode_width.specs.Width.{plain, Reading, step, read_before, str_width}
-use Rattle.tabled_text.specs.Measure.{char_count, columns_of, count_of}
+use Rattle.tabled_text.proofs.Names.{List, Reading, State, [], ap, arith, char_count, columns_of, count_of, drop, false, plain, read_before}
+use Rattle.tabled_text.proofs.Names.{refl, step, str_width, subst, sum_by-cons, sym, take, ℕ, ◌++◌, ◌+◌, ◌-◌, ◌<◌, ◌∙◌, ◌∷◌, ◌≡◌, ◌≤◌}
+use Rattle.std.proofs.Common.{take-append-drop}
 use Rattle.tabled_text.proofs.CountBound.{slack, credit, Bounded-step, Bounded-read_before, flag-true}
-use Rattle.tabled_text.proofs.Beside.{same_state, plain_state, emoji_state, quote_state, flags_state, vowels_state, lost, even, Follows, Goes}
+use Rattle.tabled_text.proofs.Beside.{same_state, plain_state, emoji_state, quote_state, flags_state, vowels_state, lost, even, Follows}
+use Rattle.tabled_text.proofs.Beside.{Goes}
 use Rattle.tabled_text.proofs.SameSteps.{}
 use Rattle.tabled_text.proofs.OwnSteps.{both-step}
 

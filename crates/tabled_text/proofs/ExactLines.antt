@@ -1,21 +1,15 @@
 -- Texts of one line whose characters count as many as its columns: where they find room, they aren't cut, and else they are cut to the
 -- longest beginning that does.
-use Rattle.std.proofs.Common.{◌≡◌, ℕ, zero, suc, ◌≤◌, true, List, [], ◌∷◌, ◌++◌, length, take, map, replicate, chars, refl, sym, ◌∙◌, ap, subst, arith, append-nil, encode_utf8_all}
-use Rattle.std.specs.List.{list_all, slice_index_or}
-use Rattle.std.specs.Str.{IsUtf8}
-use Rattle.std.proofs.lemmas.Bool.{and_from, and_parts}
-use Rattle.std.proofs.lemmas.List.{take_all}
-use Rattle.std.proofs.lemmas.Str.{encodes-chars}
-use Rattle.tabled_text.specs.Cut.{IsCut, IsReached, missing_columns}
-use Rattle.tabled_text.specs.Longest.{IsLongestCut}
-use Rattle.tabled_text.specs.Measure.{columns_of, count_of, greatest, line_columns, lines_of, text_columns}
-use Rattle.tabled_text.specs.Plain.{IsAdditive, is_additive}
+use Rattle.tabled_text.proofs.Names.{IsAdditive, IsCut, IsLongestCut, IsReached, IsUtf8, List, [], and_from, and_parts, ap, arith, chars}
+use Rattle.tabled_text.proofs.Names.{columns_of, count_of, encode_utf8_all, encodes-chars, greatest, is_additive, is_no_feed, length}
+use Rattle.tabled_text.proofs.Names.{line_columns, lines_of, list_all, map, missing_columns, refl, replicate, slice_index_or, subst, suc}
+use Rattle.tabled_text.proofs.Names.{sym, take, take_all, text_columns, true, zero, ℕ, ◌++◌, ◌∙◌, ◌∷◌, ◌≡◌, ◌≤◌}
+use Rattle.std.proofs.Common.{append-nil}
 use Rattle.tabled_text.proofs.CutWhole.{IsReached-counted}
 use Rattle.tabled_text.proofs.LongestLemmas.{longest_counted, no_rest}
 use Rattle.tabled_text.proofs.PlainLemmas.{columns_of-plain, count_of-plain}
 use Rattle.tabled_text.proofs.PlainLines.{plain_line-each, text_columns-plain_line}
 use Rattle.tabled_text.specs.Exact.{IsExactLine}
-use Rattle.tabled_text.specs.FramedLines.{is_no_feed}
 use Rattle.tabled_text.proofs.ExactBeginnings.{exact-take}
 use Rattle.tabled_text.proofs.LineLaws.{line-each}
 use Rattle.tabled_text.proofs.Within.{lines_of-feedless}

@@ -1,15 +1,7 @@
 -- The fullest breaking: it has the fewest groups, and is the only one.
-use Rattle.std.proofs.Common.{◌≡◌, ℕ, ◌+◌, ◌<◌, ◌≤◌, Bool, List, [], ◌∷◌, ◌++◌, length, refl, sym}
-use Rattle.std.proofs.Common.{ap, ◌∙◌, subst, arith, All, sum_by, length-append, ⊎_elim, ◌⊎◌, inl}
-use Rattle.std.proofs.Common.{inr}
-use Rattle.std.specs.List.{flat_map, AllZip}
-use Rattle.std.proofs.lemmas.List.{append_assoc}
-use Rattle.std.proofs.lemmas.List.Sums.{sum_by-append, sum_by-cons}
-use Rattle.std.proofs.lemmas.List.Elements.{All-head, All-tail}
-use Rattle.std.proofs.lemmas.Bool.Decides.{nat_tests}
-use Rattle.tabled_text.specs.Units.{TextUnit, width_of, units}
-use Rattle.tabled_text.specs.Wrapping.{needed, AreFullest, IsFullest}
-use Rattle.tabled_text.specs.Breaking.{IsBreaking}
+use Rattle.tabled_text.proofs.Names.{All, All-head, All-tail, AllZip, AreFullest, Bool, IsBreaking, IsFullest, List, TextUnit, [], ap}
+use Rattle.tabled_text.proofs.Names.{append_assoc, arith, flat_map, inl, inr, length, length-append, nat_tests, needed, refl, subst, sum_by}
+use Rattle.tabled_text.proofs.Names.{sum_by-append, sum_by-cons, sym, units, width_of, ℕ, ⊎_elim, ◌++◌, ◌+◌, ◌<◌, ◌∙◌, ◌∷◌, ◌≡◌, ◌≤◌, ◌⊎◌}
 
 needed-le : (n : ℕ) (p : TextUnit) → 0 < n → needed n p ≤ p.width
 needed-le n p h = grind (arith, nat_tests)

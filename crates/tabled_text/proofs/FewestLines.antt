@@ -1,19 +1,9 @@
 -- The lines of a wrapped text are the groups of its breaking, and no breaking has fewer.
-use Rattle.std.proofs.Common.{◌≡◌, ℕ, ◌+◌, ◌-◌, ◌<◌, ◌≤◌, Bool, true, false, cond, ◌==◌, nat_le}
-use Rattle.std.proofs.Common.{List, [], ◌∷◌, ◌++◌, chars, length, refl, sym, ap, ◌∙◌, subst, arith}
-use Rattle.std.proofs.Common.{sum_by, replicate, ⊎_elim, suc}
-use Rattle.std.specs.Prelude.{MatchBool}
-use Rattle.std.specs.List.{list_all, onto_first, flat_map, AllZip}
-use Rattle.std.specs.Str.{IsUtf8}
-use Rattle.std.proofs.lemmas.List.{append_assoc, append-nil, length-map}
-use Rattle.std.proofs.lemmas.List.Sums.{sum_by-cons}
-use Rattle.std.proofs.lemmas.Bool.{and_parts, cases_Bool}
-use Rattle.std.proofs.lemmas.Bool.Decides.{nat_tests}
-use Rattle.tabled_text.specs.Measure.{lines_of}
-use Rattle.tabled_text.specs.Cut.{IsCut, missing_columns}
-use Rattle.tabled_text.specs.Units.{TextUnit, units}
-use Rattle.tabled_text.specs.Breaking.{IsGrouping, HasFewestLines}
-use Rattle.tabled_text.specs.Wrapping.{shown, text_from, text_of_groups, text_of_lines, IsFullest, IsFullestText, IsWrapped}
+use Rattle.tabled_text.proofs.Names.{AllZip, Bool, HasFewestLines, IsCut, IsFullest, IsFullestText, IsGrouping, IsUtf8, IsWrapped, List}
+use Rattle.tabled_text.proofs.Names.{MatchBool, TextUnit, [], and_parts, ap, append-nil, append_assoc, arith, cases_Bool, chars, cond}
+use Rattle.tabled_text.proofs.Names.{false, flat_map, length, length-map, lines_of, list_all, missing_columns, nat_le, nat_tests}
+use Rattle.tabled_text.proofs.Names.{onto_first, refl, replicate, shown, subst, suc, sum_by, sum_by-cons, sym, text_from, text_of_groups}
+use Rattle.tabled_text.proofs.Names.{text_of_lines, true, units, ℕ, ⊎_elim, ◌++◌, ◌+◌, ◌-◌, ◌<◌, ◌==◌, ◌∙◌, ◌∷◌, ◌≡◌, ◌≤◌}
 use Rattle.tabled_text.proofs.Bridge.{lines_of-chars, some_line}
 use Rattle.tabled_text.proofs.Each.{Each, Each-lines, EachUnit, EachUnit-parts, EachUnit-units, list_all-copies}
 use Rattle.tabled_text.proofs.FewestGroups.{fewest_lines}

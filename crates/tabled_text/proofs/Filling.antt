@@ -1,17 +1,9 @@
 -- The walk that adds unit to unit, as a function, and that it gives the fullest breaking.
-use Rattle.std.proofs.Common.{◌≡◌, ℕ, ◌+◌, ◌<◌, ◌≤◌, Bool, true, false, cond, List, [], ◌∷◌, ◌++◌}
-use Rattle.std.proofs.Common.{length, refl, sym, ap, ◌∙◌, subst, arith, All, length-append, ⊎_elim}
-use Rattle.std.proofs.Common.{nat_le}
-use Rattle.std.specs.List.{flat_map}
-use Rattle.std.proofs.lemmas.List.{append_assoc, append-nil}
-use Rattle.std.proofs.lemmas.List.Sums.{sum_by-cons, sum_by_push}
-use Rattle.std.proofs.lemmas.List.Elements.{All-head, All-tail, All-cons, All-nil}
-use Rattle.std.proofs.lemmas.Bool.{leb-true, leb-false, cases_Bool, le-leb, lt-leb}
-use Rattle.std.proofs.lemmas.Bool.Decides.{nat_tests}
-use Rattle.tabled_text.specs.Walk.{append_text, append_used, append_all, used_after}
-use Rattle.tabled_text.specs.Units.{TextUnit, width_of}
-use Rattle.tabled_text.specs.Wrapping.{needed, Fits, AreFullest, IsFullest, shown, text_from, text_of_groups}
-use Rattle.tabled_text.specs.Breaking.{IsGrouping}
+use Rattle.tabled_text.proofs.Names.{All, All-cons, All-head, All-nil, All-tail, AreFullest, Bool, Fits, IsFullest, IsGrouping, List}
+use Rattle.tabled_text.proofs.Names.{TextUnit, [], ap, append-nil, append_all, append_assoc, append_text, append_used, arith, cases_Bool}
+use Rattle.tabled_text.proofs.Names.{cond, false, flat_map, le-leb, leb-false, leb-true, length, length-append, lt-leb, nat_le, nat_tests}
+use Rattle.tabled_text.proofs.Names.{needed, refl, shown, subst, sum_by-cons, sum_by_push, sym, text_from, text_of_groups, true, used_after}
+use Rattle.tabled_text.proofs.Names.{width_of, ℕ, ⊎_elim, ◌++◌, ◌+◌, ◌<◌, ◌∙◌, ◌∷◌, ◌≡◌, ◌≤◌}
 
 pub append_all-append : (n used : ℕ) (xs ys : List TextUnit) → append_all n used (xs ++ ys) ≡ append_all n used xs ++ append_all n (used_after n used xs) ys
 append_all-append n used [] ys = refl

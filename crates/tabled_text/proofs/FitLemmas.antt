@@ -1,18 +1,12 @@
 -- Whether each unit of a text is at most n wide, word by word and character by character.
-use Rattle.std.proofs.Common.{◌≡◌, ℕ, ◌<◌, ◌≤◌, ◌↔◌, Bool, true, false, cond, ◌&&◌, ◌||◌, ◌==◌}
-use Rattle.std.proofs.Common.{nat_le, List, [], ◌∷◌, chars, sym, ap, ◌∙◌, refl, map, All, arith}
-use Rattle.std.specs.List.{list_all}
-use Rattle.std.proofs.lemmas.Bool.{and_parts, and_from, leb-true, le-leb, or_right}
-use Rattle.std.proofs.lemmas.List.Elements.{All-head, All-tail, All-cons, All-nil}
-use Rattle.std.proofs.lemmas.List.Folds.{list_all-append}
+use Rattle.tabled_text.proofs.Names.{All, All-cons, All-head, All-nil, All-tail, Bool, EachUnitFits, List, TextUnit, [], and_from}
+use Rattle.tabled_text.proofs.Names.{and_parts, ap, arith, char_columns, char_count, chars, columns_of, cond, false, fits_line, fits_word}
+use Rattle.tabled_text.proofs.Names.{le-leb, leb-true, lines_of, list_all, list_all-append, map, nat_le, or_right, refl, space, sym, true}
+use Rattle.tabled_text.proofs.Names.{unit_of_char, units, units_of_word, units_of_words, width_or_zero-le, words_of, ℕ, ◌&&◌, ◌<◌, ◌==◌}
+use Rattle.tabled_text.proofs.Names.{◌||◌, ◌↔◌, ◌∙◌, ◌∷◌, ◌≡◌, ◌≤◌}
 use Rattle.std.proofs.Math.Bool.{and-true}
-use Rattle.unicode_width.proofs.Rules.{width_or_zero-le}
-use Rattle.tabled_text.specs.Breaking.{EachUnitFits}
-use Rattle.tabled_text.specs.Measure.{lines_of, columns_of, char_columns, char_count}
 use Rattle.tabled_text.specs.OldText.{all_chars_fit}
-use Rattle.tabled_text.specs.Units.{TextUnit, unit_of_char, space, words_of, units_of_word, units_of_words, units}
 use Rattle.tabled_text.proofs.Each.{Each, Each-split}
-use Rattle.tabled_text.specs.Walk.{fits_word, fits_line}
 
 abbrev pub narrow : ℕ → List TextUnit → Bool
 narrow n us = list_all (λ u. nat_le u.width n) us

@@ -1,14 +1,7 @@
 -- Texts of any characters that take at most some columns: what is cut, wrapped, joined and filled.
-use Rattle.std.proofs.Common.{ℕ, ◌+◌, ◌≤◌, Bool, List, [], ◌∷◌, ◌++◌, All, subst, sym, sum_by, replicate, encode_utf8_all, chars, true, ◌≡◌, lit<}
-use Rattle.std.specs.List.{join_with_byte}
-use Rattle.std.specs.Str.{IsUtf8}
-use Rattle.std.proofs.lemmas.List.Elements.{All-head, All-tail}
-use Rattle.std.proofs.lemmas.Str.{IsUtf8-append, IsUtf8-nil}
-use Rattle.tabled_text.specs.Cut.{IsCut}
-use Rattle.tabled_text.specs.Measure.{line_columns, lines_of, text_columns}
-use Rattle.tabled_text.specs.Plain.{IsAdditive, IsAdditiveColumn}
-use Rattle.tabled_text.specs.Room.{stays}
-use Rattle.tabled_text.specs.Wrapping.{IsWrapped}
+use Rattle.tabled_text.proofs.Names.{All, All-head, All-tail, Bool, IsAdditive, IsAdditiveColumn, IsCut, IsUtf8, IsUtf8-append, IsUtf8-nil}
+use Rattle.tabled_text.proofs.Names.{IsWrapped, List, [], chars, encode_utf8_all, join_with_byte, line_columns, lines_of, lit<, replicate}
+use Rattle.tabled_text.proofs.Names.{stays, subst, sum_by, sym, text_columns, true, ℕ, ◌++◌, ◌+◌, ◌∷◌, ◌≡◌, ◌≤◌}
 use Rattle.tabled_text.proofs.Bridge.{greatest-le}
 use Rattle.tabled_text.proofs.JoinLemmas.{text_columns-join}
 use Rattle.tabled_text.proofs.StayLemmas.{StaysWithin-filled, StaysWithin-none, text_columns-stays}

@@ -1,13 +1,8 @@
 -- The lines and the columns of joined texts.
-use Rattle.std.proofs.Common.{◌≡◌, ℕ, ◌+◌, ◌<◌, Bool, true, false, cond, ◌==◌, List, [], ◌∷◌, ◌++◌}
-use Rattle.std.proofs.Common.{length, map, max, refl, ap, ◌∙◌, arith, All, sum_by}
-use Rattle.std.specs.List.{onto_first, join_with_byte}
+use Rattle.tabled_text.proofs.Names.{All, All-head, All-tail, Bool, List, [], ap, arith, chars-nil, cond, false, greatest, join_with_byte}
+use Rattle.tabled_text.proofs.Names.{length, line_columns, lines_of, map, max, onto_first, refl, str_width, sum_by, sum_by-cons}
+use Rattle.tabled_text.proofs.Names.{text_columns, true, ℕ, ◌++◌, ◌+◌, ◌<◌, ◌==◌, ◌∙◌, ◌∷◌, ◌≡◌}
 use Rattle.std.proofs.lemmas.List.{length-append}
-use Rattle.std.proofs.lemmas.List.Elements.{All-head, All-tail}
-use Rattle.std.proofs.lemmas.List.Sums.{sum_by-cons}
-use Rattle.std.proofs.lemmas.Str.{chars-nil}
-use Rattle.unicode_width.specs.Width.{str_width}
-use Rattle.tabled_text.specs.Measure.{lines_of, line_columns, text_columns, greatest}
 use Rattle.tabled_text.proofs.Bridge.{some_line, lines_of-one}
 
 pub onto_first-append : (c : ℕ) (ls ms : List (List ℕ)) → 0 < length ls → onto_first c (ls ++ ms) ≡ onto_first c ls ++ ms

@@ -1,27 +1,16 @@
 -- What steps do that lose no column of the count, and what is known of single characters.
-use Rattle.std.proofs.Common.{◌≡◌, ℕ, ◌+◌, Bool, true, false, cond, not, ◌==◌, ◌&&◌, ◌||◌, [], ◌∷◌, Option, Some, None, refl, ap, ◌∙◌, arith, eqb-true, subst, max, ⊎_elim}
-use Rattle.std.proofs.lemmas.Bool.{or_cases}
-use Rattle.std.proofs.lemmas.Bool.Decides.{nat_tests}
-use Rattle.ucd_bidi.specs.JoiningType.{joining_type, joining_type_eq}
-use Rattle.ucd_bidi.specs.declared.JoiningType.TheVariants.{Transparent}
-use Rattle.ucd_emoji.specs.Binary.{is_emoji_variation_base}
+use Rattle.tabled_text.proofs.Names.{After, Bool, Change, Kind, Less, None, One, Option, Same, Some, State, Three, Transparent, [], alone}
+use Rattle.tabled_text.proofs.Names.{ap, arith, before, before_alef, cond, false, in_ranges, is_emoji_variation_base, is_indicator, is_lam}
+use Rattle.tabled_text.proofs.Names.{is_quote, joining_type, joining_type_eq, joins, kind, kind_stepped, max, nat_tests, not, of_kind}
+use Rattle.tabled_text.proofs.Names.{of_ranges, or_cases, plain, refl, single, subst, tables, true, unicode_width, zip_stepped, ℕ, ⊎_elim}
+use Rattle.tabled_text.proofs.Names.{◌&&◌, ◌+◌, ◌==◌, ◌||◌, ◌∙◌, ◌∷◌, ◌≡◌}
+use Rattle.std.proofs.Common.{eqb-true}
 use Rattle.ucd_emoji.proofs.BinaryLemmas.{is_emoji_variation_base_stepped}
-use Rattle.ucd_table.specs.Rows.{in_ranges}
-use Rattle.ucd_table.proofs.Computing.{tables}
 use Rattle.ucd_table.proofs.Facts.{always, ends_by, Stepped-everywhere}
-use Rattle.ucd_table.proofs.Stepped.{Stepped, of_ranges, zip_stepped}
+use Rattle.ucd_table.proofs.Stepped.{Stepped}
 use Rattle.ucd_table.proofs.StepsLemmas.{rises_from}
-use Rattle.unicode_width.specs.declared.kind.Kind.{Kind}
 use Rattle.unicode_width.specs.declared.kind.Kind.TheVariants as kinds
-use Rattle.unicode_width.specs.declared.state.After.{After}
 use Rattle.unicode_width.specs.declared.state.After.TheVariants as states
-use Rattle.unicode_width.specs.declared.state.State.{State}
-use Rattle.unicode_width.specs.declared.state.Change.{Change}
-use Rattle.unicode_width.specs.declared.state.Change.TheVariants.{Less, Same, One, Three}
-use Rattle.unicode_width.specs.Kind.{kind}
-use Rattle.unicode_width.specs.Width.{before, plain, single, of_kind, alone, before_alef, joins, is_lam, is_quote, is_indicator}
-use Rattle.unicode_width.proofs.Computing.{unicode_width}
-use Rattle.unicode_width.proofs.KindLemmas.{kind_stepped}
 use Rattle.tabled_text.proofs.CountBound.{slack_after, slack}
 
 -- ---- states that are reached where no column is lost

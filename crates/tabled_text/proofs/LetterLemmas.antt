@@ -1,24 +1,18 @@
 -- What letters take, by the tables of `unicode_width`.
-use Rattle.std.proofs.Common.{◌≡◌, max, ℕ, ◌+◌, ◌-◌, ◌*◌, ◌/◌, ◌≤◌, ◌<◌, Bool, true, false, cond, not, ◌||◌, ◌&&◌, nat_le, nat_lt, List, [], ◌∷◌, ◌++◌, length, length-append, drop, chars, encode_utf8_all, get_or, refl, subst, inl, inr, ap, sym, ◌∙◌, arith, lit<, ⊎_elim}
-use Rattle.std.specs.Char.{encode_utf8, len_utf8}
-use Rattle.std.specs.Str.{IsCharBoundary, IsUtf8}
-use Rattle.std.proofs.lemmas.List.{drop_at}
-use Rattle.std.proofs.lemmas.Str.{IsCharBoundary-at_seam, IsUtf8-past_char, chars_past_char, encode_ascii, encodes-chars, length-encode, len_utf8_ascii, len_utf8_bounds}
-use Rattle.std.specs.Int.{is_in_range}
-use Rattle.std.proofs.lemmas.Bool.{and_from, and_parts, cases_lt, le-leb, leb-true, lt-ltb, or_cases, or_left, or_right}
-use Rattle.std.proofs.lemmas.Bool.Decides.{nat_tests}
-use Rattle.ucd_table.specs.Rows.{Range, in_ranges}
-use Rattle.ucd_table.proofs.Computing.{tables}
+use Rattle.tabled_text.proofs.Names.{BeginsBy, Bool, IsCharBoundary, IsCharBoundary-at_seam, IsLetter, IsUtf8, IsUtf8-past_char, Kind, List}
+use Rattle.tabled_text.proofs.Names.{Range, [], alone, and_from, and_parts, ap, arith, cases_lt, char_columns, char_count, char_width}
+use Rattle.tabled_text.proofs.Names.{chars, chars_past_char, cond, drop, drop_at, encode_ascii, encode_utf8_all, encodes-chars, false}
+use Rattle.tabled_text.proofs.Names.{get_or, in_ranges, inl, inr, is_in_range, is_narrow_lead, is_simple, is_simple_kind, is_wide_lead}
+use Rattle.tabled_text.proofs.Names.{kind, kind_stepped, le-leb, leb-true, len_utf8, len_utf8_bounds, length, length-append, length-encode}
+use Rattle.tabled_text.proofs.Names.{lit<, lt-ltb, max, nat_le, nat_lt, nat_tests, not, of_kind, of_ranges, or_cases, or_left, or_right}
+use Rattle.tabled_text.proofs.Names.{refl, subst, sym, tables, true, zip_stepped, ℕ, ⊎_elim, ◌&&◌, ◌*◌, ◌++◌, ◌+◌, ◌-◌, ◌<◌, ◌||◌, ◌∙◌, ◌∷◌}
+use Rattle.tabled_text.proofs.Names.{◌≡◌, ◌≤◌}
+use Rattle.std.proofs.Common.{◌/◌}
+use Rattle.std.specs.Char.{encode_utf8}
+use Rattle.std.proofs.lemmas.Str.{len_utf8_ascii}
 use Rattle.ucd_table.proofs.Facts.{Stepped-always}
-use Rattle.ucd_table.proofs.Stepped.{of_ranges, zip_stepped}
-use Rattle.unicode_width.specs.declared.kind.Kind.{Kind}
 use Rattle.unicode_width.specs.declared.kind.Kind.TheVariants.{Narrow, Wide, Ambiguous}
-use Rattle.unicode_width.specs.Kind.{kind}
-use Rattle.unicode_width.specs.Width.{alone, char_width, of_kind}
-use Rattle.unicode_width.proofs.KindLemmas.{kind_stepped}
-use Rattle.unicode_width.proofs.Rules.{is_simple, is_simple_kind}
-use Rattle.tabled_text.specs.Letters.{BeginsBy, IsLetter, is_narrow_lead, is_narrow_letter, is_wide_lead, is_wide_letter, lead_byte}
-use Rattle.tabled_text.specs.Measure.{char_columns, char_count}
+use Rattle.tabled_text.specs.Letters.{is_narrow_letter, is_wide_letter, lead_byte}
 
 is_narrow : Kind → Bool
 is_narrow Narrow = true

@@ -25,6 +25,7 @@ pub mod LineLaws
 pub mod Listed
 pub mod LongestLemmas
 pub mod Missed
+pub mod Names
 pub mod OwnBreaking
 pub mod OwnSteps
 pub mod Pieces

@@ -1,25 +1,15 @@
 -- Lines of any characters, by bytes: what is joined, and what stands in frames.
-use Rattle.std.proofs.Common.{◌≡◌, ℕ, ◌+◌, ◌<◌, true, not, ◌&&◌, ◌||◌, ◌==◌, List, []}
-use Rattle.std.proofs.Common.{◌∷◌, ◌++◌, chars, length, map, encode_utf8, refl, sym, ap, ◌∙◌, arith}
-use Rattle.std.proofs.Common.{subst, All, sum_by}
-use Rattle.std.specs.List.{list_all, slice_index_or, flat_map}
-use Rattle.std.specs.Str.{IsUtf8}
-use Rattle.std.proofs.lemmas.Bool.{and_parts, and_from, or_left, or_right}
-use Rattle.std.proofs.lemmas.List.{get_or-map, length-map, append-nil, append_assoc}
-use Rattle.std.proofs.lemmas.List.Elements.{All-head, All-tail}
-use Rattle.std.proofs.lemmas.List.Folds.{list_all-append}
-use Rattle.std.proofs.lemmas.List.Sums.{sum_by-cons}
-use Rattle.std.proofs.Math.Utf8.{scalar}
-use Rattle.std.proofs.lemmas.Str.{IsUtf8-append, chars-append, chars-encodes}
+use Rattle.tabled_text.proofs.Names.{All, All-head, All-tail, EndsApart, IsAdditiveColumn, IsFrame, IsLine, IsSeparatorColumn, IsUtf8}
+use Rattle.tabled_text.proofs.Names.{IsUtf8-append, List, [], and_from, and_parts, ap, append-nil, append_assoc, arith, begins_apart, chars}
+use Rattle.tabled_text.proofs.Names.{chars-append, chars-encodes, columns_of, encode_utf8, ends_before, flat_map, get_or-map}
+use Rattle.tabled_text.proofs.Names.{has_plain_width, is_additive, is_keycap_base, is_listed_or_drawn, is_no_feed, is_separator, is_simple}
+use Rattle.tabled_text.proofs.Names.{length, length-map, line_columns, lines_of, list_all, list_all-append, map, meet, not, or_left}
+use Rattle.tabled_text.proofs.Names.{or_right, refl, scalar, slice_index_or, subst, sum_by, sum_by-cons, sym, true, ℕ, ◌&&◌, ◌++◌, ◌+◌, ◌<◌}
+use Rattle.tabled_text.proofs.Names.{◌==◌, ◌||◌, ◌∙◌, ◌∷◌, ◌≡◌}
 use Rattle.std.proofs.Math.Bool.{or-not_self}
-use Rattle.unicode_width.proofs.Rules.{is_simple}
-use Rattle.tabled_text.specs.Measure.{lines_of, line_columns, columns_of}
-use Rattle.tabled_text.specs.Plain.{is_listed_or_drawn, has_plain_width, is_additive, IsAdditiveColumn}
 use Rattle.tabled_text.proofs.Bridge.{each_in_lines, lines_of-chars, utf8_lines}
 use Rattle.tabled_text.proofs.PlainLines.{plain_line-one, scalar-listed}
 use Rattle.tabled_text.proofs.WrapRoom.{not_break}
-use Rattle.tabled_text.specs.FramedLines.{is_no_feed, EndsApart, IsLine, IsFrame, IsSeparatorColumn}
-use Rattle.tabled_text.specs.Separators.{is_keycap_base, is_separator, begins_apart, ends_before, meet}
 use Rattle.tabled_text.proofs.SeparatorLaws.{columns-meet, begins_apart-separators, ends_before-separators}
 
 -- the same with its columns written otherwise

@@ -1,8 +1,6 @@
 -- The listed characters by their ranges: what holds of each range holds of each listed character.
-use Rattle.std.proofs.Common.{◌≡◌, ℕ, ◌<◌, true, refl, sym, subst, ⊎_elim, lit<}
-use Rattle.std.proofs.lemmas.Bool.{or_cases, eqb-true}
-use Rattle.std.specs.Int.{is_in_range}
-use Rattle.tabled_text.specs.Plain.{is_listed, is_drawn, is_listed_or_drawn}
+use Rattle.tabled_text.proofs.Names.{eqb-true, is_drawn, is_in_range, is_listed, is_listed_or_drawn, lit<, or_cases, refl, subst, sym, true}
+use Rattle.tabled_text.proofs.Names.{ℕ, ⊎_elim, ◌<◌, ◌≡◌}
 
 -- a fact of each range above ASCII
 pub record EachRange (Q : ℕ → ℕ → Type 0) : Type 0 where

@@ -1,17 +1,11 @@
 -- A cut plain line is its longest beginning that finds room.
-use Rattle.std.proofs.Common.{◌++◌, length-append, encode_utf8_all, replicate, append-nil, IsUtf8}
-use Rattle.std.proofs.Common.{◌≡◌, ℕ, ◌<◌, ◌≤◌, true, List, [], ◌∷◌, length, take, refl, sym, ap}
-use Rattle.std.proofs.Common.{◌∙◌, subst, arith, All, zero, suc, min, length-take, chars}
-use Rattle.std.specs.List.{list_all}
-use Rattle.std.proofs.lemmas.List.{take-take, take-append-le}
-use Rattle.std.proofs.lemmas.List.Elements.{All-head, All-cons, All-nil}
-use Rattle.std.proofs.lemmas.List.Sums.{sum_by-cons}
-use Rattle.std.proofs.lemmas.Bool.{and_parts, and_from}
-use Rattle.std.proofs.lemmas.Str.{encodes-chars}
-use Rattle.tabled_text.specs.Measure.{columns_of, count_of, char_count, lines_of}
-use Rattle.tabled_text.specs.Plain.{is_additive}
-use Rattle.tabled_text.specs.Cut.{last_of, last_line, IsLongestReached, IsCut, missing_columns}
-use Rattle.tabled_text.specs.Longest.{IsLongestFitting, IsLongestCut}
+use Rattle.tabled_text.proofs.Names.{All, All-cons, All-head, All-nil, IsCut, IsLongestCut, IsLongestReached, List, [], and_from, and_parts}
+use Rattle.tabled_text.proofs.Names.{ap, arith, char_count, chars, columns_of, count_of, encode_utf8_all, encodes-chars, is_additive}
+use Rattle.tabled_text.proofs.Names.{last_line, last_of, length, length-append, lines_of, list_all, min, missing_columns, refl, replicate}
+use Rattle.tabled_text.proofs.Names.{subst, suc, sum_by-cons, sym, take, take-append-le, take-take, true, zero, ℕ, ◌++◌, ◌<◌, ◌∙◌, ◌∷◌, ◌≡◌}
+use Rattle.tabled_text.proofs.Names.{◌≤◌}
+use Rattle.std.proofs.Common.{append-nil, IsUtf8, length-take}
+use Rattle.tabled_text.specs.Longest.{IsLongestFitting}
 use Rattle.tabled_text.proofs.PlainLemmas.{columns_of-plain, count_of-plain}
 use Rattle.tabled_text.proofs.PlainLines.{one_line}
 

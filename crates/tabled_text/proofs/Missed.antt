@@ -1,20 +1,15 @@
 -- Characters that the tables of special sequences do not have.
-use Rattle.std.proofs.Common.{◌≡◌, ℕ, true, false, nat_le, ◌||◌, refl, ap, arith, ⊎_elim}
-use Rattle.std.proofs.lemmas.Bool.{and_parts, or_cases, leb-true}
-use Rattle.std.proofs.lemmas.Bool.Decides.{nat_tests}
-use Rattle.std.specs.Int.{is_in_range}
-use Rattle.ucd_bidi.specs.JoiningGroup.{joining_group, joining_group_eq}
-use Rattle.ucd_bidi.specs.JoiningGroupRows.{joining_group_rows}
-use Rattle.ucd_bidi.specs.declared.JoiningGroup.TheVariants.{NoJoiningGroup, Lam}
+use Rattle.tabled_text.proofs.Names.{NoJoiningGroup, and_parts, ap, arith, false, is_emoji_variation_base, is_in_range, is_keycap_base}
+use Rattle.tabled_text.proofs.Names.{is_lam, is_listed_or_drawn, joining_group, joining_group_rows, leb-true, nat_le, nat_tests, or_cases}
+use Rattle.tabled_text.proofs.Names.{refl, true, ℕ, ⊎_elim, ◌||◌, ◌≡◌}
+use Rattle.ucd_bidi.specs.JoiningGroup.{joining_group_eq}
+use Rattle.ucd_bidi.specs.declared.JoiningGroup.TheVariants.{Lam}
 use Rattle.ucd_derived.specs.Binary.{is_default_ignorable_code_point}
 use Rattle.ucd_derived.specs.DefaultIgnorableCodePointRanges.{default_ignorable_code_point_ranges}
-use Rattle.ucd_emoji.specs.Binary.{is_emoji_variation_base, is_emoji_modifier_base}
+use Rattle.ucd_emoji.specs.Binary.{is_emoji_modifier_base}
 use Rattle.ucd_emoji.specs.Ranges.{emoji_variation_base_ranges, emoji_modifier_base_ranges}
-use Rattle.unicode_width.specs.Width.{is_lam}
-use Rattle.tabled_text.specs.Plain.{is_listed_or_drawn}
 use Rattle.tabled_text.proofs.Listed.{EachRange, listed_or_drawn}
 use Rattle.tabled_text.proofs.Tables.{in_ranges-missed, misses, misses_rows, value_in-missed}
-use Rattle.tabled_text.specs.Separators.{is_keycap_base}
 
 -- ---- a character that joins nothing by the tables
 

@@ -1,19 +1,12 @@
 -- Where each unit finds room, a wrapped text is the text of a breaking, and so the old one with line feeds put in.
-use Rattle.std.proofs.Common.{◌≡◌, ℕ, ◌+◌, ◌-◌, ◌<◌, ◌≤◌, Bool, true, false, cond, ◌==◌, nat_le}
-use Rattle.std.proofs.Common.{List, [], ◌∷◌, ◌++◌, refl, sym, ap, ◌∙◌, subst, arith, replicate, map}
-use Rattle.std.proofs.Common.{chars, All}
-use Rattle.std.specs.Prelude.{MatchBool, ⊤}
-use Rattle.std.specs.List.{flat_map, join_with_byte, AllZip}
-use Rattle.std.proofs.lemmas.List.{append-nil}
+use Rattle.tabled_text.proofs.Names.{All, All-cons, All-head, All-nil, All-tail, AllZip, AreFullest, Bool, EachUnitFits, Fits, IsBreaking}
+use Rattle.tabled_text.proofs.Names.{IsFullest, IsFullestText, IsLeastBreaking, IsWrapped, List, MatchBool, TextUnit, [], ap, append-nil}
+use Rattle.tabled_text.proofs.Names.{arith, chars, columns_of, cond, false, flat_map, join_with_byte, join_with_byte-slice_split, le-leb}
+use Rattle.tabled_text.proofs.Names.{lines_of, map, nat_le, ne_eqb, refl, replicate, space, subst, sum_by-cons, sym, text_from, text_of}
+use Rattle.tabled_text.proofs.Names.{text_of_groups, true, unit_of_char, units, units_of_word, units_of_words, width_of, words_of, ℕ, ⊤}
+use Rattle.tabled_text.proofs.Names.{◌++◌, ◌+◌, ◌-◌, ◌<◌, ◌==◌, ◌∙◌, ◌∷◌, ◌≡◌, ◌≤◌}
 use Rattle.std.proofs.lemmas.List.Concat.{flat_map-append}
-use Rattle.std.proofs.lemmas.List.Elements.{All-head, All-tail, All-cons, All-nil}
-use Rattle.std.proofs.lemmas.List.Splits.{join_with_byte-slice_split}
-use Rattle.std.proofs.lemmas.List.Sums.{sum_by-cons}
-use Rattle.std.proofs.lemmas.Bool.{le-leb, ne_eqb}
-use Rattle.tabled_text.specs.Measure.{lines_of, columns_of}
-use Rattle.tabled_text.specs.Units.{TextUnit, unit_of_char, space, units_of_word, words_of, units_of_words, units, text_of, width_of}
-use Rattle.tabled_text.specs.Breaking.{IsBreaking, IsBroken, EachUnitFits, IsLeastBreaking}
-use Rattle.tabled_text.specs.Wrapping.{Fits, AreFullest, text_from, text_of_groups, IsFullest, IsFullestText, IsWrapped}
+use Rattle.tabled_text.specs.Breaking.{IsBroken}
 use Rattle.tabled_text.specs.OldText.{HasOldText}
 use Rattle.tabled_text.proofs.FewestGroups.{fewest_lines}
 use Rattle.tabled_text.proofs.Filling.{written_fullest}

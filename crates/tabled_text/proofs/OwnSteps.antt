@@ -1,17 +1,20 @@
 -- A step of the whole and of its beginning from whatever states they are in.
-use Rattle.std.proofs.Common.{◌≡◌, ℕ, ◌+◌, ◌≤◌, ⊎_elim, Bool, true, false, cond, not, nat_le, ◌==◌, ◌&&◌, Some, None, refl, sym, ap, ◌∙◌, arith, subst, eqb-true}
-use Rattle.std.proofs.lemmas.Bool.{and_parts, cases_Bool, not-true, not-false}
-use Rattle.std.proofs.lemmas.Bool.Decides.{nat_tests}
-use Rattle.ucd_emoji.specs.Binary.{is_emoji_variation_base}
-use Rattle.unicode_width.specs.declared.state.After.TheVariants.{Nothing, LineFeed, RegionalIndicator, RegionalIndicators, Emoji, ZwjEmoji, KiratE, KiratAi}
-use Rattle.unicode_width.specs.declared.state.State.{State}
-use Rattle.unicode_width.specs.declared.state.Change.TheVariants.{Same, One}
-use Rattle.unicode_width.specs.Kind.{is_text_presentation_base}
-use Rattle.unicode_width.specs.Width.{before, plain, alone, joins, Reading, first_of, added, joined_or, if_kept, is_joined_emoji, is_line_feed, is_quote, is_indicator, is_plain, past_selectors, in_context, past_emoji, step}
-use Rattle.tabled_text.specs.Measure.{char_count}
+use Rattle.tabled_text.proofs.Names.{Bool, Emoji, KiratAi, KiratE, LineFeed, None, One, Reading, RegionalIndicator, RegionalIndicators}
+use Rattle.tabled_text.proofs.Names.{Same, Some, State, added, alone, and_parts, ap, arith, before, cases_Bool, char_count, cond, false}
+use Rattle.tabled_text.proofs.Names.{if_kept, in_context, is_emoji_variation_base, is_indicator, is_joined_emoji, is_line_feed, is_plain}
+use Rattle.tabled_text.proofs.Names.{is_quote, is_text_presentation_base, joined_or, joins, nat_le, nat_tests, not, not-false, not-true}
+use Rattle.tabled_text.proofs.Names.{past_emoji, past_selectors, plain, refl, step, subst, sym, true, ℕ, ⊎_elim, ◌&&◌, ◌+◌, ◌==◌, ◌∙◌, ◌≡◌}
+use Rattle.tabled_text.proofs.Names.{◌≤◌}
+use Rattle.std.proofs.Common.{eqb-true}
+use Rattle.unicode_width.specs.declared.state.After.TheVariants.{Nothing, ZwjEmoji}
+use Rattle.unicode_width.specs.Width.{first_of}
 use Rattle.tabled_text.proofs.CountBound.{slack, credit, Bounded-past_selectors, count-some, flag-true, IsLess-kept}
-use Rattle.tabled_text.proofs.Joining.{calm-slack, alone-emoji_selector, alone-quote_selector, alone-vowel, alone-quote, alone-base, feed-no_base}
-use Rattle.tabled_text.proofs.Beside.{same_state, plain_state, emoji_state, quote_state, flags_state, vowels_state, lost, Both, Follows, Goes, Goes-at, Goes-both, Goes-cond, Goes-land, Goes-own, IsOpen, alone-bound, count-alone, flag-false, flag-most, flag-none, joined-slack, kept-no_emoji, no-feed, no-quote, open-kept_emoji, open-kept_quote, open-parts, own-alone, own-feed, own-low}
+use Rattle.tabled_text.proofs.Joining.{calm-slack, alone-emoji_selector, alone-quote_selector, alone-vowel, alone-quote, alone-base}
+use Rattle.tabled_text.proofs.Joining.{feed-no_base}
+use Rattle.tabled_text.proofs.Beside.{same_state, plain_state, emoji_state, quote_state, flags_state, vowels_state, lost, Both, Follows}
+use Rattle.tabled_text.proofs.Beside.{Goes, Goes-at, Goes-both, Goes-cond, Goes-land, Goes-own, IsOpen, alone-bound, count-alone}
+use Rattle.tabled_text.proofs.Beside.{flag-false, flag-most, flag-none, joined-slack, kept-no_emoji, no-feed, no-quote, open-kept_emoji}
+use Rattle.tabled_text.proofs.Beside.{open-kept_quote, open-parts, own-alone, own-feed, own-low}
 use Rattle.tabled_text.proofs.SameSteps.{added-at, beside-past_selectors, goes-alone, lost-joined, two-columns, lost-past_emoji, same-step}
 
 -- ---- the beginning in a plain state

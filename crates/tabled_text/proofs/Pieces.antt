@@ -1,23 +1,15 @@
 -- Printable ASCII, whose characters are its bytes and take a column each, broken between bytes.
-use Rattle.std.proofs.Common.{◌≡◌, ℕ, ◌+◌, ◌<◌, ◌≤◌, Bool, true, false, cond, max, nat_le, List, [], ◌∷◌, ◌++◌, length, take, drop, map, refl, sym, ap, subst, ◌∙◌, arith, chars, encode_utf8, encode_utf8_all, replicate, ◌-◌, All}
-use Rattle.std.specs.Int.{is_in_range}
-use Rattle.std.specs.List.{list_all}
-use Rattle.std.specs.Str.{IsAscii, IsUtf8}
-use Rattle.std.proofs.lemmas.Bool.{and_parts, le-leb}
-use Rattle.std.proofs.lemmas.Bool.Decides.{nat_tests}
-use Rattle.std.proofs.lemmas.List.{append-nil, take-append-drop, length-take-le, length-drop}
-use Rattle.std.proofs.lemmas.List.Elements.{All-cons, All-nil}
-use Rattle.std.proofs.lemmas.List.Folds.{list_all-append}
-use Rattle.std.proofs.lemmas.List.Sums.{sum_by-cons}
-use Rattle.std.proofs.lemmas.Str.{IsUtf8-append, IsUtf8-encode, IsUtf8-from_ascii, IsUtf8-nil, IsUtf8-past_char, chars-IsAscii, chars-append, chars-nil}
-use Rattle.std.proofs.lemmas.Str.{encodes-IsAscii, encodes-append, encodes-chars}
+use Rattle.tabled_text.proofs.Names.{All, All-cons, All-nil, BeginsBy, Bool, IsParted, IsPiece, IsReached, IsUtf8, IsUtf8-append}
+use Rattle.tabled_text.proofs.Names.{IsUtf8-encode, IsUtf8-from_ascii, IsUtf8-nil, IsUtf8-past_char, List, TextUnit, [], and_parts, ap}
+use Rattle.tabled_text.proofs.Names.{append-nil, append_all, append_used, arith, char_count, chars, chars-append, chars-nil, cond, count_of}
+use Rattle.tabled_text.proofs.Names.{drop, encode_utf8, encode_utf8_all, encodes-IsAscii, encodes-append, encodes-chars, false, is_in_range}
+use Rattle.tabled_text.proofs.Names.{last_line, last_of, le-leb, length, length-drop, length-take-le, lines_of, list_all, list_all-append}
+use Rattle.tabled_text.proofs.Names.{map, max, nat_le, nat_tests, needed, pending, refl, replicate, subst, sum_by-cons, sym, take, true}
+use Rattle.tabled_text.proofs.Names.{unit_of_char, units, used_after, ℕ, ◌++◌, ◌+◌, ◌-◌, ◌<◌, ◌∙◌, ◌∷◌, ◌≡◌, ◌≤◌}
+use Rattle.std.specs.Str.{IsAscii}
+use Rattle.std.proofs.lemmas.List.{take-append-drop}
+use Rattle.std.proofs.lemmas.Str.{chars-IsAscii}
 use Rattle.std.proofs.lemmas.Str.Ascii.{IsAscii-nil, IsAscii-cons}
-use Rattle.tabled_text.specs.Cut.{IsParted, IsReached, last_line, last_of}
-use Rattle.tabled_text.specs.Measure.{char_count, count_of, lines_of}
-use Rattle.tabled_text.specs.Units.{TextUnit, unit_of_char, units}
-use Rattle.tabled_text.specs.Walk.{IsPiece, append_all, append_used, pending, used_after}
-use Rattle.tabled_text.specs.Wrapping.{needed}
-use Rattle.tabled_text.specs.Letters.{BeginsBy}
 use Rattle.tabled_text.proofs.CountBound.{count-some}
 use Rattle.tabled_text.proofs.CutLemmas.{IsParted-full, IsScalar-first, Walked, chars-push, count_of-push, more_bytes}
 use Rattle.tabled_text.proofs.Filling.{append_all-append, append_all-breaks, append_text-fits}

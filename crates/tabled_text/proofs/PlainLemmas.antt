@@ -1,23 +1,16 @@
 -- The listed characters end no special sequence, by the tables of `unicode_width`, so that their columns add up.
-use Rattle.std.proofs.Common.{◌≡◌, ℕ, ◌≤◌, ◌<◌, Bool, true, false, nat_le, ◌&&◌, ◌||◌, nat_lt, List, [], ◌∷◌, Option, None, refl, arith, ⊎_elim, sum_by, max, ◌==◌}
-use Rattle.std.specs.List.{list_all}
-use Rattle.std.proofs.lemmas.Bool.{and_parts, or_cases, or_left, or_right, and_from, leb-true, lt-ltb, eqb-true}
-use Rattle.std.proofs.lemmas.List.Sums.{sum_by-cons}
-use Rattle.unicode_width.specs.declared.kind.Kind.{Kind}
-use Rattle.ucd_bidi.specs.declared.JoiningGroup.TheVariants.{NoJoiningGroup}
-use Rattle.std.specs.Int.{is_in_range}
+use Rattle.tabled_text.proofs.Names.{Bool, Kind, List, NoJoiningGroup, None, Option, [], and_from, and_parts, arith, char_columns}
+use Rattle.tabled_text.proofs.Names.{char_count, columns_of, count_of, eqb-true, false, has_plain_width, is_additive, is_drawn, is_in_range}
+use Rattle.tabled_text.proofs.Names.{is_listed, is_listed_or_drawn, is_plain_character, is_simple, is_simple_kind, joining_group}
+use Rattle.tabled_text.proofs.Names.{joining_group_rows, kind, leb-true, list_all, lt-ltb, max, nat_le, nat_lt, or_cases, or_left, or_right}
+use Rattle.tabled_text.proofs.Names.{refl, str_width, str_width-simple, sum_by, sum_by-cons, true, ℕ, ⊎_elim, ◌&&◌, ◌<◌, ◌==◌, ◌||◌, ◌∷◌}
+use Rattle.tabled_text.proofs.Names.{◌≡◌, ◌≤◌}
 use Rattle.ucd_emoji.specs.Binary.{is_emoji_presentation, is_emoji_modifier}
 use Rattle.ucd_emoji.specs.Ranges.{emoji_presentation_ranges, emoji_modifier_ranges}
 use Rattle.ucd_props.specs.Binary.{is_regional_indicator}
 use Rattle.ucd_props.specs.Ranges.{regional_indicator_ranges}
-use Rattle.ucd_bidi.specs.JoiningGroup.{joining_group}
-use Rattle.ucd_bidi.specs.JoiningGroupRows.{joining_group_rows}
-use Rattle.unicode_width.specs.Kind.{kind, named_rows, named_kind, unnamed_kind, letter_kind}
-use Rattle.unicode_width.specs.Kind.{width_kind, by_width, is_zero_width, is_wide, is_ambiguous}
-use Rattle.unicode_width.specs.Width.{str_width}
-use Rattle.unicode_width.proofs.Rules.{is_simple, is_simple_kind, str_width-simple}
-use Rattle.tabled_text.specs.Plain.{is_listed, is_drawn, is_listed_or_drawn, has_plain_width, is_plain_character, is_additive}
-use Rattle.tabled_text.specs.Measure.{char_columns, columns_of, char_count, count_of}
+use Rattle.unicode_width.specs.Kind.{named_rows, named_kind, unnamed_kind, letter_kind, width_kind, by_width, is_zero_width, is_wide}
+use Rattle.unicode_width.specs.Kind.{is_ambiguous}
 use Rattle.tabled_text.proofs.Listed.{EachRange, listed_or_drawn}
 use Rattle.tabled_text.proofs.Tables.{in_ranges-missed, misses, misses_rows, value_in-missed}
 

@@ -1,21 +1,13 @@
 -- Plain lines: what they are made of, and the lines of a plain text.
-use Rattle.std.proofs.Common.{◌≡◌, ℕ, ◌+◌, ◌<◌, true, false, ◌==◌, ◌&&◌, List, [], ◌∷◌, ◌++◌, chars}
-use Rattle.std.proofs.Common.{length, map, encode_utf8, refl, sym, ap, ◌∙◌, subst, arith, ⊎_elim}
-use Rattle.std.proofs.Common.{All}
-use Rattle.std.specs.Char.{IsScalar}
-use Rattle.std.specs.Int.{is_in_range}
-use Rattle.std.specs.List.{list_all, slice_index_or, onto_first}
-use Rattle.std.proofs.Math.Utf8.{scalar}
-use Rattle.std.proofs.lemmas.Bool.{and_parts, and_from, or_cases, or_left, or_right, eq-eqb}
-use Rattle.std.proofs.lemmas.Bool.Decides.{nat_tests}
-use Rattle.std.proofs.lemmas.List.{get_or-map, append-nil, length-map}
-use Rattle.std.proofs.lemmas.List.Folds.{list_all-append}
-use Rattle.std.proofs.lemmas.List.Splits.{slice_split-cons_no}
-use Rattle.std.proofs.lemmas.Str.{IsUtf8-append, IsUtf8-nil, IsUtf8-encode, chars-append, chars-nil, chars-encodes, encode_ascii}
-use Rattle.unicode_width.specs.Width.{str_width}
-use Rattle.unicode_width.proofs.Rules.{is_simple, str_width-append_simple}
-use Rattle.tabled_text.specs.Measure.{lines_of, line_columns, text_columns, char_columns}
-use Rattle.tabled_text.specs.Plain.{is_listed, is_drawn, is_listed_or_drawn, has_plain_width, is_plain_character, is_plain_or_feed, is_additive, is_additive_or_feed, IsPlain, IsPlainColumn, IsAdditive, IsAdditiveLine, IsAdditiveColumn}
+use Rattle.tabled_text.proofs.Names.{All, IsAdditive, IsAdditiveColumn, IsAdditiveLine, IsPlainColumn, IsScalar, IsUtf8-append}
+use Rattle.tabled_text.proofs.Names.{IsUtf8-encode, IsUtf8-nil, List, [], and_from, and_parts, ap, append-nil, arith, char_columns, chars}
+use Rattle.tabled_text.proofs.Names.{chars-append, chars-encodes, chars-nil, encode_ascii, encode_utf8, eq-eqb, false, get_or-map}
+use Rattle.tabled_text.proofs.Names.{has_plain_width, is_additive, is_additive_or_feed, is_drawn, is_in_range, is_listed}
+use Rattle.tabled_text.proofs.Names.{is_listed_or_drawn, is_plain_character, is_simple, length, length-map, line_columns, lines_of}
+use Rattle.tabled_text.proofs.Names.{list_all, list_all-append, map, nat_tests, onto_first, or_cases, or_left, or_right, refl, scalar}
+use Rattle.tabled_text.proofs.Names.{slice_index_or, slice_split-cons_no, str_width, str_width-append_simple, subst, sym, text_columns}
+use Rattle.tabled_text.proofs.Names.{true, ℕ, ⊎_elim, ◌&&◌, ◌++◌, ◌+◌, ◌<◌, ◌==◌, ◌∙◌, ◌∷◌, ◌≡◌}
+use Rattle.tabled_text.specs.Plain.{is_plain_or_feed, IsPlain}
 use Rattle.tabled_text.proofs.PlainLemmas.{is_additive-plain, is_simple-plain, line_columns-plain}
 use Rattle.tabled_text.proofs.Bridge.{each_in_lines, lines_of-chars, utf8_lines, lines_of-one, text_columns-one}
 use Rattle.tabled_text.proofs.LetterLemmas.{columns-printable}

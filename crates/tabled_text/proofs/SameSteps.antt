@@ -1,18 +1,18 @@
 -- A step of the whole and of its beginning from the same state, and what a step does that only the whole joins.
-use Rattle.std.proofs.Common.{◌≡◌, ℕ, ◌+◌, ◌<◌, ◌≤◌, ⊎_elim, Bool, true, false, cond, not, nat_le, ◌==◌, ◌&&◌, Option, Some, None, refl, ap, ◌∙◌, arith, eqb-true}
-use Rattle.std.proofs.lemmas.Bool.{and_parts, cases_Bool, not-true, not-false}
-use Rattle.ucd_emoji.specs.Binary.{is_emoji_variation_base}
-use Rattle.unicode_width.specs.declared.state.After.{After}
-use Rattle.unicode_width.specs.declared.state.After.TheVariants.{LineFeed, RegionalIndicator, RegionalIndicators, Emoji, KiratE, KiratAi, JoinerTifinagh}
-use Rattle.unicode_width.specs.declared.state.State.{State}
-use Rattle.unicode_width.specs.declared.state.Change.{Change}
-use Rattle.unicode_width.specs.declared.state.Change.TheVariants.{Less, Same, One, Three}
-use Rattle.unicode_width.specs.Kind.{is_ligature_transparent, is_text_presentation_base}
-use Rattle.unicode_width.specs.Width.{before, plain, alone, joins, added, joined_or, if_kept, is_joined_emoji, skips_marks, is_line_feed, is_quote, is_plain, past_selectors, in_context, past_emoji, step}
-use Rattle.tabled_text.specs.Measure.{char_count}
+use Rattle.tabled_text.proofs.Names.{After, Bool, Change, Emoji, KiratAi, KiratE, Less, LineFeed, None, One, Option, RegionalIndicator}
+use Rattle.tabled_text.proofs.Names.{RegionalIndicators, Same, Some, State, Three, added, alone, and_parts, ap, arith, before, cases_Bool}
+use Rattle.tabled_text.proofs.Names.{char_count, cond, false, if_kept, in_context, is_emoji_variation_base, is_joined_emoji}
+use Rattle.tabled_text.proofs.Names.{is_ligature_transparent, is_line_feed, is_plain, is_quote, is_text_presentation_base, joined_or, joins}
+use Rattle.tabled_text.proofs.Names.{nat_le, not, not-false, not-true, past_emoji, past_selectors, plain, refl, skips_marks, step, true, ℕ}
+use Rattle.tabled_text.proofs.Names.{⊎_elim, ◌&&◌, ◌+◌, ◌<◌, ◌==◌, ◌∙◌, ◌≡◌, ◌≤◌}
+use Rattle.std.proofs.Common.{eqb-true}
+use Rattle.unicode_width.specs.declared.state.After.TheVariants.{JoinerTifinagh}
 use Rattle.tabled_text.proofs.CountBound.{slack, credit, Bounded-past_emoji, count-some, flag-true, with_joiner-same, IsLess-kept}
-use Rattle.tabled_text.proofs.Joining.{is_linked, is_open, takes_column, IsCalm, joins-calm, takes-linked, calm-slack, alone-open, alone-joiner, alone-vowel, alone-indicator}
-use Rattle.tabled_text.proofs.Beside.{same_state, plain_state, flags_state, vowels_state, lost, Follows, Goes, Goes-at, Goes-both, Goes-cond, Goes-land, Goes-own, IsOpen, alone-bound, cond-no_quote, flag-false, flag-most, joined-slack, kept-no_emoji, kept-no_quote, no-quote, open-before, open-kept_emoji, open-kept_quote}
+use Rattle.tabled_text.proofs.Joining.{is_linked, is_open, takes_column, IsCalm, joins-calm, takes-linked, calm-slack, alone-open}
+use Rattle.tabled_text.proofs.Joining.{alone-joiner, alone-vowel, alone-indicator}
+use Rattle.tabled_text.proofs.Beside.{same_state, plain_state, flags_state, vowels_state, lost, Follows, Goes, Goes-at, Goes-both}
+use Rattle.tabled_text.proofs.Beside.{Goes-cond, Goes-land, Goes-own, IsOpen, alone-bound, cond-no_quote, flag-false, flag-most}
+use Rattle.tabled_text.proofs.Beside.{joined-slack, kept-no_emoji, kept-no_quote, no-quote, open-before, open-kept_emoji, open-kept_quote}
 
 -- a character that takes a column by a join, read by itself
 pub record IsOwn (after : After) (own : ℕ × State) : Type 0 where

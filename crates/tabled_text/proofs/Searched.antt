@@ -1,18 +1,11 @@
 -- Texts split at the first byte that a search finds.
-use Rattle.std.proofs.Common.{◌≡◌, refl, ◌-◌, ℕ, suc, ◌+◌, ◌<◌, eqb, false, List, [], ◌∷◌, ◌++◌, get_or, length, take, drop, ap, sym, subst, ◌∙◌, arith, All, Option, Some, None, chars, encode_utf8, encode_utf8_all, ⊎_elim}
-use Rattle.std.specs.Borrow.{Bor}
-use Rattle.std.specs.Str.{IsUtf8}
-use Rattle.std.proofs.Math.Seq.{split_at}
-use Rattle.std.proofs.lemmas.Bool.{eq-eqb, ne_eqb, eqb-true, cases_Bool}
-use Rattle.std.proofs.lemmas.List.{length-drop, get_or-take, get_or_default, length-take-le, length-append, get_or-append_right, take_all}
-use Rattle.std.proofs.lemmas.List.Elements.{All-nil, All-cons}
-use Rattle.std.proofs.lemmas.List.Splits.{slice_split_at, slice_split_none}
-use Rattle.std.proofs.lemmas.Str.{chars-append, encode_ascii, encodes-chars}
-use Rattle.tabled_text.specs.Lines.{lines_in}
-use Rattle.tabled_text.specs.Measure.{lines_of}
-use Rattle.tabled_text.specs.Runs.{IsFirstAt, IsSplitAt}
-use Rattle.tabled_text.specs.Units.{words_of}
-use Rattle.tabled_text.specs.Walk.{words_in}
+use Rattle.tabled_text.proofs.Names.{All, All-cons, All-nil, Bor, IsFirstAt, IsSplitAt, IsUtf8, List, None, Option, Some, [], ap, arith}
+use Rattle.tabled_text.proofs.Names.{cases_Bool, chars, chars-append, drop, encode_ascii, encode_utf8, encode_utf8_all, encodes-chars}
+use Rattle.tabled_text.proofs.Names.{eq-eqb, eqb, eqb-true, false, get_or, get_or-take, get_or_default, length, length-drop, length-take-le}
+use Rattle.tabled_text.proofs.Names.{lines_in, lines_of, ne_eqb, refl, slice_split_none, split_at, subst, suc, sym, take, take_all}
+use Rattle.tabled_text.proofs.Names.{words_in, words_of, ℕ, ⊎_elim, ◌++◌, ◌+◌, ◌-◌, ◌<◌, ◌∙◌, ◌∷◌, ◌≡◌}
+use Rattle.std.proofs.lemmas.List.{length-append, get_or-append_right}
+use Rattle.std.proofs.lemmas.List.Splits.{slice_split_at}
 use Rattle.tabled_text.proofs.WordLemmas.{chars-mark, IsUtf8-mark}
 
 -- bytes before the first one differ from it

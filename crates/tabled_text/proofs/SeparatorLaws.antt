@@ -1,19 +1,14 @@
 -- Where a character stands apart, columns add up.
-use Rattle.std.proofs.Common.{◌≡◌, ℕ, ◌+◌, Bool, true, false, not, ◌&&◌, List, [], ◌∷◌, ◌++◌, refl}
-use Rattle.std.proofs.Common.{sym, ap, ◌∙◌, arith, replicate, zero, suc, add_comm, zero-add, ◌⊎◌}
-use Rattle.std.proofs.Common.{⊎_elim, inl, inr, append_assoc}
+use Rattle.tabled_text.proofs.Names.{Bool, IsAdditiveColumn, IsPlainColumn, IsSeparatorColumn, List, Reading, [], and_from, and_parts, ap}
+use Rattle.tabled_text.proofs.Names.{arith, begins_apart, begins_with_selector, cases_Bool, char_columns, columns_of, ends_before, false}
+use Rattle.tabled_text.proofs.Names.{inl, inr, is_additive, is_keycap_base, is_separator, is_simple, list_all, meet, not, not-true}
+use Rattle.tabled_text.proofs.Names.{or_cases, plain, read_before, refl, replicate, stands_before, step, str_width, str_width-append_simple}
+use Rattle.tabled_text.proofs.Names.{suc, sym, true, zero, ℕ, ⊎_elim, ◌&&◌, ◌++◌, ◌+◌, ◌∙◌, ◌∷◌, ◌≡◌, ◌⊎◌}
+use Rattle.std.proofs.Common.{add_comm, zero-add, append_assoc}
 use Rattle.std.specs.Prelude.{◌↔◌}
-use Rattle.std.specs.List.{list_all}
-use Rattle.std.proofs.lemmas.Bool.{and_parts, and_from, or_cases, cases_Bool, not-true}
-use Rattle.unicode_width.specs.Width.{plain, Reading, step, read_before, str_width}
-use Rattle.unicode_width.proofs.Rules.{is_simple, str_width-append_simple}
-use Rattle.tabled_text.specs.Measure.{char_columns, columns_of}
-use Rattle.tabled_text.specs.Plain.{is_additive, IsAdditiveColumn, IsPlainColumn}
 use Rattle.tabled_text.proofs.PlainLines.{additive_column-plain, only_plain-printable}
 use Rattle.tabled_text.proofs.WrapRoom.{plain_space}
-use Rattle.tabled_text.specs.Separators.{is_keycap_base, is_separator, begins_with_selector, stands_before, begins_apart, ends_before, meet}
 use Rattle.tabled_text.proofs.SeparatorSteps.{keycap-printable, step-separator, step-keycap, step-flag}
-use Rattle.tabled_text.specs.FramedLines.{IsSeparatorColumn}
 
 -- ---- texts that leave no state
 

@@ -1,28 +1,15 @@
 -- A separator adds its own columns to every reading, and leaves the plain state.
-use Rattle.std.proofs.Common.{◌≡◌, ℕ, ◌+◌, Bool, true, false, cond, not, nat_le, nat_lt, ◌==◌, ◌&&◌}
-use Rattle.std.proofs.Common.{◌||◌, Option, Some, None, refl, sym, ap, ◌∙◌, arith, subst, ⊎_elim}
-use Rattle.std.proofs.lemmas.Bool.{and_parts, eqb-true, cases_Bool}
-use Rattle.std.proofs.lemmas.Bool.Decides.{nat_tests}
+use Rattle.tabled_text.proofs.Names.{After, Bool, Change, Kind, None, Option, Reading, Some, State, added, alone, and_parts, ap, arith}
+use Rattle.tabled_text.proofs.Names.{before, before_alef, cases_Bool, char_columns, cond, eqb-true, false, has_plain_width, if_kept}
+use Rattle.tabled_text.proofs.Names.{in_context, in_ranges, is_additive, is_emoji_variation_base, is_in_range, is_indicator}
+use Rattle.tabled_text.proofs.Names.{is_joined_emoji, is_kept, is_keycap_base, is_ligature_transparent, is_line_feed, is_listed_or_drawn}
+use Rattle.tabled_text.proofs.Names.{is_plain, is_quote, is_simple, is_simple_kind, is_text_presentation_base, joined_or, joins, kind}
+use Rattle.tabled_text.proofs.Names.{nat_le, nat_lt, nat_tests, not, of_kind, past_emoji, past_selectors, plain, refl, single, skips_marks}
+use Rattle.tabled_text.proofs.Names.{step, subst, sym, true, ℕ, ⊎_elim, ◌&&◌, ◌+◌, ◌==◌, ◌||◌, ◌∙◌, ◌≡◌}
 use Rattle.std.proofs.Math.Bool.{and-false}
-use Rattle.std.specs.Int.{is_in_range}
-use Rattle.ucd_emoji.specs.Binary.{is_emoji_variation_base}
-use Rattle.ucd_table.specs.Rows.{in_ranges}
-use Rattle.unicode_width.specs.declared.kind.Kind.{Kind}
 use Rattle.unicode_width.specs.declared.kind.Kind.TheVariants as kinds
-use Rattle.unicode_width.specs.declared.state.After.{After}
 use Rattle.unicode_width.specs.declared.state.After.TheVariants as states
-use Rattle.unicode_width.specs.declared.state.State.{State}
-use Rattle.unicode_width.specs.declared.state.Change.{Change}
-use Rattle.unicode_width.specs.Kind.{kind, is_ligature_transparent, is_text_presentation_base}
-use Rattle.unicode_width.specs.Width.{before, plain, of_kind, alone, before_alef, joins}
-use Rattle.unicode_width.specs.Width.{Reading, added, joined_or, is_emoji, is_tifinagh}
-use Rattle.unicode_width.specs.Width.{is_indicator, is_tag_letter, is_tag_digit, skips_marks}
-use Rattle.unicode_width.specs.Width.{is_quote, is_plain, is_kept, is_line_feed, is_joined_emoji}
-use Rattle.unicode_width.specs.Width.{single, if_kept, past_selectors, in_context, past_emoji, step}
-use Rattle.unicode_width.proofs.Rules.{is_simple, is_simple_kind}
-use Rattle.tabled_text.specs.Measure.{char_columns}
-use Rattle.tabled_text.specs.Plain.{is_listed_or_drawn, has_plain_width, is_additive}
-use Rattle.tabled_text.specs.Separators.{is_keycap_base}
+use Rattle.unicode_width.specs.Width.{is_emoji, is_tifinagh, is_tag_letter, is_tag_digit}
 use Rattle.tabled_text.proofs.Missed.{IsUnmarked, unmarked-listed}
 use Rattle.tabled_text.proofs.LetterLemmas.{columns-printable}
 use Rattle.tabled_text.proofs.CountBound.{columns-high}

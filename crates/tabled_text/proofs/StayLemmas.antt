@@ -1,28 +1,18 @@
 -- Plain texts that stay in some columns: what they are, and what is made of them.
-use Rattle.std.proofs.Common.{le-leb, ◌≡◌, ℕ, ◌+◌, ◌<◌, ◌≤◌, Bool, true, cond, ◌==◌, ◌&&◌, nat_le}
-use Rattle.std.proofs.Common.{List, [], ◌∷◌, ◌++◌, chars, length, map, refl, sym, ap, ◌∙◌, subst}
-use Rattle.std.proofs.Common.{arith, All, ⊎_elim, sum_by, append-nil, lit<, encode_utf8_all}
-use Rattle.std.proofs.Common.{replicate, zero, suc}
-use Rattle.std.specs.List.{join_with_byte}
-use Rattle.std.specs.Str.{IsUtf8}
-use Rattle.std.proofs.lemmas.Bool.{and_parts, and_from, cases_Bool}
-use Rattle.std.proofs.lemmas.List.Elements.{All-head, All-tail}
-use Rattle.std.proofs.lemmas.List.Sums.{sum_by-cons}
-use Rattle.std.proofs.lemmas.Str.{chars-encodes, chars-nil, IsUtf8-nil, chars-append, IsUtf8-append}
-use Rattle.std.proofs.Math.Utf8.{scalar, scalars}
-use Rattle.unicode_width.proofs.Rules.{is_simple}
-use Rattle.tabled_text.specs.Measure.{lines_of, line_columns, text_columns, columns_of, char_columns, greatest}
-use Rattle.tabled_text.specs.Cut.{IsCut}
-use Rattle.tabled_text.specs.Plain.{is_listed_or_drawn, has_plain_width, is_additive, IsAdditive, IsAdditiveColumn}
-use Rattle.tabled_text.specs.Room.{stays, StaysWithin}
-use Rattle.tabled_text.specs.Wrapping.{IsWrapped}
+use Rattle.tabled_text.proofs.Names.{All, All-head, All-tail, Bool, IsAdditive, IsAdditiveColumn, IsCut, IsUtf8, IsUtf8-append, IsUtf8-nil}
+use Rattle.tabled_text.proofs.Names.{IsWrapped, List, [], and_from, and_parts, ap, arith, cases_Bool, char_columns, chars, chars-append}
+use Rattle.tabled_text.proofs.Names.{chars-encodes, chars-nil, columns_of, cond, encode_utf8_all, greatest, has_plain_width, is_additive}
+use Rattle.tabled_text.proofs.Names.{is_listed_or_drawn, is_simple, join_with_byte, length, line_columns, lines_of, lit<, map, nat_le, refl}
+use Rattle.tabled_text.proofs.Names.{replicate, scalar, scalars, stays, subst, suc, sum_by, sum_by-cons, sym, text_columns, true, zero, ℕ}
+use Rattle.tabled_text.proofs.Names.{⊎_elim, ◌&&◌, ◌++◌, ◌+◌, ◌<◌, ◌==◌, ◌∙◌, ◌∷◌, ◌≡◌, ◌≤◌}
+use Rattle.std.proofs.Common.{le-leb, append-nil}
+use Rattle.tabled_text.specs.Room.{StaysWithin}
 use Rattle.tabled_text.proofs.Bridge.{text_columns-chars, lines_of-chars, some_line}
 use Rattle.tabled_text.proofs.CutRoom.{copies, stays-cut, stays-cut_before, stays-whole, stays-text, last_used, last_used-le}
 use Rattle.tabled_text.proofs.PlainLines.{scalar-listed}
 use Rattle.tabled_text.proofs.PlainLemmas.{columns_of-plain}
 use Rattle.tabled_text.proofs.WordLemmas.{chars-mark, IsUtf8-mark}
-use Rattle.tabled_text.proofs.WrapRoom.{stays-line, Lines, EachPlain, EachPlain-lines}
-use Rattle.tabled_text.proofs.WrapRoom.{stays-wrapped, stays-nothing, columns-stays}
+use Rattle.tabled_text.proofs.WrapRoom.{stays-line, Lines, EachPlain, EachPlain-lines, stays-wrapped, stays-nothing, columns-stays}
 use Rattle.tabled_text.proofs.WrapRoom.{is_additive_text-stays}
 
 -- ---- what they are

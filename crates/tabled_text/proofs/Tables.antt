@@ -1,8 +1,7 @@
 -- Characters that the tables of Unicode do not have.
-use Rattle.std.proofs.Common.{◌≡◌, ℕ, ◌≤◌, Bool, true, false, cond, nat_le, nat_lt, ◌&&◌, ◌||◌, List, [], ◌∷◌, refl, ap, ◌∙◌, arith}
-use Rattle.std.proofs.lemmas.Bool.{and_parts}
-use Rattle.std.proofs.lemmas.Bool.Decides.{nat_tests}
-use Rattle.ucd_table.specs.Rows.{Range, Row, in_ranges, value_in}
+use Rattle.tabled_text.proofs.Names.{Bool, List, Range, [], and_parts, ap, arith, cond, false, in_ranges, nat_le, nat_lt, nat_tests, refl}
+use Rattle.tabled_text.proofs.Names.{true, ℕ, ◌&&◌, ◌||◌, ◌∙◌, ◌∷◌, ◌≡◌, ◌≤◌}
+use Rattle.ucd_table.specs.Rows.{Row, value_in}
 
 -- no range has a member from low to high
 abbrev pub misses : ℕ → ℕ → List Range → Bool

@@ -1,22 +1,11 @@
 -- Lists of lines that take at most n columns each.
-use Rattle.std.proofs.Common.{◌≡◌, ℕ, ◌+◌, ◌<◌, ◌≤◌, Bool, true, false, cond, ◌==◌, ◌&&◌}
-use Rattle.std.proofs.Common.{nat_le, List, [], ◌∷◌, ◌++◌, length, map, refl, sym, ap, ◌∙◌, arith}
-use Rattle.std.proofs.Common.{subst, ⊎_elim, sum_by, replicate, chars}
-use Rattle.std.specs.Prelude.{⊤}
-use Rattle.std.specs.List.{list_all, onto_first}
-use Rattle.std.specs.Str.{IsUtf8}
-use Rattle.std.proofs.lemmas.Bool.{and_parts, cases_Bool, leb-true, not-true}
-use Rattle.std.proofs.lemmas.List.Splits.{slice_split-cons_no}
-use Rattle.unicode_width.specs.Width.{str_width}
-use Rattle.unicode_width.proofs.Rules.{str_width-append_simple}
-use Rattle.tabled_text.specs.Measure.{lines_of, columns_of, text_columns, greatest, char_columns}
+use Rattle.tabled_text.proofs.Names.{Bool, IsUtf8, List, [], and_parts, ap, arith, cases_Bool, char_columns, chars, columns_of, cond, false}
+use Rattle.tabled_text.proofs.Names.{greatest, is_additive, is_no_feed, last_of, leb-true, length, lines_of, list_all, map, nat_le}
+use Rattle.tabled_text.proofs.Names.{not-true, onto_first, refl, replicate, slice_split-cons_no, stays, str_width, str_width-append_simple}
+use Rattle.tabled_text.proofs.Names.{subst, sum_by, sym, text_columns, true, ℕ, ⊎_elim, ⊤, ◌&&◌, ◌++◌, ◌+◌, ◌<◌, ◌==◌, ◌∙◌, ◌∷◌, ◌≡◌, ◌≤◌}
 use Rattle.tabled_text.proofs.Bridge.{some_line, text_columns-chars}
 use Rattle.tabled_text.proofs.PlainLemmas.{is_simple-plain, line_columns-plain}
-use Rattle.tabled_text.specs.Cut.{last_of}
-use Rattle.tabled_text.specs.Plain.{is_additive}
-use Rattle.tabled_text.specs.Room.{stays}
 use Rattle.tabled_text.proofs.WrapRoom.{Lines, replacements, Lines-onto}
-use Rattle.tabled_text.specs.FramedLines.{is_no_feed}
 use Rattle.tabled_text.proofs.JoinLemmas.{onto_first-append}
 
 abbrev pub Within : ℕ → List (List ℕ) → Type 0

@@ -1,18 +1,11 @@
 -- Printable ASCII, broken between words: what is before a break stays as it is.
-use Rattle.std.proofs.Common.{◌≡◌, ℕ, suc, ◌+◌, ◌-◌, ◌<◌, ◌≤◌, Bool, true, false, cond, eqb, List, [], ◌∷◌, ◌++◌, All, length, take, drop, get_or, map, refl, sym, ap, subst, ◌∙◌, arith, chars, inl, inr, Option, None, encode_utf8, encode_utf8_all}
-use Rattle.std.specs.Borrow.{Bor}
-use Rattle.std.specs.List.{list_all, onto_first}
-use Rattle.std.proofs.Math.Seq.{split_at, drop-cons, take-suc}
-use Rattle.std.proofs.lemmas.Bool.{cases_lt, le-leb, lt-leb}
-use Rattle.std.proofs.lemmas.List.{append_assoc, length-take-le}
-use Rattle.std.proofs.lemmas.List.Splits.{slice_split_none}
-use Rattle.std.proofs.lemmas.Str.{encodes-IsAscii, encodes-append}
-use Rattle.tabled_text.specs.Measure.{columns_of}
-use Rattle.tabled_text.specs.Plain.{is_additive}
-use Rattle.tabled_text.specs.Runs.{IsSplitAt}
-use Rattle.tabled_text.specs.Units.{TextUnit, space, unit_of_char, units_of_word, units_of_words, words_of}
-use Rattle.tabled_text.specs.Walk.{BreaksAt, append_all, words_in}
-use Rattle.tabled_text.specs.Wrapping.{needed}
+use Rattle.tabled_text.proofs.Names.{All, Bool, Bor, IsSplitAt, List, None, Option, TextUnit, [], ap, append_all, append_assoc, arith}
+use Rattle.tabled_text.proofs.Names.{cases_lt, chars, columns_of, cond, drop, encode_utf8, encode_utf8_all, encodes-IsAscii, encodes-append}
+use Rattle.tabled_text.proofs.Names.{eqb, false, get_or, inl, inr, is_additive, le-leb, length, length-take-le, list_all, lt-leb, map}
+use Rattle.tabled_text.proofs.Names.{needed, onto_first, refl, slice_split_none, space, split_at, subst, suc, sym, take, true, unit_of_char}
+use Rattle.tabled_text.proofs.Names.{units_of_word, units_of_words, words_in, words_of, ℕ, ◌++◌, ◌+◌, ◌-◌, ◌<◌, ◌∙◌, ◌∷◌, ◌≡◌, ◌≤◌}
+use Rattle.std.proofs.Math.Seq.{drop-cons, take-suc}
+use Rattle.tabled_text.specs.Walk.{BreaksAt}
 use Rattle.tabled_text.proofs.Filling.{append_all-breaks}
 use Rattle.tabled_text.proofs.Pieces.{IsAscii-printable, chars-printable, count_of-printable, fitted, is_printable, parts-printable}
 use Rattle.tabled_text.proofs.PlainLines.{plain_line-printable}

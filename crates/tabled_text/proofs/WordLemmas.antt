@@ -1,7 +1,6 @@
 -- A text before an ASCII character.
-use Rattle.std.proofs.Common.{◌≡◌, ℕ, ◌<◌, List, [], ◌∷◌, ◌++◌, chars, get_or, ap, sym, zero, suc, lit<}
-use Rattle.std.specs.Str.{IsUtf8}
-use Rattle.std.proofs.lemmas.Str.{chars_past_char, encode_ascii, IsUtf8-append, IsUtf8-from_ascii}
+use Rattle.tabled_text.proofs.Names.{IsUtf8, IsUtf8-append, IsUtf8-from_ascii, List, [], ap, chars, chars_past_char, encode_ascii, get_or}
+use Rattle.tabled_text.proofs.Names.{lit<, suc, sym, zero, ℕ, ◌++◌, ◌<◌, ◌∷◌, ◌≡◌}
 
 pub chars-mark : (d : ℕ) → d < 128 → (ys : List ℕ) → IsUtf8 (d ∷ ys) → chars (d ∷ ys) ≡ d ∷ chars ys
 chars-mark d small ys v = chars_past_char (d ∷ ys) ys d v (ap (λ l. l ++ ys) (sym (encode_ascii d small)))

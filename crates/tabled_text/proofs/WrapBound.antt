@@ -1,23 +1,13 @@
 -- A wrapped text stays in its columns, whatever its characters are.
-use Rattle.std.proofs.Common.{◌≡◌, ℕ, ◌+◌, ◌-◌, ◌<◌, ◌≤◌, ◌⊎◌, inl, inr, ⊎_elim, Bool, true, false}
-use Rattle.std.proofs.Common.{cond, ◌==◌, nat_le, List, [], ◌∷◌, ◌++◌, map, refl, sym, ap, ◌∙◌}
-use Rattle.std.proofs.Common.{arith, subst, replicate, chars}
-use Rattle.std.specs.Prelude.{MatchBool, ⊤}
-use Rattle.std.specs.List.{list_all, flat_map, AllZip}
-use Rattle.std.proofs.lemmas.Bool.{and_from, cases_Bool, leb-false}
-use Rattle.std.proofs.lemmas.Bool.Decides.{nat_tests}
-use Rattle.std.proofs.lemmas.List.{append_assoc, append-nil}
-use Rattle.std.proofs.lemmas.List.Folds.{list_all-append}
-use Rattle.std.proofs.lemmas.List.Sums.{sum_by_push}
-use Rattle.std.proofs.lemmas.Str.{chars-nil}
-use Rattle.tabled_text.specs.Measure.{lines_of, columns_of, char_count, count_of, text_columns}
-use Rattle.tabled_text.specs.Units.{TextUnit, unit_of_char, space, units_of_word, words_of, units_of_words, units}
-use Rattle.tabled_text.specs.Wrapping.{Fits, AreFullest, IsFullest, shown, text_from, text_of_groups, text_of_lines, IsFullestText, IsWrapped}
+use Rattle.tabled_text.proofs.Names.{AllZip, AreFullest, Bool, Fits, IsFullest, IsFullestText, IsWrapped, List, MatchBool, TextUnit, []}
+use Rattle.tabled_text.proofs.Names.{and_from, ap, append-nil, append_assoc, arith, cases_Bool, char_count, chars, chars-nil, columns_of}
+use Rattle.tabled_text.proofs.Names.{cond, count_of, false, flat_map, inl, inr, is_no_feed, is_separator, leb-false, lines_of, list_all}
+use Rattle.tabled_text.proofs.Names.{list_all-append, map, nat_le, nat_tests, refl, replicate, shown, space, subst, sum_by_push, sym}
+use Rattle.tabled_text.proofs.Names.{text_columns, text_from, text_of_groups, text_of_lines, true, unit_of_char, units, units_of_word}
+use Rattle.tabled_text.proofs.Names.{units_of_words, words_of, ℕ, ⊎_elim, ⊤, ◌++◌, ◌+◌, ◌-◌, ◌<◌, ◌==◌, ◌∙◌, ◌∷◌, ◌≡◌, ◌≤◌, ◌⊎◌}
 use Rattle.tabled_text.proofs.Each.{Each, Each-lines, EachUnit, EachUnit-parts, EachUnit-units, list_all-copies}
 use Rattle.tabled_text.proofs.JoinLemmas.{lines_of-feed}
 use Rattle.tabled_text.proofs.WrapRoom.{plain_space}
-use Rattle.tabled_text.specs.FramedLines.{is_no_feed}
-use Rattle.tabled_text.specs.Separators.{is_separator}
 use Rattle.tabled_text.proofs.CountBound.{columns-count}
 use Rattle.tabled_text.proofs.SeparatorLaws.{columns-between}
 use Rattle.tabled_text.proofs.Within.{Within, Within-append, Within-nothing, text_columns-within, lines_of-feedless, columns-filled}

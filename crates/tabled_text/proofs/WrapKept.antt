@@ -1,18 +1,10 @@
 -- A plain text that finds room is not changed where it is wrapped.
-use Rattle.std.proofs.Common.{◌≡◌, ℕ, ◌+◌, ◌<◌, ◌≤◌, ◌++◌, Bool, true, false, cond, ◌==◌, List, [], ◌∷◌}
-use Rattle.std.proofs.Common.{chars, encode_utf8_all, map, refl, sym, ap, ◌∙◌, subst, arith, sum_by}
+use Rattle.tabled_text.proofs.Names.{AllZip, Bool, Fits, IsAdditive, IsFullest, IsFullestText, IsWrapped, List, MatchBool, TextUnit, [], ap}
+use Rattle.tabled_text.proofs.Names.{append_all, arith, char_columns, chars, columns_of, cond, encode_utf8_all, encodes-chars, false}
+use Rattle.tabled_text.proofs.Names.{greatest, is_additive, join_with_byte, join_with_byte-slice_split, le-leb, lines_of, list_all, map}
+use Rattle.tabled_text.proofs.Names.{ne_eqb, refl, subst, sum_by, sum_by-append, sum_by-cons, sym, text_columns, text_of, text_of_groups}
+use Rattle.tabled_text.proofs.Names.{true, units, width_of, ℕ, ◌++◌, ◌+◌, ◌<◌, ◌==◌, ◌∙◌, ◌∷◌, ◌≡◌, ◌≤◌}
 use Rattle.std.proofs.Common.{append-nil}
-use Rattle.std.specs.Prelude.{MatchBool}
-use Rattle.std.specs.List.{list_all, join_with_byte, AllZip}
-use Rattle.std.proofs.lemmas.Bool.{le-leb, ne_eqb}
-use Rattle.std.proofs.lemmas.List.Sums.{sum_by-append, sum_by-cons}
-use Rattle.std.proofs.lemmas.List.Splits.{join_with_byte-slice_split}
-use Rattle.std.proofs.lemmas.Str.{encodes-chars}
-use Rattle.tabled_text.specs.Measure.{lines_of, columns_of, char_columns, greatest, text_columns}
-use Rattle.tabled_text.specs.Plain.{is_additive, IsAdditive}
-use Rattle.tabled_text.specs.Units.{TextUnit, units, text_of, width_of}
-use Rattle.tabled_text.specs.Wrapping.{Fits, text_of_groups, IsFullest, IsFullestText, IsWrapped}
-use Rattle.tabled_text.specs.Walk.{append_all}
 use Rattle.tabled_text.proofs.Bridge.{text_columns-chars}
 use Rattle.tabled_text.proofs.Filling.{append_all-fits, text_is}
 use Rattle.tabled_text.proofs.OwnBreaking.{text_of-units, text_from-narrow, unit-le}

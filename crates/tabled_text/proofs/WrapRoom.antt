@@ -1,21 +1,12 @@
 -- Wrapped plain texts stay in their room.
-use Rattle.std.proofs.Common.{◌≡◌, ℕ, ◌+◌, ◌-◌, ◌<◌, ◌≤◌, Bool, true, false, cond, ◌==◌, ◌&&◌, ◌||◌}
-use Rattle.std.proofs.Common.{nat_le, List, [], ◌∷◌, ◌++◌, refl, sym, ap, ◌∙◌, subst, arith, sum_by}
-use Rattle.std.proofs.Common.{replicate, ⊎_elim, map, min, zero, suc, chars}
-use Rattle.std.specs.Prelude.{MatchBool, ⊤}
-use Rattle.std.specs.List.{list_all, onto_first, AllZip}
-use Rattle.std.proofs.lemmas.List.{append_assoc, append-nil}
-use Rattle.std.proofs.lemmas.List.Sums.{sum_by-cons}
-use Rattle.std.proofs.lemmas.Bool.{and_parts, and_from, leb-true, le-leb, eqb-true, cases_Bool, leb-false}
-use Rattle.std.proofs.lemmas.Bool.Decides.{nat_tests}
-use Rattle.unicode_width.proofs.Computing.{unicode_width}
-use Rattle.tabled_text.specs.Measure.{lines_of, columns_of, char_columns, greatest, char_count}
-use Rattle.tabled_text.specs.Plain.{is_listed_or_drawn, has_plain_width, is_additive, is_additive_or_feed, IsPlainColumn}
-use Rattle.tabled_text.specs.Room.{is_additive_text, stays}
-use Rattle.tabled_text.specs.Units.{TextUnit, unit_of_char, space, units_of_word, words_of, units_of_words, units}
-use Rattle.tabled_text.specs.Wrapping.{needed, shown, text_of_groups, text_of_lines, IsFullest, IsFullestText, IsWrapped}
-use Rattle.tabled_text.specs.Walk.{append_text, append_used, append_all}
-use Rattle.std.proofs.lemmas.Str.{chars-nil}
+use Rattle.tabled_text.proofs.Names.{AllZip, Bool, IsFullest, IsFullestText, IsPlainColumn, IsWrapped, List, MatchBool, TextUnit, []}
+use Rattle.tabled_text.proofs.Names.{and_from, and_parts, ap, append-nil, append_all, append_assoc, append_text, append_used, arith}
+use Rattle.tabled_text.proofs.Names.{cases_Bool, char_columns, char_count, chars, chars-nil, columns_of, cond, eqb-true, false, greatest}
+use Rattle.tabled_text.proofs.Names.{has_plain_width, is_additive, is_additive_or_feed, is_additive_text, is_listed_or_drawn, le-leb}
+use Rattle.tabled_text.proofs.Names.{leb-false, leb-true, lines_of, list_all, map, min, nat_le, nat_tests, needed, onto_first, refl}
+use Rattle.tabled_text.proofs.Names.{replicate, shown, space, stays, subst, suc, sum_by, sum_by-cons, sym, text_of_groups, text_of_lines}
+use Rattle.tabled_text.proofs.Names.{true, unicode_width, unit_of_char, units, units_of_word, units_of_words, words_of, zero, ℕ, ⊎_elim, ⊤}
+use Rattle.tabled_text.proofs.Names.{◌&&◌, ◌++◌, ◌+◌, ◌-◌, ◌<◌, ◌==◌, ◌||◌, ◌∙◌, ◌∷◌, ◌≡◌, ◌≤◌}
 use Rattle.tabled_text.proofs.Each.{Each, Each-split, Each-lines}
 use Rattle.tabled_text.proofs.PlainLemmas.{columns_of-plain, char_count-plain}
 use Rattle.tabled_text.proofs.Filling.{text_is, append_text-fits, append_text-breaks}

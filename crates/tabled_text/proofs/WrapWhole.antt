@@ -1,16 +1,10 @@
 -- A text of at most n bytes is wrapped to itself: its units are no wider than their characters count.
-use Rattle.std.proofs.Common.{◌≡◌, ℕ, ◌≤◌, ◌<◌, Bool, true, false, cond, nat_le, All, List, [], ◌∷◌, ◌++◌, append-nil, ap, arith}
-use Rattle.std.proofs.Common.{chars, encode_utf8_all, length, map, refl, subst, sym, ◌∙◌}
-use Rattle.std.specs.List.{join_with_byte}
-use Rattle.std.specs.Str.{IsUtf8}
-use Rattle.std.proofs.lemmas.List.Elements.{All-head, All-tail}
-use Rattle.std.proofs.lemmas.List.Splits.{join_with_byte-slice_split}
-use Rattle.std.proofs.lemmas.List.Sums.{sum_by-append, sum_by-cons}
-use Rattle.std.proofs.lemmas.Str.{encodes-chars}
-use Rattle.tabled_text.specs.Measure.{char_count, columns_of, count_of, lines_of}
-use Rattle.tabled_text.specs.Units.{TextUnit, space, unit_of_char, units, units_of_word, units_of_words, width_of, words_of}
-use Rattle.tabled_text.specs.Walk.{append_all, pending}
-use Rattle.tabled_text.specs.Wrapping.{IsWrapped}
+use Rattle.tabled_text.proofs.Names.{All, All-head, All-tail, Bool, IsUtf8, IsWrapped, List, TextUnit, [], ap, append_all, arith}
+use Rattle.tabled_text.proofs.Names.{char_count, chars, columns_of, cond, count_of, encode_utf8_all, encodes-chars, false, join_with_byte}
+use Rattle.tabled_text.proofs.Names.{join_with_byte-slice_split, length, lines_of, map, nat_le, pending, refl, space, subst, sum_by-append}
+use Rattle.tabled_text.proofs.Names.{sum_by-cons, sym, true, unit_of_char, units, units_of_word, units_of_words, width_of, words_of, ℕ}
+use Rattle.tabled_text.proofs.Names.{◌++◌, ◌<◌, ◌∙◌, ◌∷◌, ◌≡◌, ◌≤◌}
+use Rattle.std.proofs.Common.{append-nil}
 use Rattle.tabled_text.proofs.Bridge.{begins, some_line}
 use Rattle.tabled_text.proofs.CountBound.{columns-count, count-some}
 use Rattle.tabled_text.proofs.CutWhole.{IsReached-short, count_of-bytes}

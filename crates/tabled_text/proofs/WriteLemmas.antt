@@ -1,17 +1,17 @@
 -- The bytes that one more unit adds.
-use Rattle.std.proofs.Common.{◌≡◌, ℕ, ◌+◌, ◌-◌, ◌<◌, ◌≤◌, Bool, true, false, cond, List, [], ◌∷◌}
-use Rattle.std.proofs.Common.{◌++◌, length, refl, sym, ap, ◌∙◌, subst, arith, map, encode_utf8_all}
-use Rattle.std.proofs.Common.{encode_utf8, nat_le, lit<, replicate, ◌==◌, MatchBool, ◌⊎◌, ⊎_elim}
-use Rattle.std.specs.Str.{IsUtf8, chars}
-use Rattle.std.proofs.lemmas.List.{append_assoc, append-nil, nil_from_length, replicate_more}
-use Rattle.std.proofs.lemmas.Str.{encodes-append, encodes-chars, encode_ascii, chars-nil, chars_from_encodes, IsUtf8-nil}
-use Rattle.std.proofs.lemmas.Bool.{le-leb, lt-leb, eqb-true, eqb-false, eq-eqb, ne_eqb, cases_Bool}
-use Rattle.tabled_text.specs.Units.{TextUnit, unit_of_char, units_of_word, units_of_words, space, words_of, units}
-use Rattle.tabled_text.specs.Wrapping.{IsFullest, IsFullestText, IsWrapped, text_of_groups, text_of_lines}
-use Rattle.std.specs.List.{slice_split, onto_first, AllZip}
+use Rattle.tabled_text.proofs.Names.{AllZip, Bool, IsFullest, IsFullestText, IsUtf8, IsUtf8-nil, IsWrapped, List, TextUnit, [], ap}
+use Rattle.tabled_text.proofs.Names.{append-nil, append_all, append_assoc, append_text, append_used, arith, begin_text, cases_Bool}
+use Rattle.tabled_text.proofs.Names.{char_count, chars-nil, chars_from_encodes, columns_of, cond, encode_ascii, encode_utf8}
+use Rattle.tabled_text.proofs.Names.{encode_utf8_all, encodes-append, encodes-chars, eq-eqb, eqb-false, eqb-true, false, le-leb, length}
+use Rattle.tabled_text.proofs.Names.{lines_of, lit<, lt-leb, map, nat_le, ne_eqb, nil_from_length, onto_first, pending, refl, replicate}
+use Rattle.tabled_text.proofs.Names.{slice_split, space, subst, sym, text_of_groups, text_of_lines, true, unit_of_char, units}
+use Rattle.tabled_text.proofs.Names.{units_of_word, units_of_words, used_after, words_of, ℕ, ⊎_elim, ◌++◌, ◌+◌, ◌-◌, ◌<◌, ◌==◌, ◌∙◌, ◌∷◌}
+use Rattle.tabled_text.proofs.Names.{◌≡◌, ◌≤◌, ◌⊎◌}
+use Rattle.std.proofs.Common.{MatchBool}
+use Rattle.std.specs.Str.{chars}
+use Rattle.std.proofs.lemmas.List.{replicate_more}
 use Rattle.tabled_text.proofs.Filling.{append_all-append, written_fullest}
-use Rattle.tabled_text.specs.Measure.{columns_of, lines_of, char_count}
-use Rattle.tabled_text.specs.Walk.{begin_at, begin_text, append_text, append_used, append_all, used_after, pending}
+use Rattle.tabled_text.specs.Walk.{begin_at}
 
 encodes-begin_text : (b : Bool) → encode_utf8_all (cond b [] (10 ∷ [])) ≡ cond b [] (10 ∷ [])
 encodes-begin_text true = refl

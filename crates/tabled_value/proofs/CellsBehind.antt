@@ -1,7 +1,8 @@
 -- Cells put behind others.
-use Rattle.std.proofs.Common.{◌≡◌, ℕ, List, [], ◌++◌, OnOk, Result, ap, append_assoc, refl, subst, sym, ◌∙◌}
+use Rattle.tabled_value.proofs.Names.{Joined, List, Result, [], ap, append_assoc, refl, subst, sym, ℕ, ◌++◌, ◌∙◌, ◌≡◌}
+use Rattle.std.proofs.Common.{OnOk}
 use Rattle.std.proofs.lemmas.Result.{on_ok_weaker}
-use Rattle.tabled_value.specs.Fields.{CellsAdded, Joined}
+use Rattle.tabled_value.specs.Fields.{CellsAdded}
 use Rattle.tabled_value.proofs.Joining.{joined_of}
 
 -- cells behind none are all there are

@@ -1,20 +1,17 @@
 -- Rows of name and text are put behind others.
-use Rattle.std.proofs.Common.{◌≡◌, ℕ, List, [], ◌∷◌, ◌++◌, length, map, refl, sym, ap, subst, ◌∙◌, append-nil, Option, None, Bor, Iter, ◌⊎◌, inl, inr}
+use Rattle.tabled_value.proofs.Names.{All-cons, All-nil, FieldsAdded, IsRectangular, List, [], all_zipped_more, ap, into_iter_items}
+use Rattle.tabled_value.proofs.Names.{into_iter_len, iter_rest, length, map, pairs, rectangular-from_length, refl, subst, sym, zip_first}
+use Rattle.tabled_value.proofs.Names.{zip_second, ℕ, ◌++◌, ◌∙◌, ◌∷◌, ◌≡◌}
+use Rattle.std.proofs.Common.{append-nil, Option, None, Bor, Iter, ◌⊎◌, inl, inr}
 use Rattle.std.specs.declared.iter.Zip.{Zip}
 use Rattle.std.specs.declared.vec.IntoIter.{IntoIter}
 use Rattle.std.specs.List.{All, flat_map, zip}
-use Rattle.std.specs.Iterator.Adapters.{zip_first, zip_second}
-use Rattle.std.specs.Slice.Iter.{iter_rest}
-use Rattle.std.specs.Vec.Iter.{into_iter_items, into_iter_len, into_iter_steps}
+use Rattle.std.specs.Vec.Iter.{into_iter_steps}
 use Rattle.std.proofs.lemmas.Grind.{flat_map-append}
 use Rattle.std.proofs.lemmas.Fn.{fronts}
 use Rattle.std.proofs.lemmas.Iterator.{zips}
 use Rattle.std.proofs.lemmas.List.{nil_from_length}
-use Rattle.std.proofs.lemmas.List.Elements.{All-append, All-cons, All-nil}
-use Rattle.tabled_base.specs.Cells.{IsRectangular}
-use Rattle.tabled_base.proofs.Lengthening.{rectangular-from_length}
-use Rattle.tabled_value.specs.ValueRows.{FieldsAdded, pairs}
-use Rattle.std.proofs.lemmas.Slice.Zip.{all_zipped_more}
+use Rattle.std.proofs.lemmas.List.Elements.{All-append}
 
 -- the rows of the next value
 pub fields_added : {V : Type 0} (shows : V → List (List ℕ) → Type 0) (names : List (List ℕ)) (values : List V)

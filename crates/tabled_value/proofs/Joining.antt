@@ -1,13 +1,11 @@
 -- Texts put behind others.
+use Rattle.tabled_value.proofs.Names.{AllZip, Joined, List, Result, [], all_zipped_more, ap, length, map, map-append, subst, sym, take, ℕ}
+use Rattle.tabled_value.proofs.Names.{◌++◌, ◌+◌, ◌∙◌, ◌∷◌, ◌≡◌}
 use native.Mathlib.Numerals.{unary_clauses}
-use Rattle.std.proofs.Common.{◌≡◌, ℕ, ◌<◌, ◌+◌, List, [], ◌∷◌, ◌++◌, IfOk, Result, ap, length, map, sym, subst, take, ◌∙◌}
-use Rattle.std.specs.List.{AllZip}
+use Rattle.std.proofs.Common.{◌<◌, IfOk}
 use Rattle.std.proofs.Math.ListN.{get_or}
 use Rattle.std.proofs.Math.Seq.{take-suc}
-use Rattle.std.proofs.lemmas.List.{map-append}
 use Rattle.std.proofs.lemmas.Result.{IfOk-weaker}
-use Rattle.std.proofs.lemmas.Slice.Zip.{all_zipped_more}
-use Rattle.tabled_value.specs.Fields.{Joined}
 
 pub joined_of : {P Q : List (List ℕ) → Type 0} {row : List (List ℕ)} (front behind : List (List ℕ)) → row
     ≡ front ++ behind → P front → Q behind → Joined P Q row

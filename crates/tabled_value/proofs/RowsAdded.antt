@@ -1,14 +1,10 @@
 -- A row is put behind others.
-use Rattle.std.proofs.Common.{◌≡◌, ℕ, List, [], ◌∷◌, ◌++◌, length, map, sym, ap, subst, ◌∙◌, append_assoc}
-use Rattle.std.specs.List.{AllZip}
+use Rattle.tabled_value.proofs.Names.{All-cons, All-nil, AllZip, IsRectangular, List, ValuesAdded, [], all_zipped_more, ap, append_assoc}
+use Rattle.tabled_value.proofs.Names.{length, map, map-append, rectangular-from_length, row_texts, subst, sym, ℕ, ◌++◌, ◌∙◌, ◌∷◌, ◌≡◌}
 use Rattle.std.specs.declared.alloc.Global.{Global}
 use Rattle.std.specs.declared.vec.Vec.{Vec}
-use Rattle.std.proofs.lemmas.List.{map-append, map-id}
-use Rattle.std.proofs.lemmas.List.Elements.{All-cons, All-nil, All-push}
-use Rattle.tabled_base.specs.Cells.{IsRectangular, row_texts}
-use Rattle.tabled_base.proofs.Lengthening.{rectangular-from_length}
-use Rattle.tabled_value.specs.ValueRows.{ValuesAdded}
-use Rattle.std.proofs.lemmas.Slice.Zip.{all_zipped_more}
+use Rattle.std.proofs.lemmas.List.{map-id}
+use Rattle.std.proofs.lemmas.List.Elements.{All-push}
 
 pub row_texts-push : (rows : List (Vec (List ℕ) Global)) (row : Vec (List ℕ) Global) → row_texts (rows ++ row ∷ []) ≡ row_texts rows ++ row.items ∷ []
 row_texts-push rows row =

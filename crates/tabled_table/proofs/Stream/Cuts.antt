@@ -1,12 +1,10 @@
 -- The texts of a row that are cut.
-use Rattle.std.proofs.Common.{◌≡◌, ℕ, ◌-◌, ◌<◌, ◌≤◌, zero, suc, List, [], ◌∷◌, length, map, min, take, refl, ap, sym, subst, ◌∙◌, arith, get_or}
+use Rattle.tabled_table.proofs.Names.{IsCut, IsCutRow, List, TextCut, [], ap, arith, cut_texts, get_or, get_or-map, get_or-take}
+use Rattle.tabled_table.proofs.Names.{get_or_past, length, length-map, length-take, lengthened, map, min, no_cut, refl, subst, suc, sym}
+use Rattle.tabled_table.proofs.Names.{take, zero, ℕ, ◌-◌, ◌<◌, ◌∙◌, ◌∷◌, ◌≡◌, ◌≤◌}
 use Rattle.std.proofs.Math.Seq.{take-nil}
-use Rattle.std.proofs.lemmas.List.{get_or-map, get_or-take, get_or_past, get_or_read, length-map, length-take, take-map}
-use Rattle.tabled_base.specs.Cells.{lengthened}
-use Rattle.tabled_text.specs.Cut.{IsCut}
-use Rattle.tabled_table.specs.declared.iter_table.cuts.TextCut.{TextCut}
-use Rattle.tabled_table.specs.Stream.Cuts.{AreCuts, AreMeasured, IsMeasured, cut_texts, no_cut}
-use Rattle.tabled_table.specs.Stream.Streamed.{IsCutRow}
+use Rattle.std.proofs.lemmas.List.{get_or_read, take-map}
+use Rattle.tabled_table.specs.Stream.Cuts.{AreCuts, AreMeasured, IsMeasured}
 use Rattle.tabled_table.proofs.Stream.Drawn.{filled-at}
 
 pub length_cut_texts : (cuts : List TextCut) (texts : List (List ℕ)) → length (cut_texts cuts texts) ≡ length texts

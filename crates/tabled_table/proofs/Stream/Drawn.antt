@@ -1,17 +1,14 @@
 -- What stands in the further columns of a stream where nothing is taken there.
-use Rattle.std.proofs.Common.{◌≡◌, ℕ, zero, suc, ◌+◌, ◌-◌, ◌<◌, ◌≤◌, Bool, false, List, [], ◌∷◌, ◌++◌, length, replicate, take, slice_index_or, refl, ◌∙◌, ap, arith}
-use Rattle.std.proofs.lemmas.List.{get_or_past}
+use Rattle.tabled_table.proofs.Names.{AlignmentHorizontal, Bool, CellStyle, Layout, List, [], ap, arith, false, fill, get_or_past}
+use Rattle.tabled_table.proofs.Names.{layout_row, length, lengthened, refl, replicate, suc, take, width_at, zero, ℕ, ◌++◌, ◌+◌, ◌-◌, ◌<◌}
+use Rattle.tabled_table.proofs.Names.{◌∙◌, ◌∷◌, ◌≡◌, ◌≤◌}
+use Rattle.std.proofs.Common.{slice_index_or}
 use Rattle.tabled_config.specs.Frame.{has_bar}
-use Rattle.tabled_config.specs.declared.alignment.AlignmentHorizontal.{AlignmentHorizontal}
 use Rattle.tabled_config.specs.declared.alignment.AlignmentHorizontal.TheVariants as horizontal
-use Rattle.tabled_config.specs.declared.spanned.CellStyle.{CellStyle}
-use Rattle.tabled_base.specs.Cells.{lengthened}
 use Rattle.tabled_line.specs.Block.{before_text, block, cell_line, fill_above, fill_below}
-use Rattle.tabled_line.specs.Fill.{fill}
 use Rattle.tabled_line.specs.Row.{cell_piece, piece}
 use Rattle.tabled_line.proofs.Bars.{no-bar}
-use Rattle.tabled_table.specs.declared.iter_table.layout.Layout.{Layout}
-use Rattle.tabled_table.specs.Stream.Row.{TakesNoMore, layout_row, width_at}
+use Rattle.tabled_table.specs.Stream.Row.{TakesNoMore}
 use Rattle.tabled_table.proofs.Stream.Widths.{listed, past-list}
 
 -- each of some texts is empty

@@ -1,36 +1,22 @@
 -- What a stream leaves, put together of what its parts left.
-use Rattle.std.proofs.Common.{◌≡◌, ◌⊎◌, ℕ, ◌<◌, ◌≤◌, ◌^◌, Bool, true, false, List, [], ◌∷◌, ◌++◌, length, max, take, drop, Option, Some}
-use Rattle.std.proofs.Common.{None, Result, Ok, Err, refl, sym, ◌∙◌, ap, subst, arith, inl, inr, ⊎_elim, append-nil, append_assoc}
-use Rattle.std.proofs.Common.{length-append, ◌==◌, ◌||◌, if◌then◌else◌, replicate, MatchResult}
-use Rattle.std.specs.List.{slice_index, flat_map, range_with_len}
-use Rattle.std.specs.Result.{IsErrAnd}
+use Rattle.tabled_table.proofs.Names.{AreEnough, AreFirst, AreFurther, AreSniffed, Bool, CompactConfig, EndsSheet, Err, Frame, Halts}
+use Rattle.tabled_table.proofs.Names.{HaltsWithin, HasPut, IsErrAnd, IsInReach, IsLaidOut, IsLimited, IsStreamed, Layout, LineSends}
+use Rattle.tabled_table.proofs.Names.{LineStops, List, MatchResult, Memory, None, Ok, Option, Range, Result, Sends, Sent, Sheet, Some}
+use Rattle.tabled_table.proofs.Names.{Stops, StopsBelow, StreamSettings, StreamStops, Streams, TableError, WritesBelow, WritesLines, []}
+use Rattle.tabled_table.proofs.Names.{ahead, ap, append-nil, append_assoc, arith, column_count, columns, columns_of, false, fill}
+use Rattle.tabled_table.proofs.Names.{filled_picture, filled_width, flat_map, frame, if◌then◌else◌, inl, inr, is_empty, layout_columns}
+use Rattle.tabled_table.proofs.Names.{left_of, length, length-append, limited, lines-finished, lines-stopped-first, lines_above}
+use Rattle.tabled_table.proofs.Names.{lines_after, lines_after-joined, lines_before, max, picture, range_with_len, reaches, refl, replicate}
+use Rattle.tabled_table.proofs.Names.{row_part, rule, rule_at, rule_if, slice_index, sniffed, spanned_of_compact, stream_total}
+use Rattle.tabled_table.proofs.Names.{stream_widths, subst, sym, table_text, take, true, ℕ, ⊎_elim, ◌++◌, ◌<◌, ◌==◌, ◌^◌, ◌||◌, ◌∙◌, ◌∷◌}
+use Rattle.tabled_table.proofs.Names.{◌≡◌, ◌≤◌, ◌⊎◌}
+use Rattle.std.proofs.Common.{drop}
 use Rattle.std.proofs.lemmas.List.{take-append-drop}
-use Rattle.tabled_base.specs.declared.error.TableError.{TableError}
-use Rattle.tabled_base.specs.declared.error.TableError.TheVariants.{Memory, Range}
-use Rattle.tabled_config.specs.declared.compact.CompactConfig.{CompactConfig}
-use Rattle.tabled_grid.specs.Picture.{table_text, columns_of, filled_picture, picture, row_part, rule}
-use Rattle.tabled_line.specs.Sent.{Sent, Sends, Stops}
-use Rattle.tabled_line.proofs.Leading.{lines_after-joined, lines-finished, lines-stopped-first}
-use Rattle.tabled_table.specs.declared.iter_table.layout.Layout.{Layout}
-use Rattle.tabled_table.specs.declared.iter_table.settings.StreamSettings.{StreamSettings}
-use Rattle.tabled_table.specs.Stream.Printed.{StopsBelow, lines_above, lines_before, text_above, WritesBelow}
-use Rattle.tabled_table.specs.Stream.Progress.{AreFirst, AreFurther, EndsSheet, Halts, HaltsBefore, HaltsWithin, IsLaidOut, IsLimited}
-use Rattle.tabled_table.specs.Stream.Progress.{left_of, HasPut, IsInReach}
-use Rattle.tabled_table.specs.Stream.Streamed.{IsStreamed, ahead, column_count, limited, sniffed, stream_widths}
-use Rattle.tabled_table.specs.Stream.Streams.{AreEnough, AreSniffed, IsTooHighFirst, IsWholeStream, StreamStops, Streams, reaches}
-use Rattle.tabled_table.specs.Stream.Streams.{stream_total}
+use Rattle.tabled_table.specs.Stream.Printed.{text_above}
+use Rattle.tabled_table.specs.Stream.Progress.{HaltsBefore}
+use Rattle.tabled_table.specs.Stream.Streams.{IsTooHighFirst, IsWholeStream}
 use Rattle.tabled_table.proofs.Stream.Steps.{joined-below, ends-below, stops-first}
 use Rattle.tabled_table.proofs.Stream.FirstRows.{few-first, few-more, length-limited, limited-more, read-more}
-use Rattle.tabled_base.specs.Cells.{columns}
-use Rattle.tabled_config.specs.Settings.{frame, rule_at}
-use Rattle.tabled_config.specs.Spanned.{spanned_of_compact}
-use Rattle.tabled_line.specs.Fill.{fill}
-use Rattle.tabled_line.specs.Leading.{LineSends, LineStops, WritesLines, lines_after}
-use Rattle.tabled_line.specs.Row.{rule_if}
-use Rattle.tabled_size.specs.Sheet.{Sheet, is_empty}
-use Rattle.tabled_size.specs.Totals.{filled_width}
-use Rattle.tabled_table.specs.Stream.Row.{layout_columns}
-use Rattle.tabled_config.specs.declared.frame.Frame.{Frame}
 use Rattle.tabled_table.proofs.Stream.Measures.{columns-laid, not-zero, rule-below}
 
 -- ---- the ends of a table that is printed row by row

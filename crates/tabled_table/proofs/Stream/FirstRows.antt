@@ -1,25 +1,16 @@
 -- A whole stream: the rows that were taken first, those that came behind them, and what of them was printed.
-use Rattle.std.proofs.Common.{◌≡◌, ◌≢◌, ◌⊎◌, ℕ, zero, suc, ◌-◌, ◌<◌, ◌≤◌, Bool, true, false, if◌then◌else◌, List, [], ◌∷◌, ◌++◌, length, max}
-use Rattle.std.proofs.Common.{take, unwrap_or, Option, Some, None, refl, sym, ◌∙◌, ap, subst, arith, inl, inr, ⊎_elim, append-nil}
-use Rattle.std.proofs.Common.{length-append, ◌==◌, ◌||◌, map, get_or}
-use Rattle.std.proofs.lemmas.Bool.{cases_lt}
-use Rattle.std.proofs.lemmas.List.{length-take, take-append-le, take_all, get_or-map, length-map}
-use Rattle.tabled_base.specs.Cells.{longest, columns}
-use Rattle.tabled_table.specs.declared.iter_table.settings.StreamSettings.{StreamSettings}
-use Rattle.tabled_table.specs.Stream.Progress.{AreFirst, AreFurther, IsPermitted, left_of}
-use Rattle.tabled_table.specs.Stream.Streamed.{ahead, column_count, limited, sniffed, IsCutRow, IsStreamed, content_width, stream_height}
-use Rattle.tabled_table.specs.Stream.Streamed.{stream_widths}
-use Rattle.tabled_table.specs.Stream.Streams.{ArePermitted, AreSniffed, shown_rows, AreEnough, IsFilled, StreamSends, reaches}
+use Rattle.tabled_table.proofs.Names.{AreEnough, AreFirst, AreFurther, ArePermitted, AreSniffed, Bool, CompactConfig, IsCutRow, IsPermitted}
+use Rattle.tabled_table.proofs.Names.{IsStreamed, List, None, Option, Sent, Sheet, Some, StreamSends, StreamSettings, [], ahead, ap}
+use Rattle.tabled_table.proofs.Names.{append-nil, arith, cases_lt, column_count, columns, content_width, false, filled_picture}
+use Rattle.tabled_table.proofs.Names.{filled_width, get_or, get_or-map, get_or-map-range_with_len, if◌then◌else◌, inl, inr, join_with_byte}
+use Rattle.tabled_table.proofs.Names.{left_of, length, length-append, length-map, length-map-range_with_len, length-take, limited, longest}
+use Rattle.tabled_table.proofs.Names.{map, max, picture, range_with_len, reaches, refl, sends-along, sniffed, spanned_of_compact}
+use Rattle.tabled_table.proofs.Names.{stream_height, stream_widths, subst, suc, sym, take, take_all, true, unwrap_or, zero, ℕ, ⊎_elim, ◌++◌}
+use Rattle.tabled_table.proofs.Names.{◌-◌, ◌<◌, ◌==◌, ◌||◌, ◌∙◌, ◌∷◌, ◌≡◌, ◌≢◌, ◌≤◌, ◌⊎◌}
+use Rattle.std.proofs.lemmas.List.{take-append-le}
+use Rattle.tabled_table.specs.Stream.Streams.{shown_rows, IsFilled}
 use Rattle.tabled_table.proofs.Stream.Measures.{not-zero}
-use Rattle.std.specs.List.{join_with_byte, range_with_len}
-use Rattle.std.proofs.lemmas.List.FromFn.{get_or-map-range_with_len, length-map-range_with_len}
-use Rattle.tabled_config.specs.declared.compact.CompactConfig.{CompactConfig}
-use Rattle.tabled_config.specs.Spanned.{spanned_of_compact}
-use Rattle.tabled_grid.specs.Picture.{filled_picture, picture}
-use Rattle.tabled_size.specs.Totals.{filled_width}
-use Rattle.tabled_line.specs.Sent.{Sent}
-use Rattle.tabled_line.proofs.Sending.{sends-along, sends-none}
-use Rattle.tabled_size.specs.Sheet.{Sheet}
+use Rattle.tabled_line.proofs.Sending.{sends-none}
 
 -- ---- further rows behind the first ones
 

@@ -1,23 +1,13 @@
 -- How a stream goes on behind the rows that were taken first.
-use Rattle.std.proofs.Common.{◌≡◌, ◌⊎◌, ℕ, ◌<◌, Bool, true, false, List, [], length, Option, Some, None, Result, refl, sym, subst, arith}
-use Rattle.std.proofs.Common.{inl, inr, append-nil, ◌++◌, Ok, Err, length-append, map, ap, ◌∙◌, ◌+◌, ◌-◌, ◌≤◌, ◌||◌, not, nat_lt}
-use Rattle.std.proofs.Common.{if◌then◌else◌, ◌∷◌, is_some, unwrap_or, take, IfErr, MatchOption, MatchResult, ⊎_elim, get_or, append_assoc}
-use Rattle.std.proofs.lemmas.List.{map-append, length-take, take_more}
-use Rattle.tabled_base.specs.declared.error.TableError.{TableError}
-use Rattle.tabled_config.specs.declared.compact.CompactConfig.{CompactConfig}
-use Rattle.tabled_line.specs.Sent.{Sent}
-use Rattle.tabled_table.specs.declared.iter_table.layout.Layout.{Layout}
-use Rattle.tabled_table.specs.declared.iter_table.settings.StreamSettings.{StreamSettings}
-use Rattle.tabled_table.specs.Stream.Progress.{AreFurther, EndsSheet, FinishesBehind, HasPut, IsLimited, IsPermitted, left_of, Halts}
-use Rattle.tabled_table.specs.Stream.Progress.{HaltsMore, HaltsWithin, HasPutMore, ReadsOn, PutsNext, PutsRows}
-use Rattle.tabled_records.specs.Reading.{Reads, ReadsTo}
-use Rattle.tabled_table.specs.Stream.Streams.{ArePermitted, Streams, stream_total}
-use Rattle.tabled_records.proofs.RowsRead.{reads-both}
-use Rattle.std.specs.Result.{IsErrAnd}
-use Rattle.std.proofs.lemmas.Bool.{cases_lt}
-use Rattle.std.proofs.lemmas.Bool.Decides.{nat_tests}
-use Rattle.tabled_base.specs.declared.error.TableError.TheVariants.{Memory}
-use Rattle.tabled_table.specs.Stream.Streamed.{column_count, content_height, tallest}
+use Rattle.tabled_table.proofs.Names.{AreFurther, ArePermitted, Bool, CompactConfig, EndsSheet, Err, Halts, HaltsWithin, HasPut, HasPutMore}
+use Rattle.tabled_table.proofs.Names.{IsErrAnd, IsLimited, IsPermitted, Layout, List, MatchOption, MatchResult, Memory, None, Ok, Option}
+use Rattle.tabled_table.proofs.Names.{PutsNext, Reads, ReadsTo, Result, Sent, Some, StreamSettings, Streams, TableError, [], ap, append-nil}
+use Rattle.tabled_table.proofs.Names.{append_assoc, arith, cases_lt, column_count, content_height, false, get_or, if◌then◌else◌, inl, inr}
+use Rattle.tabled_table.proofs.Names.{is_some, left_of, length, length-append, length-take, map, map-append, nat_lt, nat_tests, not}
+use Rattle.tabled_table.proofs.Names.{reads-both, refl, stream_total, subst, sym, take, take_more, tallest, true, unwrap_or, ℕ, ⊎_elim}
+use Rattle.tabled_table.proofs.Names.{◌++◌, ◌+◌, ◌-◌, ◌<◌, ◌||◌, ◌∙◌, ◌∷◌, ◌≡◌, ◌≤◌, ◌⊎◌}
+use Rattle.std.proofs.Common.{IfErr}
+use Rattle.tabled_table.specs.Stream.Progress.{FinishesBehind, HaltsMore, ReadsOn, PutsRows}
 use Rattle.tabled_table.proofs.Stream.Steps.{halts-before}
 
 none-permitted : (left : Option ℕ) → IsPermitted left 0

@@ -1,33 +1,18 @@
 -- What is measured of rows, cell by cell and row by row.
-use Rattle.std.proofs.Common.{◌≡◌, ℕ, zero, suc, ◌+◌, ◌<◌, ◌≤◌, List, [], ◌∷◌, ◌++◌, length, map, max, min, take, refl, sym, ◌∙◌, ap, arith}
-use Rattle.std.proofs.Common.{get_or, ◌≢◌, below_more, ⊎_elim, MatchOption, Option, Some, None, ◌==◌, true, false, if◌then◌else◌}
-use Rattle.std.proofs.lemmas.Bool.{cases_lt}
-use Rattle.std.proofs.lemmas.List.{get_or-map, length-map, map-append, take_more, length-take, take_all}
+use Rattle.tabled_table.proofs.Names.{AreFirst, CellStyle, ColumnSheet, CompactConfig, HorizontalLine, IsCutRow, IsLaidOut, IsStreamed}
+use Rattle.tabled_table.proofs.Names.{Layout, List, MatchOption, None, Option, Sheet, Some, StreamSettings, [], ahead, ap, arith}
+use Rattle.tabled_table.proofs.Names.{below_more, cases_lt, cell_at, column_count, columns, columns_of, content_width, each-more, false}
+use Rattle.tabled_table.proofs.Names.{fits-none, flat_map, frame, get_or, get_or-map, greatest, if◌then◌else◌, layout_columns, length}
+use Rattle.tabled_table.proofs.Names.{length-map, length-take, limited, lines_of, longest, map, map-append, mapped_same, max, min}
+use Rattle.tabled_table.proofs.Names.{nat_tests, range_with_len, record_lines, refl, row_lines, row_part, rule, rule_at, rule_if, rule_of}
+use Rattle.tabled_table.proofs.Names.{slice_index, slice_index_or, sniffed, spanned_of_compact, stream_width, stream_widths, style_at, suc}
+use Rattle.tabled_table.proofs.Names.{sym, take, take_all, take_more, tallest, text_columns, true, widest, width_at, zero, ℕ, ⊎_elim, ◌++◌}
+use Rattle.tabled_table.proofs.Names.{◌+◌, ◌<◌, ◌==◌, ◌∙◌, ◌∷◌, ◌≡◌, ◌≢◌, ◌≤◌}
 use Rattle.std.specs.Prelude.{Bool, unwrap_or}
-use Rattle.tabled_base.specs.Cells.{longest, cell_at, columns}
-use Rattle.tabled_text.specs.Measure.{greatest, lines_of, text_columns}
-use Rattle.tabled_text.proofs.FittingLaws.{fits-none}
-use Rattle.tabled_table.specs.Stream.Streamed.{tallest, widest, ahead, limited, sniffed, IsCutRow, IsStreamed, column_count, content_width}
-use Rattle.tabled_table.specs.Stream.Streamed.{stream_width, stream_widths}
 use Rattle.std.proofs.lemmas.Simd.{map-map}
-use Rattle.tabled_table.specs.declared.iter_table.settings.StreamSettings.{StreamSettings}
-use Rattle.std.specs.List.{flat_map, range_with_len, slice_index, slice_index_or}
-use Rattle.std.proofs.lemmas.Bool.Decides.{nat_tests}
 use Rattle.tabled_base.proofs.Lengthening.{length-lengthened}
 use Rattle.tabled_config.specs.Frame.{bottom_line, if_any, inner_line, top_line}
-use Rattle.tabled_config.specs.declared.borders.HorizontalLine.{HorizontalLine}
-use Rattle.tabled_config.specs.declared.compact.CompactConfig.{CompactConfig}
-use Rattle.tabled_config.specs.declared.spanned.CellStyle.{CellStyle}
-use Rattle.tabled_config.specs.Settings.{frame, rule_at, style_at}
-use Rattle.tabled_config.specs.Spanned.{spanned_of_compact}
-use Rattle.tabled_grid.specs.Picture.{columns_of, row_part, rule}
-use Rattle.tabled_line.specs.Row.{ColumnSheet, row_lines, rule_if}
-use Rattle.tabled_line.proofs.Each.{each-more}
-use Rattle.tabled_size.specs.Sheet.{Sheet}
-use Rattle.tabled_size.proofs.Greatest.{mapped_same}
-use Rattle.tabled_table.specs.declared.iter_table.layout.Layout.{Layout}
-use Rattle.tabled_table.specs.Stream.Progress.{AreFirst, IsLaidOut}
-use Rattle.tabled_table.specs.Stream.Row.{compact_style, layout_columns, record_lines, rule_of, width_at}
+use Rattle.tabled_table.specs.Stream.Row.{compact_style}
 
 -- ---- the rows of a streamed table, as they are laid out
 

@@ -1,27 +1,20 @@
 -- A streamed table that is like a `Table` is the table with estimated sizes.
-use Rattle.std.proofs.Common.{◌≡◌, ℕ, zero, suc, ◌+◌, ◌-◌, ◌<◌, ◌≤◌, ◌==◌, ◌&&◌, ◌||◌, Bool, true, false, not, nat_lt, if◌then◌else◌, List, [], ◌++◌, is_some, unwrap_or, length, map, max, take, replicate, Result, Ok, Err, OnOk, inl, inr, refl, sym, ◌∙◌, ap, subst, arith, append-nil, get_or}
-use Rattle.std.specs.List.{range_with_len, slice_index}
-use Rattle.std.proofs.lemmas.Bool.Decides.{nat_tests}
-use Rattle.std.proofs.lemmas.List.{ext_get_or, take_all}
+use Rattle.tabled_table.proofs.Names.{AreEnough, Bool, CompactConfig, Err, IsCutRow, IsStreamed, List, Ok, PrintsStream, Result, Sends}
+use Rattle.tabled_table.proofs.Names.{Sent, Sheet, SpannedConfig, StreamSettings, TableError, [], ap, append-nil, arith, column_count}
+use Rattle.tabled_table.proofs.Names.{column_width, columns, content_width, estimated_heights, estimated_widths, false, get_or}
+use Rattle.tabled_table.proofs.Names.{get_or-map-range_with_len, greatest, if◌then◌else◌, inl, inr, is_some, length}
+use Rattle.tabled_table.proofs.Names.{length-map-range_with_len, limited, lines_of, longest, map, mapped_same, max, nat_lt, nat_tests, not}
+use Rattle.tabled_table.proofs.Names.{range_with_len, reaches, refl, replicate, slice_index, sniffed, spanned_of_compact, stream_height}
+use Rattle.tabled_table.proofs.Names.{stream_width, stream_widths, style_at, subst, suc, sym, table_text, take, take_all, tallest}
+use Rattle.tabled_table.proofs.Names.{text_columns, true, unwrap_or, widest, zero, ℕ, ◌&&◌, ◌++◌, ◌+◌, ◌-◌, ◌<◌, ◌==◌, ◌||◌, ◌∙◌, ◌≡◌, ◌≤◌}
+use Rattle.std.proofs.Common.{OnOk}
+use Rattle.std.proofs.lemmas.List.{ext_get_or}
 use Rattle.std.proofs.lemmas.List.Splits.{length-slice_split}
-use Rattle.std.proofs.lemmas.List.FromFn.{get_or-map-range_with_len, length-map-range_with_len}
-use Rattle.tabled_text.specs.Measure.{greatest, lines_of, text_columns}
-use Rattle.tabled_base.specs.declared.error.TableError.{TableError}
-use Rattle.tabled_base.specs.Cells.{columns, longest}
-use Rattle.tabled_config.specs.declared.compact.CompactConfig.{CompactConfig}
-use Rattle.tabled_config.specs.declared.spanned.SpannedConfig.{SpannedConfig}
-use Rattle.tabled_config.specs.Settings.{style_at}
-use Rattle.tabled_config.specs.Spanned.{spanned_of_compact}
-use Rattle.tabled_size.specs.Estimates.{column_width, estimated_heights, estimated_widths, needed_height, row_height}
-use Rattle.tabled_size.specs.Sheet.{Sheet, estimated}
-use Rattle.tabled_size.proofs.Greatest.{greatest_below, greatest_ge, greatest_more, mapped_same}
-use Rattle.tabled_table.specs.declared.iter_table.settings.StreamSettings.{StreamSettings}
+use Rattle.tabled_size.specs.Estimates.{needed_height, row_height}
+use Rattle.tabled_size.specs.Sheet.{estimated}
+use Rattle.tabled_size.proofs.Greatest.{greatest_below, greatest_ge, greatest_more}
 use Rattle.tabled_text.specs.Exact.{IsExactLine}
 use Rattle.tabled_table.specs.Stream.LikeTable.{AreMeasured, IsLikeTable, PrintsLikeTable}
-use Rattle.tabled_table.specs.Stream.Streams.{AreEnough, PrintsStream, reaches}
-use Rattle.tabled_grid.specs.Picture.{table_text}
-use Rattle.tabled_line.specs.Sent.{Sent, Sends}
-use Rattle.tabled_table.specs.Stream.Streamed.{IsCutRow, IsStreamed, column_count, content_width, limited, sniffed, stream_height, stream_width, stream_widths, tallest, widest}
 use Rattle.tabled_text.proofs.ExactLines.{exact-kept}
 use Rattle.tabled_table.proofs.Stream.Measures.{greatest-next}
 

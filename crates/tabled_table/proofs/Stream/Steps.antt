@@ -1,34 +1,19 @@
 -- A table that is printed, one row further.
-use Rattle.std.proofs.Common.{◌≡◌, ℕ, ◌+◌, ◌==◌, ◌<◌, ◌^◌, Bool, false, List, [], ◌∷◌, ◌++◌, length, min, replicate, refl, sym, ◌∙◌, ap}
-use Rattle.std.proofs.Common.{subst, add-one, arith, get_or, append_assoc, length-append, Result, Ok, Err, ◌-◌, Option, inl, inr}
-use Rattle.std.proofs.Common.{below_more, ◌⊎◌, ◌≤◌, OnOk, append-nil, ⊎_elim}
-use Rattle.std.specs.List.{flat_map, range_with_len, slice_index, join_with_byte}
-use Rattle.tabled_text.specs.Cut.{IsCut}
-use Rattle.tabled_base.specs.Cells.{lengthened}
-use Rattle.tabled_base.specs.declared.error.TableError.{TableError}
-use Rattle.tabled_config.specs.declared.compact.CompactConfig.{CompactConfig}
-use Rattle.tabled_config.specs.Settings.{frame}
-use Rattle.tabled_grid.specs.Picture.{row_part}
-use Rattle.tabled_line.specs.Fill.{fill}
-use Rattle.tabled_line.specs.Sent.{Sent, Sends, Stops}
-use Rattle.tabled_line.proofs.Each.{each-more}
-use Rattle.tabled_line.specs.Leading.{lines_after, LineSends, LineStops, WritesLines}
-use Rattle.tabled_line.proofs.Leading.{lines-further, lines_after-append, lines_after-joined, lines-finished, lines-stopped-first}
-use Rattle.tabled_size.specs.Sheet.{Sheet}
-use Rattle.tabled_size.specs.Totals.{filled_width}
-use Rattle.tabled_table.specs.declared.iter_table.layout.Layout.{Layout}
-use Rattle.tabled_table.specs.declared.iter_table.settings.StreamSettings.{StreamSettings}
-use Rattle.tabled_table.specs.Stream.Printed.{StopsBelow, WritesBelow, lines_above, lines_before}
-use Rattle.tabled_table.specs.Stream.Progress.{HasPut, HaltsWithin, IsInReach, IsLaidOut, Halts, PutsNext}
-use Rattle.tabled_table.specs.Stream.Row.{IsPut, IsStoppedIn, content_at, record_lines, rule_of, Puts, PutsCut, layout_columns, layout_row}
-use Rattle.tabled_table.specs.Stream.Streamed.{IsCutRow, IsStreamed, column_count, content_width, stream_height, content_height}
+use Rattle.tabled_table.proofs.Names.{Bool, CompactConfig, Err, Halts, HaltsWithin, HasPut, HorizontalLine, IsCut, IsCutRow, IsErrAnd}
+use Rattle.tabled_table.proofs.Names.{IsInReach, IsLaidOut, IsStreamed, Layout, LineSends, LineStops, List, Memory, Ok, Option, PutsNext}
+use Rattle.tabled_table.proofs.Names.{Range, Result, Sends, Sent, Sheet, Stops, StopsBelow, StreamSettings, TableError, WritesBelow}
+use Rattle.tabled_table.proofs.Names.{WritesLines, [], ap, append-nil, append_assoc, arith, below_more, column_count, content_at}
+use Rattle.tabled_table.proofs.Names.{content_height, content_width, each-more, false, fill, filled_width, flat_map, frame, get_or}
+use Rattle.tabled_table.proofs.Names.{get_or-append_right, get_or_append_left, inl, inr, join_with_byte, layout_columns, layout_row, length}
+use Rattle.tabled_table.proofs.Names.{length-append, lengthened, lines-finished, lines-stopped-first, lines_above, lines_after}
+use Rattle.tabled_table.proofs.Names.{lines_after-append, lines_after-joined, lines_before, min, range_with_len, record_lines, refl}
+use Rattle.tabled_table.proofs.Names.{replicate, row_lines, row_part, rule_if, rule_of, sends-along, slice_index, stream_height, subst, sym}
+use Rattle.tabled_table.proofs.Names.{ℕ, ⊎_elim, ◌++◌, ◌+◌, ◌-◌, ◌<◌, ◌==◌, ◌^◌, ◌∙◌, ◌∷◌, ◌≡◌, ◌≤◌, ◌⊎◌}
+use Rattle.std.proofs.Common.{add-one, OnOk}
+use Rattle.tabled_line.proofs.Leading.{lines-further}
+use Rattle.tabled_table.specs.Stream.Row.{IsPut, IsStoppedIn, Puts, PutsCut}
 use Rattle.tabled_table.proofs.Stream.Measures.{flat_map-same, not-zero, part-laid}
-use Rattle.tabled_line.proofs.Sending.{Appends-then, sends-along, stops-then}
-use Rattle.std.specs.Result.{IsErrAnd}
-use Rattle.std.proofs.lemmas.List.{get_or_append_left, get_or-append_right}
-use Rattle.tabled_config.specs.declared.borders.HorizontalLine.{HorizontalLine}
-use Rattle.tabled_line.specs.Row.{row_lines, rule_if}
-use Rattle.tabled_base.specs.declared.error.TableError.TheVariants.{Memory, Range}
+use Rattle.tabled_line.proofs.Sending.{Appends-then, stops-then}
 
 -- ---- texts that are sent below lines that are out
 

@@ -1,25 +1,16 @@
 -- The cells of a streamed table are texts in equally long rows, and its columns hold them.
-use Rattle.std.proofs.Common.{◌≡◌, ℕ, ◌+◌, ◌-◌, ◌<◌, List, [], length, replicate, inl, inr, refl, sym, ◌∙◌, ap, subst, arith, get_or}
-use Rattle.std.specs.List.{All, slice_index}
-use Rattle.std.specs.Str.{IsUtf8}
-use Rattle.std.proofs.lemmas.Bool.{cases_lt}
-use Rattle.std.proofs.lemmas.List.{get_or_append_left, get_or-append_right, get_or_past, get_or-replicate, length-replicate}
+use Rattle.tabled_table.proofs.Names.{AreTexts, CompactConfig, Holds, IsCutRow, IsRectangular, IsStreamed, IsUtf8, List, Sheet}
+use Rattle.tabled_table.proofs.Names.{SpannedConfig, StreamSettings, [], ap, arith, cases_lt, cell_at, column_count, columns, content_width}
+use Rattle.tabled_table.proofs.Names.{fits-none, get_or, get_or-append_right, get_or_append_left, get_or_past, inl, inr, length, refl}
+use Rattle.tabled_table.proofs.Names.{replicate, slice_index, spanned_of_compact, stream_width, style_at, subst, sym, text_columns, ℕ, ◌+◌}
+use Rattle.tabled_table.proofs.Names.{◌-◌, ◌<◌, ◌∙◌, ◌≡◌}
+use Rattle.std.specs.List.{All}
+use Rattle.std.proofs.lemmas.List.{get_or-replicate, length-replicate}
 use Rattle.std.proofs.lemmas.List.Elements.{All-from_get_or}
-use Rattle.tabled_text.specs.Measure.{text_columns}
 use Rattle.tabled_text.specs.Fitting.{FitsIn}
-use Rattle.tabled_text.proofs.FittingLaws.{fits-cut, fits-none}
-use Rattle.tabled_base.specs.Cells.{IsRectangular, cell_at, columns}
+use Rattle.tabled_text.proofs.FittingLaws.{fits-cut}
 use Rattle.tabled_base.proofs.Lengthening.{rectangular-from_length}
-use Rattle.tabled_config.specs.declared.compact.CompactConfig.{CompactConfig}
-use Rattle.tabled_config.specs.declared.spanned.SpannedConfig.{SpannedConfig}
-use Rattle.tabled_config.specs.Settings.{style_at}
-use Rattle.tabled_config.specs.Spanned.{spanned_of_compact}
 use Rattle.tabled_size.specs.Estimates.{needed_width}
-use Rattle.tabled_size.specs.Holds.{Holds}
-use Rattle.tabled_size.specs.Sheet.{Sheet}
-use Rattle.tabled_size.specs.TextCells.{AreTexts}
-use Rattle.tabled_table.specs.declared.iter_table.settings.StreamSettings.{StreamSettings}
-use Rattle.tabled_table.specs.Stream.Streamed.{IsCutRow, IsStreamed, column_count, content_width, stream_width}
 use Rattle.tabled_table.proofs.Stream.Measures.{length-cut}
 use Rattle.tabled_table.proofs.Stream.Widths.{listed}
 

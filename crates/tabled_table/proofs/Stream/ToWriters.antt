@@ -1,19 +1,14 @@
 -- Streams that are printed to a borrowed writer.
-use Rattle.std.proofs.Common.{◌≡◌, ℕ, Bool, List, Option, None, Result, Ok, Err, ◌∙◌, subst, inl, inr, ⊎_elim, map, refl}
-use Rattle.tabled_base.specs.declared.error.TableError.{TableError}
-use Rattle.tabled_base.specs.declared.error.TableError.TheVariants.{Memory, Range, Writer}
-use Rattle.tabled_config.specs.declared.compact.CompactConfig.{CompactConfig}
-use Rattle.tabled_line.specs.Sent.{Sent}
+use Rattle.tabled_table.proofs.Names.{ArePermitted, Bool, CompactConfig, Err, List, MayGive, Memory, None, Ok, Option, PrintsStream, Range}
+use Rattle.tabled_table.proofs.Names.{ReadsTo, Result, Sent, StopsBelow, StreamSettings, StreamStops, Streams, TableError, inl, inr, map}
+use Rattle.tabled_table.proofs.Names.{refl, subst, ℕ, ⊎_elim, ◌∙◌, ◌≡◌}
+use Rattle.tabled_base.specs.declared.error.TableError.TheVariants.{Writer}
 use Rattle.tabled_line.specs.WriterSent.{named_sent}
 use Rattle.tabled_line.proofs.Writers.{LeavesSo, byte_of, writer-leaves, writer-sends}
-use Rattle.tabled_table.specs.Stream.Printed.{StopsBelow}
-use Rattle.tabled_table.specs.declared.iter_table.settings.StreamSettings.{StreamSettings}
-use Rattle.tabled_table.specs.Stream.Streams.{BuildsStream, PrintsStream, StopsAtEnd, StopsAtRow, StopsEarly, StopsInRows, StreamStops}
-use Rattle.tabled_table.specs.Stream.Streams.{ArePermitted, Came, Streams}
+use Rattle.tabled_table.specs.Stream.Streams.{BuildsStream, StopsAtEnd, StopsAtRow, StopsEarly, StopsInRows, Came}
 use Rattle.std.specs.declared.option.Option.{Option}
 use Rattle.std.specs.Iterator.{Count}
 use Rattle.tabled_base.specs.RowsGiven.{RowsBegin, RowsEnd}
-use Rattle.tabled_records.specs.Reading.{MayGive, ReadsTo}
 
 not_range : (e : TableError) → e ≡ Range → e ≡ Writer → ⊥
 not_range e h k = cc

@@ -1,35 +1,23 @@
 -- The table of the first of some rows goes on to the table of all.
-use Rattle.std.proofs.Common.{◌≡◌, ℕ, ◌+◌, ◌-◌, ◌==◌, ◌<◌, ◌≤◌, ◌||◌, false, if◌then◌else◌, List, [], ◌∷◌, ◌++◌, length, map, replicate}
-use Rattle.std.proofs.Common.{Option, inl, inr, refl, sym, ◌∙◌, ap, subst, arith, get_or, append-nil, append_assoc, length-append, zero}
-use Rattle.std.proofs.Common.{suc, true, take, chars, encode_utf8_all, All}
-use Rattle.std.specs.List.{flat_map, join_with_byte, range_with_len, slice_index}
-use Rattle.std.proofs.lemmas.Bool.{cases_lt, and_parts, cases_eq}
-use Rattle.std.proofs.lemmas.List.{get_or_append_left, get_or-append_right, get_or-take, length-take}
-use Rattle.std.proofs.lemmas.List.FromFn.{length-map-range_with_len}
-use Rattle.tabled_base.specs.Cells.{columns, lengthened}
-use Rattle.tabled_config.specs.declared.borders.HorizontalLine.{HorizontalLine}
-use Rattle.tabled_config.specs.declared.compact.CompactConfig.{CompactConfig}
-use Rattle.tabled_config.specs.Settings.{frame, rule_at, style_at}
-use Rattle.tabled_grid.specs.Picture.{columns_of, filled_picture, picture, row_part, rule}
-use Rattle.tabled_line.specs.Fill.{fill}
-use Rattle.tabled_line.specs.Leading.{begun_after, lines_after}
-use Rattle.tabled_line.specs.Row.{ColumnSheet, row_lines, rule_if}
+use Rattle.tabled_table.proofs.Names.{AreTexts, ColumnSheet, CompactConfig, HorizontalLine, IsCut, IsCutRow, IsStreamed, IsUtf8, List}
+use Rattle.tabled_table.proofs.Names.{Option, Sheet, StreamSettings, [], ap, append-nil, append_assoc, arith, cases_lt, column_count}
+use Rattle.tabled_table.proofs.Names.{columns, columns_of, content_width, false, fill, filled_picture, filled_width, flat_map, frame}
+use Rattle.tabled_table.proofs.Names.{get_or, get_or-append_right, get_or-take, get_or_append_left, if◌then◌else◌, inl, inr, is_empty}
+use Rattle.tabled_table.proofs.Names.{join_with_byte, length, length-append, length-map-range_with_len, length-take, lengthened}
+use Rattle.tabled_table.proofs.Names.{lines_above, lines_after, lines_after-append, lines_after-joined, map, picture, range_with_len, refl}
+use Rattle.tabled_table.proofs.Names.{replicate, row_lines, row_part, rule, rule_at, rule_if, slice_index, stream_height, style_at, subst}
+use Rattle.tabled_table.proofs.Names.{suc, sym, take, true, zero, ℕ, ◌++◌, ◌+◌, ◌-◌, ◌<◌, ◌==◌, ◌||◌, ◌∙◌, ◌∷◌, ◌≡◌, ◌≤◌}
+use Rattle.std.proofs.Common.{chars, encode_utf8_all, All}
+use Rattle.std.proofs.lemmas.Bool.{and_parts, cases_eq}
+use Rattle.tabled_line.specs.Leading.{begun_after}
 use Rattle.tabled_line.proofs.Each.{each-rest}
-use Rattle.tabled_line.proofs.Leading.{lines_after-append, lines_after-joined}
-use Rattle.tabled_size.specs.Sheet.{Sheet, is_empty}
-use Rattle.tabled_size.specs.TextCells.{AreTexts}
-use Rattle.tabled_size.specs.Totals.{filled_width}
-use Rattle.tabled_table.specs.declared.iter_table.settings.StreamSettings.{StreamSettings}
 use Rattle.tabled_table.specs.Stream.GoesOn.{GoesOn}
-use Rattle.tabled_table.specs.Stream.Printed.{lines_above}
-use Rattle.tabled_table.specs.Stream.Streamed.{IsCutRow, IsStreamed, column_count, content_width, stream_height}
 use Rattle.tabled_table.proofs.Stream.Measures.{flat_map-same, not-zero, rule-above}
 use Rattle.tabled_table.proofs.Stream.StreamedTexts.{streamed_columns}
 use Rattle.tabled_table.proofs.Stream.Widths.{listed}
-use Rattle.std.specs.Str.{IsUtf8}
 use Rattle.std.proofs.lemmas.Str.{chars-encodes, chars-nil}
 use lib.Utf8.{scalar, scalars}
-use Rattle.tabled_text.specs.Cut.{IsCut, IsParted}
+use Rattle.tabled_text.specs.Cut.{IsParted}
 use Rattle.tabled_text.specs.Measure.{char_count}
 use Rattle.tabled_text.proofs.CutLemmas.{IsCut-filled, IsParted-end, IsParted-full, IsParted-wide, Walked, Walked-feed, Walked-push}
 use Rattle.tabled_text.proofs.CutLemmas.{Walked-start}

@@ -1,20 +1,11 @@
 -- Widths that are listed and summed up.
-use Rattle.std.proofs.Common.{◌≡◌, ℕ, zero, suc, ◌+◌, ◌-◌, ◌*◌, ◌<◌, ◌≤◌, ◌^◌, List, [], ◌∷◌, length, map, min, Option, Some, None, MatchOption, refl, sym, ◌∙◌, ap, arith, get_or, zero-add}
-use Rattle.std.specs.List.{range_with_len, slice_index}
-use Rattle.std.proofs.lemmas.List.FromFn.{get_or-map-range_with_len}
-use Rattle.tabled_config.specs.declared.frame.Frame.{Frame}
-use Rattle.tabled_config.specs.Settings.{frame}
-use Rattle.tabled_config.specs.Spanned.{spanned_of_compact}
-use Rattle.tabled_config.specs.declared.compact.CompactConfig.{CompactConfig}
-use Rattle.tabled_priority.specs.Sums.{one_if, sum_below}
-use Rattle.tabled_priority.proofs.Sums.{sum_step}
-use Rattle.tabled_size.specs.Totals.{filled_width}
-use Rattle.tabled_table.specs.declared.iter_table.layout.Layout.{Layout}
-use Rattle.tabled_table.specs.declared.iter_table.settings.StreamSettings.{StreamSettings}
-use Rattle.tabled_table.specs.Stream.Progress.{IsLaidOut}
-use Rattle.tabled_table.specs.Stream.Row.{layout_total, width_at}
-use Rattle.tabled_table.specs.Stream.Streamed.{column_count, stream_width, stream_widths}
-use Rattle.tabled_table.specs.Stream.Streams.{stream_total}
+use Rattle.tabled_table.proofs.Names.{CompactConfig, Frame, IsLaidOut, Layout, List, MatchOption, None, Option, Some, StreamSettings, []}
+use Rattle.tabled_table.proofs.Names.{ap, arith, column_count, filled_width, frame, get_or, get_or-map-range_with_len, length, map, min}
+use Rattle.tabled_table.proofs.Names.{range_with_len, refl, slice_index, spanned_of_compact, stream_total, stream_width, stream_widths, suc}
+use Rattle.tabled_table.proofs.Names.{sum_below, sum_step, sym, width_at, zero, ℕ, ◌*◌, ◌+◌, ◌-◌, ◌<◌, ◌^◌, ◌∙◌, ◌∷◌, ◌≡◌, ◌≤◌}
+use Rattle.std.proofs.Common.{zero-add}
+use Rattle.tabled_priority.specs.Sums.{one_if}
+use Rattle.tabled_table.specs.Stream.Row.{layout_total}
 
 pub listed : (f : ℕ → ℕ) (n k : ℕ) → k < n → slice_index (map f (range_with_len 0 n)) k ≡ f k
 listed f n k h = get_or-map-range_with_len f 0 n k k 0 h (zero-add k)

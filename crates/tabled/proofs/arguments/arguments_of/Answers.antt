@@ -1,4 +1,4 @@
-use Rattle.std.proofs.Common.{string_bytes, sym, ◌∙◌}
+use Rattle.tabled.proofs.Names.{string_bytes, sym, ◌∙◌}
 use Rattle.tabled.proofs.Noting.{reads_all, reads_more, reads_no_more, reads_twice, map_nothing, map_something}
 use Rattle.tabled.proofs.arguments.arguments_of.Goals as goal
 

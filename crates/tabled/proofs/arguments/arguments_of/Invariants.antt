@@ -1,4 +1,4 @@
-use Rattle.std.proofs.Common.{map, string_bytes, length}
+use Rattle.tabled.proofs.Names.{length, map, string_bytes}
 use Rattle.tabled.proofs.Noting.{ReadsTo}
 use Rattle.tabled.proofs.arguments.arguments_of.Given as goal
 

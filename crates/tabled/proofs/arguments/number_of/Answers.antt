@@ -1,5 +1,4 @@
-use Rattle.std.proofs.Common.{◌≡◌, ◌<◌, ◌^◌, refl}
-use Rattle.std.specs.Str.Parse.{digits_value}
+use Rattle.tabled.proofs.Names.{digits_value, refl, ◌<◌, ◌^◌, ◌≡◌}
 use Rattle.tabled.proofs.Noting.{decimals, not_empty}
 use Rattle.std.proofs.lemmas.Str.Parse.{parse_gives}
 use Rattle.tabled.proofs.arguments.number_of.Goals as goal

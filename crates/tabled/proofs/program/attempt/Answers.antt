@@ -1,6 +1,5 @@
-use Rattle.std.proofs.Common.{inr, map}
+use Rattle.tabled.proofs.Names.{fault_of, inr, map}
 use Rattle.std.specs.Prelude.{string_bytes}
-use Rattle.tabled.specs.Faults.{fault_of}
 use Rattle.tabled.proofs.Outputs.{failed_by, if_failed}
 use Rattle.tabled.proofs.program.attempt.Goals as goal
 

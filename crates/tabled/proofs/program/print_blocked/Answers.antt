@@ -1,9 +1,5 @@
-use Rattle.std.proofs.Common.{Result, Ok, Err, refl}
-use Rattle.tabled_base.specs.declared.error.TableError.{TableError}
-use Rattle.tabled_grid.specs.Picture.{table_text}
-use Rattle.tabled_line.proofs.Sending.{finished, sends-along}
-use Rattle.tabled.specs.BlockSent.{block, sent_since}
-use Rattle.tabled.specs.Output.{PutsOutput, with_feed}
+use Rattle.tabled.proofs.Names.{Err, Ok, PutsOutput, Result, TableError, block, refl, sends-along, sent_since, table_text, with_feed}
+use Rattle.tabled_line.proofs.Sending.{finished}
 use Rattle.tabled.proofs.BytesSince.{puts_writes}
 use Rattle.tabled.proofs.Outputs.{either_output, output_of, output_refused, since_put, feed_none, feed_some}
 use Rattle.tabled.proofs.program.print_blocked.Goals as goal

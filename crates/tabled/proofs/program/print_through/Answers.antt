@@ -1,8 +1,6 @@
-use Rattle.std.proofs.Common.{◌≡◌, [], IfSome, OnOk, ap, ◌∙◌, rules, subst, sym}
-use Rattle.std.specs.Prelude.{MatchResult, string_bytes}
-use Rattle.tabled_line.specs.Sent.{Writes}
-use Rattle.tabled.specs.BlockSent.{Advances, block, block_sent, waiting}
-use Rattle.tabled.specs.Output.{IsBegunOn, IsOutput, Puts, PutsOutput}
+use Rattle.tabled.proofs.Names.{Advances, IfSome, IsBegunOn, IsOutput, MatchResult, OnOk, Puts, PutsOutput, Writes, [], ap, block}
+use Rattle.tabled.proofs.Names.{block_sent, rules, subst, sym, waiting, ◌∙◌, ◌≡◌}
+use Rattle.std.specs.Prelude.{string_bytes}
 use Rattle.tabled.proofs.Outputs.{either_output}
 use Rattle.tabled.proofs.BytesSince.{ended_begun, ended_put, puts_err, puts_from}
 use Rattle.tabled.proofs.program.print_through.Goals as goal

@@ -1,4 +1,4 @@
-use Rattle.std.proofs.Common.{[]}
+use Rattle.tabled.proofs.Names.{[]}
 use Rattle.std.specs.Prelude.{unwrap_or}
 use Rattle.tabled.proofs.program.print_through.Given as goal
 

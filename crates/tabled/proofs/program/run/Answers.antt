@@ -1,4 +1,4 @@
-use Rattle.std.proofs.Common.{◌≡◌, Err, ap, refl}
+use Rattle.tabled.proofs.Names.{Err, ap, refl, ◌≡◌}
 use Rattle.tabled.specs.declared.fault.Fault.TheVariants.{Usage}
 use Rattle.tabled.proofs.program.run.Goals as goal
 

@@ -1,5 +1,4 @@
-use Rattle.std.proofs.Common.{length}
-use Rattle.tabled.specs.Output.{IsPartlyWritten}
+use Rattle.tabled.proofs.Names.{IsPartlyWritten, length}
 use Rattle.tabled.proofs.program.write_once.Given as goal
 
 abbrev pub invariant-taken : goal.invariant-taken

@@ -1,8 +1,4 @@
-use Rattle.std.proofs.Common.{◌≡◌, true, subst, arith}
-use Rattle.std.specs.List.{AllPass}
-use Rattle.std.proofs.lemmas.List.Elements.{All-from_get_or}
-use Rattle.std.proofs.lemmas.List.Sums.{list_all-from_AllPass}
-use Rattle.tabled.specs.Planned.{is_plain_byte}
+use Rattle.tabled.proofs.Names.{All-from_get_or, AllPass, arith, is_plain_byte, list_all-from_AllPass, subst, true, ◌≡◌}
 use Rattle.tabled.proofs.rendering.is_plain_text.Goals as goal
 
 pub returns : goal.returns

@@ -1,5 +1,4 @@
-use Rattle.std.proofs.Common.{◌≡◌, ◌-◌, ◌<◌, ◌≤◌, ℕ, length, get_or, true}
-use Rattle.tabled.specs.Planned.{is_plain_byte}
+use Rattle.tabled.proofs.Names.{get_or, is_plain_byte, length, true, ℕ, ◌-◌, ◌<◌, ◌≡◌, ◌≤◌}
 use Rattle.tabled.proofs.rendering.is_plain_text.Given as goal
 
 abbrev pub invariant-runs : goal.invariant-runs

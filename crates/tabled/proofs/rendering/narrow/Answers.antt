@@ -1,21 +1,8 @@
-use Rattle.std.proofs.Common.{◌≡◌, ◌∙◌, [], None, Some, ap, arith, false, refl, rules, subst, sym, ⊎_elim}
+use Rattle.tabled.proofs.Names.{AreCleared, Buffered, Cut, IsMade, Narrows, None, Plan, Row, Sheet, Shortened, Shrinks, Some, SpannedConfig}
+use Rattle.tabled.proofs.Names.{TruncatesAsPromised, Wrapped, WrapsAsPromised, [], ap, arith, effective, effective_estimated, estimated}
+use Rattle.tabled.proofs.Names.{false, if_wider, measured, refl, rules, subst, sym, truncating, ⊎_elim, ◌∙◌, ◌≡◌}
 use Rattle.std.proofs.lemmas.Grind.{common_steps}
-use Rattle.tabled_base.specs.declared.position.Entity.TheVariants.{Row}
-use Rattle.tabled_set.specs.CellChanges.{if_wider, truncating}
-use Rattle.tabled_set.specs.declared.truncate.SuffixLimit.TheVariants.{Cut}
 use Rattle.tabled_config.specs.declared.colored.ColoredConfig.{ColoredConfig}
-use Rattle.tabled_config.specs.declared.spanned.SpannedConfig.{SpannedConfig}
-use Rattle.tabled_set.specs.Narrowed.{Narrows}
-use Rattle.tabled_set.specs.Promised.{TruncatesAsPromised, WrapsAsPromised}
-use Rattle.tabled_grid.proofs.EffectiveSizes.{effective_estimated}
-use Rattle.tabled_size.specs.Cleared.{AreCleared}
-use Rattle.tabled_size.specs.Sheet.{Sheet, estimated}
-use Rattle.tabled_size.specs.Effective.{effective}
-use Rattle.tabled.specs.declared.plan.Plan.{Plan}
-use Rattle.tabled.specs.declared.plan.Plan.TheVariants.{Buffered, Wrapped, Shortened}
-use Rattle.tabled.specs.Planned.{measured}
-use Rattle.tabled.specs.Rendered.{IsMade}
-use Rattle.tabled.specs.Orders.{Shrinks}
 use Rattle.tabled.proofs.FittedTables.{passes, truncated, wrapped}
 use Rattle.tabled.proofs.RenderedTables.{buffered_made, range_only}
 use Rattle.tabled.proofs.rendering.narrow.Goals as goal

@@ -1,13 +1,5 @@
-use Rattle.std.proofs.Common.{◌≡◌, ap, subst, sym, true, ⊎_elim}
-use Rattle.tabled_base.specs.Cells.{IsRectangular}
-use Rattle.tabled_config.specs.declared.spanned.SpannedConfig.{SpannedConfig}
-use Rattle.tabled_grid.specs.Printed.{Prints}
-use Rattle.tabled_size.specs.Sheet.{estimated}
-use Rattle.tabled_size.specs.TextCells.{AreTexts}
-use Rattle.tabled.specs.declared.plan.Plan.{Plan}
-use Rattle.tabled.specs.declared.plan.Plan.TheVariants.{Buffered}
-use Rattle.tabled.specs.Planned.{Cells, measured}
-use Rattle.tabled.specs.Rendered.{IsRenderedOf}
+use Rattle.tabled.proofs.Names.{AreTexts, Buffered, Cells, IsRectangular, IsRenderedOf, Plan, Prints, SpannedConfig, ap, estimated}
+use Rattle.tabled.proofs.Names.{measured, subst, sym, true, ⊎_elim, ◌≡◌}
 use Rattle.tabled.proofs.RenderedTables.{buffered_made, prints_made}
 use Rattle.tabled.proofs.rendering.print_measured.Goals as goal
 

@@ -1,10 +1,4 @@
-use Rattle.std.proofs.Common.{not, subst}
-use Rattle.tabled_config.specs.declared.spanned.SpannedConfig.{SpannedConfig}
-use Rattle.tabled_grid.specs.Printed.{Prints}
-use Rattle.tabled_size.specs.Effective.{effective}
-use Rattle.tabled_size.specs.Sheet.{estimated}
-use Rattle.tabled_size.specs.Stored.{is_stored}
-use Rattle.tabled.specs.Planned.{measured}
+use Rattle.tabled.proofs.Names.{Prints, SpannedConfig, effective, estimated, is_stored, measured, not, subst}
 use Rattle.tabled.proofs.RenderedTables.{prints_made}
 use Rattle.tabled.proofs.rendering.print_narrowed.Goals as goal
 

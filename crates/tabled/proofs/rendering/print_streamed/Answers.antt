@@ -1,13 +1,6 @@
-use Rattle.std.proofs.Common.{◌≡◌, ◌∙◌, Some, ap, inl, inr, not, subst, true, unwrap_or, ⊎_elim}
-use Rattle.tabled_grid.specs.Printed.{Prints}
+use Rattle.tabled.proofs.Names.{AreChanged, IsBestOf, IsPlannedOf, Prints, Sheet, Some, Streamed, ap, cut_to, estimated, estimated_heights}
+use Rattle.tabled.proofs.Names.{estimated_widths, inl, inr, is_stored, not, subst, true, unwrap_or, ⊎_elim, ◌∙◌, ◌≡◌}
 use Rattle.tabled_set.proofs.ChangingCells.{columns-changed}
-use Rattle.tabled_set.specs.CellChanges.{AreChanged}
-use Rattle.tabled_size.specs.Estimates.{estimated_heights, estimated_widths}
-use Rattle.tabled_size.specs.Sheet.{Sheet, estimated}
-use Rattle.tabled_size.specs.Stored.{is_stored}
-use Rattle.tabled.specs.declared.plan.Plan.TheVariants.{Streamed}
-use Rattle.tabled.specs.Headline.{IsBestOf}
-use Rattle.tabled.specs.Planned.{IsPlannedOf, cut_to}
 use Rattle.tabled.proofs.FittedTables.{sized_by}
 use Rattle.tabled.proofs.RenderedTables.{prints_made, refused_early}
 use Rattle.tabled.proofs.StreamedTables.{cut-changed, filled_in, not_estimated, streamed_made, widths_read}

@@ -1,16 +1,5 @@
-use Rattle.std.proofs.Common.{◌≡◌, ◌∙◌, Ok, Result, refl, subst, sym}
-use Rattle.tabled_base.specs.Cells.{IsRectangular}
-use Rattle.tabled_base.specs.declared.error.TableError.{TableError}
-use Rattle.tabled_line.specs.Sent.{Sent}
-use Rattle.tabled_records.specs.TextRows.{text_rows}
-use Rattle.tabled_config.specs.declared.spanned.SpannedConfig.{SpannedConfig}
-use Rattle.tabled_size.specs.Sheet.{estimated}
-use Rattle.tabled_table.specs.NewConfig.{new_config}
-use Rattle.tabled_size.specs.TextCells.{AreTexts}
-use Rattle.tabled.specs.Planned.{Cells, measured}
-use Rattle.tabled.specs.Rendered.{IsRendered, IsRenderedOf}
-use Rattle.tabled.specs.declared.plan.Plan.{Plan}
-use Rattle.tabled.specs.declared.plan.Plan.TheVariants.{Streamed}
+use Rattle.tabled.proofs.Names.{AreTexts, Cells, IsRectangular, IsRendered, IsRenderedOf, Ok, Plan, Result, Sent, SpannedConfig, Streamed}
+use Rattle.tabled.proofs.Names.{TableError, estimated, measured, new_config, refl, subst, sym, text_rows, ◌∙◌, ◌≡◌}
 use Rattle.tabled.proofs.PlainTexts.{rendered_measured}
 use Rattle.tabled.proofs.RenderedTables.{only_rendered, rendered_empty, rendered_new}
 use Rattle.tabled.proofs.Outputs.{text_empty, text_rectangular, texts_of_text}

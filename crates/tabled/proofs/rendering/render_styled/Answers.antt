@@ -1,10 +1,5 @@
-use Rattle.std.proofs.Common.{Ok, refl, subst, sym}
-use Rattle.tabled_base.specs.Cells.{IsRectangular}
-use Rattle.tabled_records.specs.TextRows.{text_rows}
+use Rattle.tabled.proofs.Names.{AreTexts, IsRectangular, Ok, measured, new_config, refl, subst, sym, text_rows}
 use Rattle.tabled_config.specs.Options.{with_style}
-use Rattle.tabled_size.specs.TextCells.{AreTexts}
-use Rattle.tabled_table.specs.NewConfig.{new_config}
-use Rattle.tabled.specs.Planned.{measured}
 use Rattle.tabled.proofs.RenderedTables.{empty_rendered}
 use Rattle.tabled.proofs.Outputs.{text_empty, text_rectangular, texts_of_text}
 use Rattle.tabled.proofs.rendering.render_styled.Goals as goal

@@ -1,4 +1,4 @@
-use Rattle.std.proofs.Common.{◌≡◌, ◌-◌, length, ◌∙◌, arith}
+use Rattle.tabled_base.proofs.Names.{arith, length, ◌-◌, ◌∙◌, ◌≡◌}
 use Rattle.tabled_base.proofs.Lengthening.{lengthened-same}
 use Rattle.tabled_base.proofs.builder.lengthen_row.Goals as goal
 

@@ -1,6 +1,4 @@
-use Rattle.std.proofs.Common.{◌≡◌, ◌≤◌, max, length}
-use Rattle.std.specs.Vec.{vec_capacity}
-use Rattle.tabled_base.specs.Cells.{lengthened}
+use Rattle.tabled_base.proofs.Names.{length, lengthened, max, vec_capacity, ◌≡◌, ◌≤◌}
 use Rattle.tabled_base.proofs.builder.lengthen_row.Given as goal
 
 abbrev pub invariant-loop-column : goal.invariant-loop-column

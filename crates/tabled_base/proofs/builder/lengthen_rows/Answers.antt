@@ -1,9 +1,5 @@
-use Rattle.std.proofs.Common.{◌≡◌, ◌<◌, ◌≤◌, [], length, slice_index_or, ap, ◌∙◌, arith}
-use Rattle.std.specs.Vec.{vec_capacity}
-use Rattle.std.proofs.Math.ListN.{set}
-use Rattle.std.proofs.lemmas.List.{length-map}
-use Rattle.std.proofs.lemmas.List.Elements.{All-set}
-use Rattle.tabled_base.specs.Cells.{lengthened, texts_of}
+use Rattle.tabled_base.proofs.Names.{All-set, [], ap, arith, length, length-map, lengthened, set, slice_index_or, texts_of, vec_capacity}
+use Rattle.tabled_base.proofs.Names.{◌<◌, ◌∙◌, ◌≡◌, ◌≤◌}
 use Rattle.tabled_base.proofs.Lengthening.{mapped, mapped-more, mapped-all}
 use Rattle.tabled_base.proofs.RowLemmas.{texts_lengthened}
 use Rattle.tabled_base.proofs.builder.lengthen_rows.Goals as goal

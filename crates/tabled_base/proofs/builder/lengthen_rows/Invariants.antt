@@ -1,6 +1,4 @@
-use Rattle.std.proofs.Common.{◌≡◌, ◌≤◌, All}
-use Rattle.std.specs.Vec.{vec_capacity}
-use Rattle.tabled_base.specs.Cells.{texts_of, lengthened}
+use Rattle.tabled_base.proofs.Names.{All, lengthened, texts_of, vec_capacity, ◌≡◌, ◌≤◌}
 use Rattle.tabled_base.proofs.Lengthening.{mapped}
 use Rattle.tabled_base.proofs.builder.lengthen_rows.Given as goal
 

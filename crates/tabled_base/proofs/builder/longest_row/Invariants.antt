@@ -1,5 +1,4 @@
-use Rattle.std.proofs.Common.{◌≡◌, max, drop}
-use Rattle.tabled_base.specs.Cells.{longest, row_texts}
+use Rattle.tabled_base.proofs.Names.{drop, longest, max, row_texts, ◌≡◌}
 use Rattle.tabled_base.proofs.builder.longest_row.Given as goal
 
 abbrev pub invariant-loop-row : goal.invariant-loop-row

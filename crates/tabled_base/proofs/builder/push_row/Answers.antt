@@ -1,6 +1,5 @@
-use Rattle.std.proofs.Common.{◌≡◌, ◌++◌, ◌∷◌, [], ◌∙◌, ap, arith, map, max, length, sym}
-use Rattle.std.proofs.lemmas.List.{map-append, map-id}
-use Rattle.tabled_base.specs.Cells.{columns, lengthened, row_texts}
+use Rattle.tabled_base.proofs.Names.{[], ap, arith, columns, length, lengthened, map, map-append, map-id, max, row_texts, sym, ◌++◌, ◌∙◌}
+use Rattle.tabled_base.proofs.Names.{◌∷◌, ◌≡◌}
 use Rattle.tabled_base.proofs.LengthenedRows.{written_back}
 use Rattle.tabled_base.proofs.Lengthening.{lengthened-rectangular}
 use Rattle.tabled_base.proofs.builder.push_row.Goals.{then-before-columns+in_ok-reserve_rows, else-before-columns}

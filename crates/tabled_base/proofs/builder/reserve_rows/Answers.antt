@@ -1,8 +1,4 @@
-use Rattle.std.proofs.Common.{ℕ, List, ◌∙◌, ap, arith, vec_len}
-use Rattle.std.specs.Vec.{vec_capacity}
-use Rattle.std.specs.declared.alloc.Global.{Global}
-use Rattle.std.specs.declared.vec.Vec.{Vec}
-use Rattle.tabled_base.specs.Cells.{row_texts}
+use Rattle.tabled_base.proofs.Names.{Global, List, Vec, ap, arith, row_texts, vec_capacity, vec_len, ℕ, ◌∙◌}
 use Rattle.tabled_base.proofs.RowLemmas.{texts_kept, roomy-more, short_row}
 use Rattle.tabled_base.proofs.Lengthening.{on-err}
 use Rattle.tabled_base.proofs.builder.reserve_rows.Goals as goal

@@ -1,8 +1,4 @@
-use Rattle.std.proofs.Common.{◌≡◌, ℕ, ◌<◌, ◌≤◌, List, slice_index_or}
-use Rattle.std.specs.Vec.{vec_capacity}
-use Rattle.std.specs.declared.vec.Vec.{Vec}
-use Rattle.std.specs.declared.alloc.Global.{Global}
-use Rattle.tabled_base.specs.Cells.{texts_of}
+use Rattle.tabled_base.proofs.Names.{Global, List, Vec, slice_index_or, texts_of, vec_capacity, ℕ, ◌<◌, ◌≡◌, ◌≤◌}
 use Rattle.tabled_base.proofs.builder.reserve_rows.Given as goal
 
 abbrev pub invariant-loop-row : goal.invariant-loop-row

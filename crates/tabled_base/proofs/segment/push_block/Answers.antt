@@ -1,6 +1,4 @@
-use Rattle.std.proofs.Common.{◌++◌, map, sym, ap, ◌∙◌, arith, append_assoc}
-use Rattle.tabled_base.specs.Picks.{between, block}
-use Rattle.tabled_base.specs.declared.position.Entity.TheVariants.{Cell}
+use Rattle.tabled_base.proofs.Names.{Cell, ap, append_assoc, arith, between, block, map, sym, ◌++◌, ◌∙◌}
 use Rattle.tabled_base.proofs.Lengthening.{on-err}
 use Rattle.tabled_base.proofs.PickedCells.{between-end, block-more, block-some}
 use Rattle.tabled_base.proofs.segment.push_block.Goals as goal

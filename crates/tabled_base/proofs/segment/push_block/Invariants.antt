@@ -1,5 +1,4 @@
-use Rattle.std.proofs.Common.{◌≡◌, ◌≤◌, ◌++◌, max}
-use Rattle.tabled_base.specs.Picks.{between, block}
+use Rattle.tabled_base.proofs.Names.{between, block, max, ◌++◌, ◌≡◌, ◌≤◌}
 use Rattle.tabled_base.proofs.segment.push_block.Given as goal
 
 abbrev pub invariant-loop-row : goal.invariant-loop-row

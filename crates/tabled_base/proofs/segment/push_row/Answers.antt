@@ -1,6 +1,4 @@
-use Rattle.std.proofs.Common.{◌++◌, [], ◌∷◌, map, sym, ap, ◌∙◌, arith, append_assoc}
-use Rattle.tabled_base.specs.Picks.{between}
-use Rattle.tabled_base.specs.declared.position.Entity.TheVariants.{Cell}
+use Rattle.tabled_base.proofs.Names.{Cell, [], ap, append_assoc, arith, between, map, sym, ◌++◌, ◌∙◌, ◌∷◌}
 use Rattle.tabled_base.proofs.PickedCells.{between-end, map-between_more}
 use Rattle.tabled_base.proofs.segment.push_row.Goals as goal
 

@@ -1,6 +1,4 @@
-use Rattle.std.proofs.Common.{◌≡◌, ◌≤◌, ◌++◌, map, max}
-use Rattle.tabled_base.specs.Picks.{between}
-use Rattle.tabled_base.specs.declared.position.Entity.TheVariants.{Cell}
+use Rattle.tabled_base.proofs.Names.{Cell, between, map, max, ◌++◌, ◌≡◌, ◌≤◌}
 use Rattle.tabled_base.proofs.segment.push_row.Given as goal
 
 abbrev pub invariant-loop-column : goal.invariant-loop-column

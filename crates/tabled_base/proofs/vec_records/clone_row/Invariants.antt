@@ -1,4 +1,4 @@
-use Rattle.std.proofs.Common.{◌≡◌, take}
+use Rattle.tabled_base.proofs.Names.{take, ◌≡◌}
 use Rattle.tabled_base.proofs.vec_records.clone_row.Given as goal
 
 abbrev pub invariant-loop-cell : goal.invariant-loop-cell

@@ -1,6 +1,6 @@
-use Rattle.std.proofs.Common.{inl, inr, refl, rules, string_bytes, subst, sym}
-use Rattle.tabled_c.specs.declared.error_code.ErrorCode.TheVariants.{NoPlan, NoText, Range}
-use Rattle.tabled_c.specs.Printed.{IsAsked, IsTable}
+use Rattle.tabled_c.proofs.Names.{IsAsked, IsTable, NoText, inl, inr, refl, subst}
+use Rattle.std.proofs.Common.{rules, string_bytes, sym}
+use Rattle.tabled_c.specs.declared.error_code.ErrorCode.TheVariants.{NoPlan, Range}
 use Rattle.tabled_c.proofs.Given.{given, passed, text_sent}
 use Rattle.tabled_c.proofs.exports.fanlightnard_print.Goals as goal
 

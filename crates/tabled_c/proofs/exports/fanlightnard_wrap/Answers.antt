@@ -1,5 +1,4 @@
-use Rattle.std.proofs.Common.{inr, refl}
-use Rattle.tabled_c.specs.declared.error_code.ErrorCode.TheVariants.{NoText}
+use Rattle.tabled_c.proofs.Names.{NoText, inr, refl}
 use Rattle.tabled_c.proofs.exports.fanlightnard_wrap.Goals as goal
 
 pub returns-in_default : goal.returns-in_default

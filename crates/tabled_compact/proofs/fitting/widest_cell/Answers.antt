@@ -1,4 +1,4 @@
-use Rattle.std.proofs.Common.{◌<◌, length, arith}
+use Rattle.tabled_compact.proofs.Names.{arith, length, ◌<◌}
 use Rattle.tabled_compact.proofs.FittingLemmas.{widest_cell-next}
 use Rattle.tabled_compact.proofs.fitting.widest_cell.Goals as goal
 

@@ -1,5 +1,4 @@
-use Rattle.std.proofs.Common.{◌≡◌, map, take}
-use Rattle.tabled_compact.specs.Fitting.{widest_cell}
+use Rattle.tabled_compact.proofs.Names.{map, take, widest_cell, ◌≡◌}
 use Rattle.tabled_compact.proofs.fitting.widest_cell.Given as goal
 
 abbrev pub invariant-rows : goal.invariant-rows

@@ -1,8 +1,7 @@
-use Rattle.std.proofs.Common.{◌≡◌, ◌⊎◌, [], false, true, refl, inl, inr, arith}
-use Rattle.tabled_compact.specs.CompactCells.{sheet_by}
-use Rattle.tabled_compact.specs.Shown.{IsSpent}
+use Rattle.tabled_compact.proofs.Names.{IsSpent, [], arith, false, inl, inr, refl, sheet_by, true, ◌≡◌, ◌⊎◌}
 use Rattle.tabled_compact.proofs.Printings.{prints-nothing, prints-refused}
-use Rattle.tabled_compact.proofs.print.print_compact.Goals.{then-columns-eq0-via-then-columns-eq0, then-columns-eq0-via-else-columns-eq0+then-is_spent}
+use Rattle.tabled_compact.proofs.print.print_compact.Goals.{then-columns-eq0-via-then-columns-eq0}
+use Rattle.tabled_compact.proofs.print.print_compact.Goals.{then-columns-eq0-via-else-columns-eq0+then-is_spent}
 use Rattle.tabled_compact.proofs.print.print_compact.Goals as goal
 
 pub returns-then-columns-eq0 : goal.returns-then-columns-eq0

@@ -1,7 +1,6 @@
-use Rattle.std.proofs.Common.{◌≡◌, ◌+◌, ◌≤◌, [], ◌∷◌, ◌++◌, Some, true, length, length-append, map, arith, refl}
-use Rattle.std.proofs.iter.Next.{Yields-more}
-use Rattle.std.proofs.lemmas.List.Elements.{All-pop}
-use Rattle.std.specs.Iterator.{IsFiniteIterable}
+use Rattle.tabled_compact.proofs.Names.{All-pop, IsFiniteIterable, Some, Yields-more, [], arith, length, map, refl, true, ◌++◌, ◌+◌, ◌∷◌}
+use Rattle.tabled_compact.proofs.Names.{◌≡◌, ◌≤◌}
+use Rattle.std.proofs.Common.{length-append}
 use Rattle.tabled_compact.proofs.SoFar.{rows-begin, rows-stop, so_far-more}
 use Rattle.tabled_compact.proofs.print.refuse.Goals as goal
 

@@ -1,4 +1,4 @@
-use Rattle.std.proofs.Common.{◌≡◌, ◌+◌, length}
+use Rattle.tabled_compact.proofs.Names.{length, ◌+◌, ◌≡◌}
 use Rattle.tabled_compact.proofs.SoFar.{SoFar}
 use Rattle.tabled_compact.proofs.print.refuse.Given as goal
 

@@ -1,5 +1,5 @@
-use Rattle.std.proofs.Common.{◌≡◌, ◌≢◌, ℕ, ◌+◌, ◌-◌, ◌*◌, ◌≤◌, MatchOption, ap, arith, subst, sym, ◌∙◌}
-use Rattle.tabled_priority.specs.Sums.{sum_below}
+use Rattle.tabled_compact.proofs.Names.{ap, arith, subst, sum_below, sym, ℕ, ◌*◌, ◌+◌, ◌-◌, ◌∙◌, ◌≡◌, ◌≤◌}
+use Rattle.std.proofs.Common.{◌≢◌, MatchOption}
 use Rattle.tabled_compact.proofs.Alike.{sum-alike}
 use Rattle.tabled_compact.proofs.total.sum_widths.Goals as goal
 

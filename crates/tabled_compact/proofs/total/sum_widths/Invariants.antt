@@ -1,5 +1,4 @@
-use Rattle.std.proofs.Common.{◌≡◌}
-use Rattle.tabled_priority.specs.Sums.{sum_below}
+use Rattle.tabled_compact.proofs.Names.{sum_below, ◌≡◌}
 use Rattle.tabled_compact.proofs.total.sum_widths.Given as goal
 
 abbrev pub invariant-columns : goal.invariant-columns

@@ -1,7 +1,7 @@
-use Rattle.std.proofs.Common.{◌∙◌, ◌∷◌, [], ◌+◌, ◌≡◌, ◌<◌, suc, ap, arith, get_or, length, reverse, subst, sym, take}
+use Rattle.tabled_entity.proofs.Names.{IsIndexed, [], ap, arith, get_or, length, reverse, reverse-append, subst, suc, sym, take, ◌+◌, ◌<◌}
+use Rattle.tabled_entity.proofs.Names.{◌∙◌, ◌∷◌, ◌≡◌}
 use Rattle.std.proofs.Math.Seq.{take-suc}
-use Rattle.std.proofs.lemmas.List.{length-take-le, reverse-append}
-use Rattle.tabled_entity.specs.ChangeIndex.{IsIndexed}
+use Rattle.std.proofs.lemmas.List.{length-take-le}
 use Rattle.tabled_entity.proofs.Indexed.{indexed-more, item-part}
 use Rattle.tabled_entity.proofs.entity_map.index_of.Goals as goal
 

@@ -1,5 +1,4 @@
-use Rattle.std.proofs.Common.{reverse, take}
-use Rattle.tabled_entity.specs.ChangeIndex.{IsIndexed}
+use Rattle.tabled_entity.proofs.Names.{IsIndexed, reverse, take}
 use Rattle.tabled_entity.proofs.entity_map.index_of.Given as goal
 
 abbrev pub invariant-places : goal.invariant-places

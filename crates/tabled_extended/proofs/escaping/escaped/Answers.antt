@@ -1,10 +1,7 @@
-use Rattle.std.proofs.Common.{rules, ◌≡◌, ap, map, sym, ◌∙◌}
-use Rattle.std.specs.List.{flat_map}
+use Rattle.tabled_extended.proofs.Names.{ap, escape, flat_map, map, map-id, rules, sym, ◌∙◌, ◌≡◌}
 use Rattle.std.specs.Str.{chars}
 use Rattle.std.specs.Str.Iter.{chars_rest}
 use Rattle.std.proofs.lemmas.Iterator.{YieldsList-from_chars, items_from_drains}
-use Rattle.std.proofs.lemmas.List.{map-id}
-use Rattle.tabled_extended.specs.Escaped.{escape}
 use Rattle.tabled_extended.proofs.escaping.escaped.Goals as goal
 
 pub returns : goal.returns

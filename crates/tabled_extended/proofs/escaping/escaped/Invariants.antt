@@ -1,6 +1,4 @@
-use Rattle.std.proofs.Common.{◌≡◌, string_bytes}
-use Rattle.std.specs.List.{flat_map}
-use Rattle.tabled_extended.specs.Escaped.{escape}
+use Rattle.tabled_extended.proofs.Names.{escape, flat_map, string_bytes, ◌≡◌}
 use Rattle.tabled_extended.proofs.escaping.escaped.Given as goal
 
 abbrev pub invariant-characters : goal.invariant-characters

@@ -1,4 +1,4 @@
-use Rattle.std.proofs.Common.{◌≡◌, take}
+use Rattle.tabled_extended.proofs.Names.{take, ◌≡◌}
 use Rattle.tabled_extended.proofs.extended_table.copied_texts.Given as goal
 
 abbrev pub invariant-loop-text : goal.invariant-loop-text

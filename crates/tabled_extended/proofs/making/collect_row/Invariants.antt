@@ -1,4 +1,4 @@
-use Rattle.std.proofs.Common.{◌≡◌, map}
+use Rattle.tabled_extended.proofs.Names.{map, ◌≡◌}
 use Rattle.tabled_extended.proofs.making.collect_row.Given as goal
 
 abbrev pub invariant-loop-cell : goal.invariant-loop-cell

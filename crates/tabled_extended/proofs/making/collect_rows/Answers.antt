@@ -1,4 +1,4 @@
-use Rattle.std.proofs.Common.{[], ◌∷◌, ◌++◌, Some, refl}
+use Rattle.tabled_extended.proofs.Names.{Some, [], refl, ◌++◌, ◌∷◌}
 use Rattle.std.proofs.iter.Next.{Yields-more}
 use Rattle.std.proofs.lemmas.List.Elements.{All-pop}
 use Rattle.std.specs.Iterator.{IsFiniteIterable}

@@ -1,4 +1,4 @@
-use Rattle.tabled_base.specs.Cells.{row_texts}
+use Rattle.tabled_extended.proofs.Names.{row_texts}
 use Rattle.tabled_extended.proofs.CollectedRows.{Collected}
 use Rattle.tabled_extended.proofs.making.collect_rows.Given as goal
 

@@ -1,6 +1,4 @@
-use Rattle.std.proofs.Common.{rules, ◌≤◌, ◌∙◌, All, length, sym, ap, subst, arith}
-use Rattle.std.proofs.lemmas.List.Elements.{All-tail}
-use Rattle.tabled_text.specs.Lines.{lines_left}
+use Rattle.tabled_extended.proofs.Names.{All, All-tail, ap, arith, length, lines_left, rules, subst, sym, ◌∙◌, ◌≤◌}
 use Rattle.tabled_text.proofs.Bridge.{lines_length}
 use Rattle.tabled_extended.proofs.Dashed.{columns_dashed, title-columns}
 use Rattle.tabled_extended.proofs.printing.title_width.Goals as goal

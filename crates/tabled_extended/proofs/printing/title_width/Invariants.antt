@@ -1,7 +1,4 @@
-use Rattle.std.proofs.Common.{◌≡◌, ◌≤◌, All, length, max}
-use Rattle.tabled_text.specs.Lines.{lines_left}
-use Rattle.tabled_text.specs.Measure.{text_columns}
-use Rattle.tabled_extended.specs.RecordLines.{title}
+use Rattle.tabled_extended.proofs.Names.{All, length, lines_left, max, text_columns, title, ◌≡◌, ◌≤◌}
 use Rattle.tabled_extended.proofs.Dashed.{columns_dashed}
 use Rattle.tabled_extended.proofs.printing.title_width.Given as goal
 

@@ -1,5 +1,4 @@
-use Rattle.std.proofs.Common.{◌≡◌, max, drop}
-use Rattle.tabled_extended.specs.RecordLines.{widest}
+use Rattle.tabled_extended.proofs.Names.{drop, max, widest, ◌≡◌}
 use Rattle.tabled_extended.proofs.printing.widest.Given as goal
 
 abbrev pub invariant-texts : goal.invariant-texts

@@ -1,6 +1,4 @@
-use Rattle.std.proofs.Common.{◌≡◌, max, drop}
-use Rattle.tabled_base.specs.Cells.{row_texts}
-use Rattle.tabled_extended.specs.RecordLines.{widest_value}
+use Rattle.tabled_extended.proofs.Names.{drop, max, row_texts, widest_value, ◌≡◌}
 use Rattle.tabled_extended.proofs.printing.widest_value.Given as goal
 
 abbrev pub invariant-records : goal.invariant-records

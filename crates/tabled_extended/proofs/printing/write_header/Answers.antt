@@ -1,8 +1,5 @@
-use Rattle.std.proofs.Common.{[], ◌∷◌, ◌∙◌, ◌++◌, ap, append_assoc, refl, sym}
-use Rattle.tabled_line.proofs.Leading.{one-line, one-line-stopped}
-use Rattle.tabled_line.proofs.Sending.{finished, further, stopped, stopped-first}
-use Rattle.tabled_text.specs.Measure.{text_columns}
-use Rattle.tabled_extended.specs.RecordLines.{rule_behind, title}
+use Rattle.tabled_extended.proofs.Names.{[], ap, append_assoc, finished, further, one-line, one-line-stopped, refl, rule_behind, stopped}
+use Rattle.tabled_extended.proofs.Names.{stopped-first, sym, text_columns, title, ◌++◌, ◌∙◌, ◌∷◌}
 use Rattle.tabled_extended.proofs.Dashed.{rule_behind-least}
 use Rattle.tabled_extended.proofs.printing.write_header.Goals as goal
 

@@ -1,8 +1,6 @@
-use Rattle.std.proofs.Common.{ℕ, List, [], ap, arith, get_or, refl}
+use Rattle.tabled_extended.proofs.Names.{List, [], ap, arith, get_or, lines-finished, record_lines, refl, row_texts, ℕ}
 use Rattle.std.proofs.lemmas.Grind.{common_steps}
-use Rattle.tabled_base.specs.Cells.{row_texts}
-use Rattle.tabled_line.proofs.Leading.{lines-finished, lines-stopped-first}
-use Rattle.tabled_extended.specs.RecordLines.{record_lines}
+use Rattle.tabled_line.proofs.Leading.{lines-stopped-first}
 use Rattle.tabled_extended.proofs.Records.{record-printed}
 use Rattle.tabled_extended.proofs.printing.write_record.Goals as goal
 

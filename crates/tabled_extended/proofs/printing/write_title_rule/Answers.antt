@@ -1,8 +1,5 @@
-use Rattle.std.proofs.Common.{[], ◌≡◌, ◌+◌, ◌-◌, ◌<◌, ◌++◌, ◌∷◌, ◌∙◌, ℕ, append_assoc, arith, refl, sym}
-use Rattle.std.proofs.lemmas.Bool.Decides.{nat_tests}
-use Rattle.tabled_line.specs.Fill.{fill}
-use Rattle.tabled_line.proofs.Sending.{further, finished, stopped}
-use Rattle.tabled_extended.specs.RecordLines.{rule_behind}
+use Rattle.tabled_extended.proofs.Names.{[], append_assoc, arith, fill, finished, further, nat_tests, refl, rule_behind, stopped, sym, ℕ}
+use Rattle.tabled_extended.proofs.Names.{◌++◌, ◌+◌, ◌-◌, ◌<◌, ◌∙◌, ◌∷◌, ◌≡◌}
 use Rattle.tabled_extended.proofs.printing.write_title_rule.Goals as goal
 
 -- the title doesn't reach the cross

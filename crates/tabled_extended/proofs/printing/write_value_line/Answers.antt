@@ -1,10 +1,6 @@
-use Rattle.std.proofs.Common.{◌≡◌, ◌-◌, ◌++◌, ◌∙◌, ℕ, List, ap, append_assoc, refl, sym}
+use Rattle.tabled_extended.proofs.Names.{List, ap, append_assoc, fill, finished, further, one-line, one-line-stopped, refl, stopped}
+use Rattle.tabled_extended.proofs.Names.{stopped-first, sym, text_columns, value_line, ℕ, ◌++◌, ◌-◌, ◌∙◌, ◌≡◌}
 use Rattle.std.specs.Prelude.{codes}
-use Rattle.tabled_line.specs.Fill.{fill}
-use Rattle.tabled_line.proofs.Leading.{one-line, one-line-stopped}
-use Rattle.tabled_line.proofs.Sending.{further, finished, stopped, stopped-first}
-use Rattle.tabled_text.specs.Measure.{text_columns}
-use Rattle.tabled_extended.specs.RecordLines.{value_line}
 use Rattle.tabled_extended.proofs.printing.write_value_line.Goals as goal
 
 -- the line, by the text of the field and the number of spaces

@@ -1,6 +1,5 @@
-use Rattle.std.proofs.Common.{arith, sym}
-use Rattle.tabled_line.proofs.Leading.{lines-further, lines-stopped}
-use Rattle.tabled_extended.specs.RecordLines.{value_line}
+use Rattle.tabled_extended.proofs.Names.{arith, lines-further, sym, value_line}
+use Rattle.tabled_line.proofs.Leading.{lines-stopped}
 use Rattle.tabled_extended.proofs.Zipped.{zip-next, zip-rest, zip-all}
 use Rattle.tabled_extended.proofs.printing.write_value_lines.Goals as goal
 

@@ -1,7 +1,4 @@
-use Rattle.std.proofs.Common.{map, take}
-use Rattle.std.specs.List.{zip}
-use Rattle.tabled_line.specs.Leading.{LineSends}
-use Rattle.tabled_extended.specs.RecordLines.{value_line}
+use Rattle.tabled_extended.proofs.Names.{LineSends, map, take, value_line, zip}
 use Rattle.tabled_extended.proofs.printing.write_value_lines.Given as goal
 
 abbrev pub invariant-values : goal.invariant-values

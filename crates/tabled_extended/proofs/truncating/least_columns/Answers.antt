@@ -1,4 +1,4 @@
-use Rattle.std.proofs.Common.{arith, sym, ap, ◌∙◌, ◌+◌, decimal, length}
+use Rattle.tabled_extended.proofs.Names.{ap, arith, decimal, length, sym, ◌+◌, ◌∙◌}
 use Rattle.std.proofs.lemmas.Fmt.{decimal_digit}
 use Rattle.tabled_extended.proofs.Digits.{digits_of_log}
 use Rattle.tabled_extended.proofs.truncating.least_columns.Goals as goal

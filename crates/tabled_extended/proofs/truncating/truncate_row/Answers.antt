@@ -1,5 +1,5 @@
-use Rattle.std.proofs.Common.{refl, arith}
-use Rattle.tabled_extended.specs.Truncated.{IsFailure, IsTruncated}
+use Rattle.tabled_extended.proofs.Names.{IsTruncated, arith, refl}
+use Rattle.tabled_extended.specs.Truncated.{IsFailure}
 use Rattle.tabled_extended.proofs.Stopped.{so_far-all, so_far-long, so_far-more, so_far-none, so_far-stopped}
 use Rattle.tabled_extended.proofs.CutOff.{err-with}
 use Rattle.tabled_extended.proofs.truncating.truncate_row.Goals as goal

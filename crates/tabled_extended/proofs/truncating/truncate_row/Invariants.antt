@@ -1,4 +1,4 @@
-use Rattle.tabled_extended.specs.Truncated.{IsTruncated}
+use Rattle.tabled_extended.proofs.Names.{IsTruncated}
 use Rattle.tabled_extended.proofs.Stopped.{ChangedSoFar}
 use Rattle.tabled_extended.proofs.truncating.truncate_row.Given as goal
 

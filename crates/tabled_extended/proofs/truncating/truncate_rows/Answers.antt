@@ -1,8 +1,7 @@
-use Rattle.std.proofs.Common.{◌<◌, length, arith}
-use Rattle.std.specs.List.{AllZip}
-use Rattle.tabled_base.specs.Cells.{row_texts}
-use Rattle.tabled_extended.specs.Truncated.{IsTruncated, StopsInRecord}
-use Rattle.tabled_extended.proofs.Stopped.{row_texts-long, row_texts-read, row_texts-set, so_far-all, so_far-long, so_far-more, so_far-none, so_far-stopped}
+use Rattle.tabled_extended.proofs.Names.{AllZip, IsTruncated, arith, length, row_texts, ◌<◌}
+use Rattle.tabled_extended.specs.Truncated.{StopsInRecord}
+use Rattle.tabled_extended.proofs.Stopped.{row_texts-long, row_texts-read, row_texts-set, so_far-all, so_far-long, so_far-more, so_far-none}
+use Rattle.tabled_extended.proofs.Stopped.{so_far-stopped}
 use Rattle.tabled_extended.proofs.CutOff.{err-with}
 use Rattle.tabled_extended.proofs.truncating.truncate_rows.Goals as goal
 

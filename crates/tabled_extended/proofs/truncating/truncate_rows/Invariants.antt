@@ -1,6 +1,4 @@
-use Rattle.std.specs.List.{AllZip}
-use Rattle.tabled_base.specs.Cells.{row_texts}
-use Rattle.tabled_extended.specs.Truncated.{IsTruncated}
+use Rattle.tabled_extended.proofs.Names.{AllZip, IsTruncated, row_texts}
 use Rattle.tabled_extended.proofs.Stopped.{ChangedSoFar}
 use Rattle.tabled_extended.proofs.truncating.truncate_rows.Given as goal
 

@@ -1,7 +1,5 @@
-use Rattle.std.proofs.Common.{◌≡◌, ◌∙◌, ◌++◌, ◌+◌, ◌<◌, ap, length, string_bytes, sym, arith}
+use Rattle.tabled_extended.proofs.Names.{ap, arith, cow_str_bytes, false≢true, length, string_bytes, sym, ◌++◌, ◌+◌, ◌<◌, ◌∙◌, ◌≡◌}
 use Rattle.std.specs.Cmp.{unsigned_Decides}
-use Rattle.std.specs.Cow.{cow_str_bytes}
-use Rattle.std.proofs.lemmas.Bool.{false≢true}
 use Rattle.std.proofs.lemmas.Slice.Eq.{slice_eq-Decides}
 use Rattle.tabled_extended.proofs.CutOff.{err-with, mark_counts, takes-filled, takes-left, truncated_off, truncated_whole}
 use Rattle.tabled_extended.proofs.truncating.truncated.Goals as goal

@@ -1,6 +1,4 @@
-use Rattle.std.proofs.Common.{ℕ, ◌<◌}
-use Rattle.tabled_base.specs.Cells.{columns}
-use Rattle.tabled_size.specs.Holds.{IsHeld}
+use Rattle.tabled_grid.proofs.Names.{IsHeld, columns, ℕ, ◌<◌}
 use Rattle.tabled_grid.proofs.checks.check_narrow.Given as goal
 
 abbrev pub invariant-rows : goal.invariant-rows

@@ -1,12 +1,6 @@
-use Rattle.std.proofs.Common.{◌<◌, ◌≤◌, ◌∙◌, ap, length, option_map, subst, sym}
-use Rattle.tabled_base.specs.Cells.{columns}
-use Rattle.tabled_size.specs.Effective.{effective}
-use Rattle.tabled_size.specs.Entries.{stored_at}
-use Rattle.tabled_size.specs.Estimates.{estimated_heights, estimated_widths}
-use Rattle.tabled_size.specs.Reached.{reached}
-use Rattle.tabled_size.specs.Stored.{heights_of, widths_of}
-use Rattle.tabled_size.proofs.Totalling.{heights_length, widths_length}
-use Rattle.tabled_grid.specs.Printed.{IsFailure}
+use Rattle.tabled_grid.proofs.Names.{IsFailure, ap, columns, effective, estimated_heights, estimated_widths, heights_length, heights_of}
+use Rattle.tabled_grid.proofs.Names.{length, reached, stored_at, subst, sym, widths_length, widths_of, ◌<◌, ◌∙◌, ◌≤◌}
+use Rattle.std.proofs.Common.{option_map}
 use Rattle.tabled_grid.proofs.EffectiveSizes.{handed_on, held_estimated, held_stored, high_refused, narrow_refused, narrow_stored}
 use Rattle.tabled_grid.proofs.EffectiveSizes.{sized_heights, sized_widths, sizes_estimated, sizes_short}
 use Rattle.tabled_grid.proofs.checks.check_stored.Goals as goal

@@ -1,12 +1,7 @@
-use Rattle.std.proofs.Common.{◌<◌, ◌∙◌, ap, get_or, arith, rules}
-use Rattle.std.proofs.lemmas.List.FromFn.{get_or-map-range_with_len}
-use Rattle.tabled_base.specs.Cells.{columns}
-use Rattle.tabled_config.specs.Settings.{style_at}
+use Rattle.tabled_grid.proofs.Names.{CellPlacement, ap, arith, cell_placement, columns, columns_of, get_or, get_or-map-range_with_len}
+use Rattle.tabled_grid.proofs.Names.{rules, style_at, ◌<◌, ◌∙◌}
 use Rattle.tabled_config.specs.declared.alignment.AlignmentHorizontal.TheVariants.{Left}
-use Rattle.tabled_line.specs.Placements.{cell_placement}
-use Rattle.tabled_line.specs.declared.placement.CellPlacement.{CellPlacement}
 use Rattle.tabled_line.proofs.PlacementFacts.{placements-count}
-use Rattle.tabled_grid.specs.Picture.{columns_of}
 use Rattle.tabled_grid.proofs.checks.narrow_by_placements.Goals as goal
 
 -- what is read behind the last placement

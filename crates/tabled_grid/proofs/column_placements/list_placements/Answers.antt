@@ -1,17 +1,10 @@
-use Rattle.std.proofs.Common.{◌≡◌, ◌<◌, ◌≤◌, ◌+◌, ◌++◌, ◌∷◌, [], ◌∙◌, ℕ, suc, ap, inl, inr, length, map, subst, sym, arith}
-use Rattle.std.specs.List.{range_with_len, slice_index}
-use Rattle.std.proofs.lemmas.Bool.{cases_lt}
+use Rattle.tabled_grid.proofs.Names.{CellPlacement, IsPlaceable, [], ap, arith, cases_lt, cell_placement, columns_in, inl, inr, length, map}
+use Rattle.tabled_grid.proofs.Names.{map-range_with_len_more, offset_from, range_with_len, reached, reached_size, reached_there}
+use Rattle.tabled_grid.proofs.Names.{slice_index, style_at, subst, suc, sym, ℕ, ◌++◌, ◌+◌, ◌<◌, ◌∙◌, ◌∷◌, ◌≡◌, ◌≤◌}
 use Rattle.std.proofs.lemmas.List.{length-set, take_more_set}
-use Rattle.std.proofs.lemmas.List.FromFn.{map-range_with_len_more}
-use Rattle.tabled_config.specs.Settings.{style_at}
-use Rattle.tabled_line.specs.Placements.{IsPlaceable, placement_of, cell_placement}
-use Rattle.tabled_line.specs.Offsets.{offset_from}
+use Rattle.tabled_line.specs.Placements.{placement_of}
 use Rattle.tabled_line.specs.Row.{ColumnSheet, piece}
 use Rattle.tabled_line.specs.declared.placement.Placement.{Placement}
-use Rattle.tabled_line.specs.declared.placement.CellPlacement.{CellPlacement}
-use Rattle.tabled_size.specs.Reached.{reached}
-use Rattle.tabled_size.proofs.Reaching.{reached_size, reached_there}
-use Rattle.tabled_grid.specs.ColumnStyles.{columns_in}
 use Rattle.tabled_grid.proofs.column_placements.list_placements.Goals as goal
 
 pub get_width-width-requires : goal.get_width-width-requires

@@ -1,10 +1,5 @@
-use Rattle.std.proofs.Common.{◌≡◌, ◌<◌, ℕ, length, map, take}
-use Rattle.std.specs.List.{range_with_len, slice_index}
-use Rattle.tabled_config.specs.Settings.{style_at}
-use Rattle.tabled_line.specs.Placements.{IsPlaceable, cell_placement}
-use Rattle.tabled_line.specs.Offsets.{offset_from}
-use Rattle.tabled_size.specs.Reached.{reached}
-use Rattle.tabled_grid.specs.ColumnStyles.{columns_in}
+use Rattle.tabled_grid.proofs.Names.{IsPlaceable, cell_placement, columns_in, length, map, offset_from, range_with_len, reached}
+use Rattle.tabled_grid.proofs.Names.{slice_index, style_at, take, ℕ, ◌<◌, ◌≡◌}
 use Rattle.tabled_grid.proofs.column_placements.list_placements.Given as goal
 
 abbrev pub invariant-columns : goal.invariant-columns

@@ -1,7 +1,4 @@
-use Rattle.std.proofs.Common.{◌++◌, ◌∷◌, [], ◌∙◌, ap, sym, map, arith}
-use Rattle.std.specs.List.{range_with_len}
-use Rattle.std.proofs.lemmas.List.FromFn.{map-range_with_len_more}
-use Rattle.tabled_config.specs.Settings.{style_at}
+use Rattle.tabled_grid.proofs.Names.{[], ap, arith, map, map-range_with_len_more, range_with_len, style_at, sym, ◌++◌, ◌∙◌, ◌∷◌}
 use Rattle.tabled_grid.proofs.column_styles.styles_in.Goals as goal
 
 pub columns-preserved : goal.columns-preserved

@@ -1,6 +1,4 @@
-use Rattle.std.proofs.Common.{◌≡◌, map}
-use Rattle.std.specs.List.{range_with_len}
-use Rattle.tabled_config.specs.Settings.{style_at}
+use Rattle.tabled_grid.proofs.Names.{map, range_with_len, style_at, ◌≡◌}
 use Rattle.tabled_grid.proofs.column_styles.styles_in.Given as goal
 
 abbrev pub invariant-columns : goal.invariant-columns

@@ -1,7 +1,4 @@
-use Rattle.std.proofs.Common.{◌≡◌, ◌⊎◌}
-use Rattle.tabled_base.specs.declared.error.TableError.TheVariants.{Memory}
-use Rattle.tabled_size.specs.Effective.{effective}
-use Rattle.tabled_grid.specs.Printed.{IsFailure}
+use Rattle.tabled_grid.proofs.Names.{IsFailure, Memory, effective, ◌≡◌, ◌⊎◌}
 use Rattle.tabled_grid.proofs.EffectiveSizes.{handed_on, refused_unestimated}
 use Rattle.tabled_grid.proofs.effective.complete.Goals as goal
 

@@ -1,7 +1,5 @@
-use Rattle.std.proofs.Common.{◌∙◌, subst, sym, true}
-use Rattle.tabled_size.specs.Sheet.{Sheet}
-use Rattle.tabled_size.specs.Effective.{effective}
-use Rattle.tabled_grid.specs.Printed.{IsChecked, Prints}
+use Rattle.tabled_grid.proofs.Names.{Prints, Sheet, effective, subst, sym, true, ◌∙◌}
+use Rattle.tabled_grid.specs.Printed.{IsChecked}
 use Rattle.tabled_grid.proofs.Printing.{refused_so}
 use Rattle.tabled_grid.proofs.EffectiveSizes.{answered_filled}
 use Rattle.tabled_grid.proofs.effective.print_completed.Goals as goal

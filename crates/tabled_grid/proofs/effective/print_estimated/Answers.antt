@@ -1,8 +1,5 @@
-use Rattle.std.proofs.Common.{◌≡◌, ◌&&◌, ℕ, Bool, List, Option, ap, false, is_some, not, subst, true}
-use Rattle.tabled_size.specs.Sheet.{Sheet}
-use Rattle.tabled_size.specs.Effective.{effective}
-use Rattle.tabled_size.specs.Stored.{heights_of, is_stored}
-use Rattle.tabled_grid.specs.Printed.{Prints}
+use Rattle.tabled_grid.proofs.Names.{Bool, List, Option, Prints, Sheet, ap, effective, false, heights_of, is_some, is_stored, not, subst}
+use Rattle.tabled_grid.proofs.Names.{true, ℕ, ◌&&◌, ◌≡◌}
 use Rattle.tabled_grid.proofs.Printing.{only_estimated}
 use Rattle.tabled_grid.proofs.EffectiveSizes.{effective_estimated}
 use Rattle.tabled_grid.proofs.effective.print_estimated.Goals as goal

@@ -1,7 +1,4 @@
-use Rattle.std.proofs.Common.{◌∙◌, Bool, false, ap, not, subst, sym}
-use Rattle.tabled_size.specs.Sheet.{Sheet}
-use Rattle.tabled_size.specs.Effective.{effective}
-use Rattle.tabled_grid.specs.Printed.{Prints}
+use Rattle.tabled_grid.proofs.Names.{Bool, Prints, Sheet, ap, effective, false, not, subst, sym, ◌∙◌}
 use Rattle.tabled_grid.proofs.Printing.{prints_nothing}
 use Rattle.tabled_grid.proofs.EffectiveSizes.{answered_complete}
 use Rattle.tabled_grid.proofs.effective.print_standing.Goals as goal

@@ -1,8 +1,5 @@
-use Rattle.std.proofs.Common.{◌≡◌, ◌≤◌, ◌∙◌, Some, ap, arith, length, subst, sym}
-use Rattle.std.specs.List.{slice_index}
-use Rattle.tabled_base.specs.Cells.{columns}
-use Rattle.tabled_size.specs.Estimates.{estimated_widths}
-use Rattle.tabled_size.proofs.Totalling.{widths_length}
+use Rattle.tabled_grid.proofs.Names.{Some, ap, arith, columns, estimated_widths, length, slice_index, subst, sym, widths_length, ◌∙◌, ◌≡◌}
+use Rattle.tabled_grid.proofs.Names.{◌≤◌}
 use Rattle.tabled_grid.proofs.EffectiveSizes.{filled_heights, held_enough, sized_enough}
 use Rattle.tabled_grid.proofs.effective.with_heights.Goals as goal
 

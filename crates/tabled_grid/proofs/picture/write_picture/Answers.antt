@@ -1,12 +1,7 @@
-use Rattle.std.proofs.Common.{◌≡◌, ◌∙◌, ◌++◌, ℕ, List, ap, append-nil, append_assoc, arith, false, length, refl, replicate, subst, sym}
-use Rattle.std.specs.List.{flat_map, range_with_len}
-use Rattle.tabled_config.specs.Settings.{frame}
-use Rattle.tabled_line.specs.Fill.{fill}
-use Rattle.tabled_line.specs.Leading.{LineSends}
-use Rattle.tabled_line.specs.Row.{row_lines}
-use Rattle.tabled_size.specs.Sheet.{Sheet}
-use Rattle.tabled_grid.specs.Picture.{filled_picture, row_of, row_part, rule}
-use Rattle.tabled_line.proofs.Each.{each-more, each-rest}
+use Rattle.tabled_grid.proofs.Names.{LineSends, List, Sheet, ap, arith, each-more, false, fill, filled_picture, flat_map, frame, length}
+use Rattle.tabled_grid.proofs.Names.{range_with_len, refl, replicate, row_lines, row_of, row_part, rule, subst, sym, ℕ, ◌++◌, ◌∙◌, ◌≡◌}
+use Rattle.std.proofs.Common.{append-nil, append_assoc}
+use Rattle.tabled_line.proofs.Each.{each-rest}
 use Rattle.tabled_line.proofs.Leading.{lines-further, lines-finished, lines-stopped, lines-stopped-first, lines-text}
 use Rattle.tabled_grid.proofs.picture.write_picture.Goals as goal
 

@@ -1,10 +1,5 @@
-use Rattle.std.proofs.Common.{◌≡◌, ◌++◌, false, replicate}
-use Rattle.std.specs.List.{flat_map, range_with_len}
-use Rattle.tabled_config.specs.Settings.{frame}
-use Rattle.tabled_line.specs.Fill.{fill}
-use Rattle.tabled_line.specs.Leading.{LineSends}
+use Rattle.tabled_grid.proofs.Names.{LineSends, columns_of, false, fill, flat_map, frame, range_with_len, replicate, row_part, ◌++◌, ◌≡◌}
 use Rattle.tabled_line.specs.LineCache.{IsCacheOf}
-use Rattle.tabled_grid.specs.Picture.{columns_of, row_part}
 use Rattle.tabled_grid.proofs.picture.write_picture.Given as goal
 
 abbrev pub invariant-rows : goal.invariant-rows

@@ -1,4 +1,4 @@
-use Rattle.std.proofs.Common.{◌≡◌, true, false, sym, ◌∙◌}
+use Rattle.tabled_grid.proofs.Names.{false, sym, true, ◌∙◌, ◌≡◌}
 use Rattle.tabled_grid.proofs.plain.are_apart_cells.Goals as goal
 use Rattle.tabled_grid.proofs.plain.are_apart_cells.Goals.{then-are_apart_styles_in, else-are_apart_styles_in}
 

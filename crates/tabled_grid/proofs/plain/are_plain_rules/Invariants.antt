@@ -1,7 +1,4 @@
-use Rattle.std.proofs.Common.{◌≡◌, ℕ, ◌<◌, Some}
-use Rattle.tabled_config.specs.Settings.{rule_at}
-use Rattle.tabled_config.specs.declared.borders.HorizontalLine.{HorizontalLine}
-use Rattle.tabled_line.specs.Plain.{IsPlainRule}
+use Rattle.tabled_grid.proofs.Names.{HorizontalLine, IsPlainRule, Some, rule_at, ℕ, ◌<◌, ◌≡◌}
 use Rattle.tabled_grid.proofs.plain.are_plain_rules.Given as goal
 
 abbrev pub invariant-lines : goal.invariant-lines

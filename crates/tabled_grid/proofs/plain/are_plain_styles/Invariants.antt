@@ -1,6 +1,4 @@
-use Rattle.std.proofs.Common.{ℕ, ◌<◌}
-use Rattle.tabled_config.specs.Settings.{style_at}
-use Rattle.tabled_line.specs.Plain.{IsPlainStyle}
+use Rattle.tabled_grid.proofs.Names.{IsPlainStyle, style_at, ℕ, ◌<◌}
 use Rattle.tabled_grid.proofs.plain.are_plain_styles.Given as goal
 
 abbrev pub invariant-rows : goal.invariant-rows

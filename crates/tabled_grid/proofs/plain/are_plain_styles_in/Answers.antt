@@ -1,8 +1,4 @@
-use Rattle.std.proofs.Common.{ℕ, arith, refl, rules}
-use borrow.Author.Tests.{tests}
-use Rattle.std.proofs.lemmas.Iterator.{YieldsList-from_range, cases_from_all}
-use Rattle.tabled_config.specs.Settings.{style_at}
-use Rattle.tabled_line.specs.Plain.{IsPlainStyle}
+use Rattle.tabled_grid.proofs.Names.{IsPlainStyle, YieldsList-from_range, arith, cases_from_all, refl, rules, style_at, tests, ℕ}
 use Rattle.tabled_grid.proofs.PlainTests.{below_each}
 use Rattle.tabled_grid.proofs.plain.are_plain_styles_in.Goals as goal
 

@@ -1,4 +1,4 @@
-use Rattle.std.proofs.Common.{◌≡◌, true, false, sym, ◌∙◌}
+use Rattle.tabled_grid.proofs.Names.{false, sym, true, ◌∙◌, ◌≡◌}
 use Rattle.tabled_grid.proofs.plain.is_apart_config.Goals as goal
 use Rattle.tabled_grid.proofs.plain.is_apart_config.Goals.{then-is_apart_around, else-is_apart_around}
 

@@ -1,4 +1,4 @@
-use Rattle.std.proofs.Common.{◌≡◌, true, false, sym, ◌∙◌}
+use Rattle.tabled_grid.proofs.Names.{false, sym, true, ◌∙◌, ◌≡◌}
 use Rattle.tabled_grid.proofs.plain.is_plain_config.Goals as goal
 use Rattle.tabled_grid.proofs.plain.is_plain_config.Goals.{then-is_plain_frame, else-is_plain_frame}
 

@@ -1,7 +1,4 @@
-use Rattle.std.proofs.Common.{[], arith, refl, slice_index_or}
-use Rattle.std.specs.List.{All}
-use Rattle.std.proofs.lemmas.List.Elements.{All-from_get_or}
-use Rattle.tabled_text.specs.Plain.{IsPlain}
+use Rattle.tabled_grid.proofs.Names.{All, All-from_get_or, IsPlain, [], arith, refl, slice_index_or}
 use Rattle.tabled_grid.proofs.PlainTests.{below_next, said_no}
 use Rattle.tabled_grid.proofs.plain.is_plain_records.Goals as goal
 

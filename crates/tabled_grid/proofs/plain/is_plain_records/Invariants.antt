@@ -1,6 +1,4 @@
-use Rattle.std.proofs.Common.{ℕ, ◌<◌, [], slice_index_or}
-use Rattle.std.specs.List.{All}
-use Rattle.tabled_text.specs.Plain.{IsPlain}
+use Rattle.tabled_grid.proofs.Names.{All, IsPlain, [], slice_index_or, ℕ, ◌<◌}
 use Rattle.tabled_grid.proofs.plain.is_plain_records.Given as goal
 
 abbrev pub invariant-rows : goal.invariant-rows

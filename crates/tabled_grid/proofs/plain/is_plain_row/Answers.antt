@@ -1,9 +1,5 @@
-use Rattle.std.proofs.Common.{◌≡◌, ℕ, [], arith, length, refl, rules, slice_index_or}
-use borrow.Author.Tests.{tests}
-use Rattle.std.proofs.lemmas.Iterator.{YieldsList-from_range, cases_from_all}
-use Rattle.std.proofs.lemmas.List.Elements.{All-from_get_or}
-use Rattle.tabled_text.specs.Plain.{IsPlain}
-use Rattle.tabled_base.specs.Cells.{cell_at, columns}
+use Rattle.tabled_grid.proofs.Names.{All-from_get_or, IsPlain, YieldsList-from_range, [], arith, cases_from_all, cell_at, columns, length}
+use Rattle.tabled_grid.proofs.Names.{refl, rules, slice_index_or, tests, ℕ, ◌≡◌}
 use Rattle.tabled_grid.proofs.PlainTests.{below_each}
 use Rattle.tabled_grid.proofs.plain.is_plain_row.Goals as goal
 

@@ -1,5 +1,4 @@
-use Rattle.std.proofs.Common.{sym, ◌∙◌}
-use Rattle.tabled_text.proofs.Bridge.{text_columns-one}
+use Rattle.tabled_line.proofs.Names.{sym, text_columns-one, ◌∙◌}
 use Rattle.tabled_line.proofs.content.measure_line.Goals as goal
 
 pub returns-then-lines-eq1 : goal.returns-then-lines-eq1

@@ -1,8 +1,6 @@
-use Rattle.std.proofs.Common.{◌≡◌, ◌≤◌, ◌<◌, ◌+◌, ◌-◌, ◌∙◌, ℕ, List, length, slice_set, sym, subst, ap, arith, inl, inr, get_or-set_same, get_or-set_other}
-use Rattle.std.proofs.lemmas.Bool.{cases_eq}
-use Rattle.std.proofs.lemmas.List.{length-set}
-use Rattle.tabled_line.specs.Block.{fill_above}
-use Rattle.tabled_line.specs.Cursors.{AreAt, IsAhead, IsAt, cursor_of, nowhere}
+use Rattle.tabled_line.proofs.Names.{AreAt, IsAhead, IsAt, List, ap, arith, cases_eq, cursor_of, fill_above, get_or-set_other}
+use Rattle.tabled_line.proofs.Names.{get_or-set_same, inl, inr, length, length-set, nowhere, slice_set, subst, sym, ℕ, ◌+◌, ◌-◌, ◌<◌, ◌∙◌}
+use Rattle.tabled_line.proofs.Names.{◌≡◌, ◌≤◌}
 use Rattle.tabled_line.proofs.cursor.advance_cursors.Goals as goal
 
 pub returns-then-index-eq0 : goal.returns-then-index-eq0

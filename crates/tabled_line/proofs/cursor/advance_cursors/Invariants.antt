@@ -1,5 +1,4 @@
-use Rattle.std.proofs.Common.{◌≡◌, ◌≤◌, ◌<◌, ℕ, List, length}
-use Rattle.tabled_line.specs.Cursors.{IsAhead, IsAt, cursor_of}
+use Rattle.tabled_line.proofs.Names.{IsAhead, IsAt, List, cursor_of, length, ℕ, ◌<◌, ◌≡◌, ◌≤◌}
 use Rattle.tabled_line.proofs.cursor.advance_cursors.Given as goal
 
 abbrev pub invariant-columns : goal.invariant-columns

@@ -1,6 +1,5 @@
-use Rattle.std.proofs.Common.{◌-◌}
+use Rattle.tabled_line.proofs.Names.{fill, ◌-◌}
 use Rattle.tabled_line.proofs.Sending.{further, stopped}
-use Rattle.tabled_line.specs.Fill.{fill}
 use Rattle.tabled_line.proofs.Fills.{fill-more, fill-one}
 use Rattle.tabled_line.proofs.fill.write_copies.Goals as goal
 

@@ -1,5 +1,4 @@
-use Rattle.tabled_line.specs.Sent.{Sends}
-use Rattle.tabled_line.specs.Fill.{fill}
+use Rattle.tabled_line.proofs.Names.{Sends, fill}
 use Rattle.tabled_line.proofs.fill.write_copies.Given as goal
 
 abbrev pub invariant-copies : goal.invariant-copies

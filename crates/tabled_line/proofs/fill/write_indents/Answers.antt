@@ -1,6 +1,5 @@
-use Rattle.std.proofs.Common.{◌++◌, ◌∙◌, sym, ap, refl, arith}
+use Rattle.tabled_line.proofs.Names.{ap, arith, fill, indent, refl, sym, ◌++◌, ◌∙◌}
 use Rattle.tabled_line.proofs.Sending.{finished, sends-none, stopped-first}
-use Rattle.tabled_line.specs.Fill.{fill, indent}
 use Rattle.tabled_line.proofs.Fills.{fill-add}
 use Rattle.tabled_line.proofs.fill.write_indents.Goals as goal
 

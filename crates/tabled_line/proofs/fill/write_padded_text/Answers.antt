@@ -1,6 +1,5 @@
-use Rattle.std.proofs.Common.{◌++◌, append_assoc, refl}
+use Rattle.tabled_line.proofs.Names.{append_assoc, fill, indent, refl, ◌++◌}
 use Rattle.tabled_line.proofs.Sending.{finished, further, stopped, stopped-first}
-use Rattle.tabled_line.specs.Fill.{fill, indent}
 use Rattle.tabled_line.proofs.fill.write_padded_text.Goals as goal
 
 pub returns-in_err-write_indents : goal.returns-in_err-write_indents

@@ -1,8 +1,5 @@
-use Rattle.std.proofs.Common.{◌≡◌, ◌-◌, ◌∙◌, ap, sym, subst, arith}
-use Rattle.std.specs.List.{slice_range}
-use Rattle.std.specs.Str.{IsCharBoundary}
+use Rattle.tabled_line.proofs.Names.{IsCharBoundary, ap, arith, fill, slice_range, subst, sym, ◌-◌, ◌∙◌, ◌≡◌}
 use Rattle.tabled_line.proofs.Sending.{further, sends-along, stopped}
-use Rattle.tabled_line.specs.Fill.{fill}
 use Rattle.tabled_line.proofs.Fills.{fill-add, fill-boundary, fill-parts, fill-range}
 use Rattle.tabled_line.proofs.fill.write_run.Goals as goal
 

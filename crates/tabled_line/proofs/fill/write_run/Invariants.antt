@@ -1,6 +1,5 @@
-use Rattle.std.proofs.Common.{◌-◌, ◌≤◌}
-use Rattle.tabled_line.specs.Sent.{Sends}
-use Rattle.tabled_line.specs.Fill.{IsRun, fill}
+use Rattle.tabled_line.proofs.Names.{Sends, fill, ◌-◌, ◌≤◌}
+use Rattle.tabled_line.specs.Fill.{IsRun}
 use Rattle.tabled_line.proofs.fill.write_run.Given as goal
 
 abbrev pub invariant-loop-left : goal.invariant-loop-left

@@ -1,4 +1,4 @@
-use Rattle.std.proofs.Common.{lit<, refl}
+use Rattle.tabled_line.proofs.Names.{lit<, refl}
 use Rattle.tabled_line.proofs.fill.write_spaces.Goals as goal
 
 pub write_run-requires : goal.write_run-requires

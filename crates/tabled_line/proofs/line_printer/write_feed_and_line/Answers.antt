@@ -1,5 +1,4 @@
-use Rattle.std.proofs.Common.{◌++◌, drop, sym, ap, ◌∙◌, refl}
-use Rattle.tabled_line.specs.Leading.{break}
+use Rattle.tabled_line.proofs.Names.{ap, break, drop, refl, sym, ◌++◌, ◌∙◌}
 use Rattle.tabled_line.proofs.LeadingFeeds.{lines_after-boundary, lines_after-line}
 use Rattle.tabled_line.proofs.line_printer.write_feed_and_line.Goals as goal
 

@@ -1,5 +1,4 @@
-use Rattle.std.proofs.Common.{◌≡◌, ◌+◌, ◌-◌, ap, ◌∙◌, arith}
-use Rattle.tabled_line.specs.Block.{before_text, inner_width}
+use Rattle.tabled_line.proofs.Names.{ap, arith, before_text, inner_width, ◌+◌, ◌-◌, ◌∙◌, ◌≡◌}
 use Rattle.tabled_line.proofs.Spacing.{before-within, cell-spaced, line-within}
 use Rattle.tabled_line.proofs.placement.place_text.Goals as goal
 

@@ -1,7 +1,5 @@
-use Rattle.std.proofs.Common.{refl, [], append-nil}
-use Rattle.std.specs.List.{slice_index_or}
+use Rattle.tabled_line.proofs.Names.{[], append-nil, cell_block, cell_piece, refl, slice_index_or}
 use Rattle.tabled_line.proofs.Sending.{finished, stopped-first}
-use Rattle.tabled_line.specs.Row.{cell_block, cell_piece}
 use Rattle.tabled_line.proofs.row.write_cell.Goals as goal
 
 pub returns-in_err-write_bar : goal.returns-in_err-write_bar

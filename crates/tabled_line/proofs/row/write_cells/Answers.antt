@@ -1,5 +1,4 @@
-use Rattle.std.proofs.Common.{◌<◌, arith, sym}
-use Rattle.tabled_line.specs.Row.{cell_piece}
+use Rattle.tabled_line.proofs.Names.{arith, cell_piece, sym, ◌<◌}
 use Rattle.tabled_line.proofs.Each.{each-first, each-more, each-rest}
 use Rattle.tabled_line.proofs.Sending.{further, sends-along, stopped}
 use Rattle.tabled_line.proofs.row.write_cells.Goals as goal

@@ -1,6 +1,4 @@
-use Rattle.std.specs.List.{flat_map, range_with_len}
-use Rattle.tabled_line.specs.Row.{cell_piece}
-use Rattle.tabled_line.specs.Sent.{Sends}
+use Rattle.tabled_line.proofs.Names.{Sends, cell_piece, flat_map, range_with_len}
 use Rattle.tabled_line.proofs.row.write_cells.Given as goal
 
 abbrev pub invariant-cells : goal.invariant-cells

@@ -1,6 +1,5 @@
-use Rattle.std.proofs.Common.{refl, append_assoc}
+use Rattle.tabled_line.proofs.Names.{append_assoc, refl, row_line}
 use Rattle.tabled_line.proofs.Sending.{further, finished, stopped, stopped-first}
-use Rattle.tabled_line.specs.Row.{row_line}
 use Rattle.tabled_line.proofs.row.write_row_line.Goals as goal
 
 pub returns-in_err-write_left_edge : goal.returns-in_err-write_left_edge

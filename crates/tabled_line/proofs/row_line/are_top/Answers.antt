@@ -1,6 +1,4 @@
-use Rattle.std.proofs.Common.{◌≡◌, ◌<◌, ◌∙◌, ap, arith, inl, inr, rules, subst, sym}
-use Rattle.std.proofs.lemmas.Bool.{cases_eq}
-use Rattle.tabled_line.specs.RowLines.{IsTop}
+use Rattle.tabled_line.proofs.Names.{IsTop, ap, arith, cases_eq, inl, inr, rules, subst, sym, ◌<◌, ◌∙◌, ◌≡◌}
 use Rattle.tabled_line.proofs.row_line.are_top.Goals as goal
 
 pub columns-preserved : goal.columns-preserved

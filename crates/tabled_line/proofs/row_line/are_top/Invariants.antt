@@ -1,5 +1,4 @@
-use Rattle.std.proofs.Common.{◌<◌, ℕ}
-use Rattle.tabled_line.specs.RowLines.{IsTop}
+use Rattle.tabled_line.proofs.Names.{IsTop, ℕ, ◌<◌}
 use Rattle.tabled_line.proofs.row_line.are_top.Given as goal
 
 abbrev pub invariant-columns : goal.invariant-columns

@@ -1,7 +1,5 @@
-use Rattle.std.proofs.Common.{◌≡◌, ◌<◌, ◌∙◌, ap, arith, inl, inr, length, slice_set, subst, sym, get_or-set_same, get_or-set_other, refl}
-use Rattle.std.proofs.lemmas.Bool.{cases_eq}
-use Rattle.std.proofs.lemmas.List.{length-set}
-use Rattle.tabled_line.specs.Cursors.{IsCursor, cursor_of, nowhere}
+use Rattle.tabled_line.proofs.Names.{IsCursor, ap, arith, cases_eq, cursor_of, get_or-set_other, get_or-set_same, inl, inr, length}
+use Rattle.tabled_line.proofs.Names.{length-set, nowhere, refl, slice_set, subst, sym, ◌<◌, ◌∙◌, ◌≡◌}
 use Rattle.tabled_line.proofs.row_line.begin_cursors.Goals as goal
 
 pub columns-preserved : goal.columns-preserved

@@ -1,5 +1,4 @@
-use Rattle.std.proofs.Common.{◌≡◌, ◌<◌, ℕ, length}
-use Rattle.tabled_line.specs.Cursors.{IsCursor, cursor_of}
+use Rattle.tabled_line.proofs.Names.{IsCursor, cursor_of, length, ℕ, ◌<◌, ◌≡◌}
 use Rattle.tabled_line.proofs.row_line.begin_cursors.Given as goal
 
 abbrev pub invariant-columns : goal.invariant-columns

@@ -1,6 +1,4 @@
-use Rattle.std.proofs.Common.{◌≡◌, ◌∙◌, ap, subst, sym}
-use Rattle.tabled_line.specs.Block.{fill_above}
-use Rattle.tabled_line.specs.Cursors.{IsAt}
+use Rattle.tabled_line.proofs.Names.{IsAt, ap, fill_above, subst, sym, ◌∙◌, ◌≡◌}
 use Rattle.tabled_line.proofs.Spacing.{top-above}
 use Rattle.tabled_line.proofs.row_line.first_cursor.Goals as goal
 

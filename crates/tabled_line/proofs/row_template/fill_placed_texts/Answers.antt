@@ -1,4 +1,4 @@
-use Rattle.std.proofs.Common.{◌≡◌, ◌+◌, ◌<◌, length, ap, refl, sym, ◌∙◌, arith}
+use Rattle.tabled_line.proofs.Names.{ap, arith, length, refl, sym, ◌+◌, ◌<◌, ◌∙◌, ◌≡◌}
 use Rattle.std.proofs.lemmas.Bool.{eqb-true}
 use Rattle.tabled_line.proofs.Laying.{stands-long}
 use Rattle.tabled_line.proofs.LaidSlots.{laid-to-end, none-laid, slot-is, slot-stands, slots-count, text-fits, text-laid, text-utf8}

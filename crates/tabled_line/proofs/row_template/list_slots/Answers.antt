@@ -1,9 +1,6 @@
-use Rattle.std.proofs.Common.{◌≡◌, ◌+◌, ◌++◌, ◌∷◌, [], ℕ, suc, ap, length, map, sym, ◌∙◌, arith}
-use Rattle.std.specs.List.{range_with_len}
+use Rattle.tabled_line.proofs.Names.{Slot, [], ap, arith, length, map, offset_at, piece, range_with_len, slot_at, suc, sym, ℕ, ◌++◌, ◌+◌}
+use Rattle.tabled_line.proofs.Names.{◌∙◌, ◌∷◌, ◌≡◌}
 use Rattle.std.proofs.lemmas.List.FromFn.{map-range_with_len_more}
-use Rattle.tabled_line.specs.Row.{piece}
-use Rattle.tabled_line.specs.Slots.{offset_at, slot_at}
-use Rattle.tabled_line.specs.declared.row_template.Slot.{Slot}
 use Rattle.tabled_line.proofs.row_template.list_slots.Goals as goal
 
 pub slots-preserved : goal.slots-preserved

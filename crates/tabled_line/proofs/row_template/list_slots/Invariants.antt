@@ -1,6 +1,4 @@
-use Rattle.std.proofs.Common.{◌≡◌, map}
-use Rattle.std.specs.List.{range_with_len}
-use Rattle.tabled_line.specs.Slots.{offset_at, slot_at}
+use Rattle.tabled_line.proofs.Names.{map, offset_at, range_with_len, slot_at, ◌≡◌}
 use Rattle.tabled_line.proofs.row_template.list_slots.Given as goal
 
 abbrev pub invariant-slots : goal.invariant-slots

@@ -1,8 +1,6 @@
-use Rattle.std.proofs.Common.{◌≡◌, ap, length, ◌∙◌, arith, refl}
+use Rattle.tabled_line.proofs.Names.{ap, arith, first_offset, left_edge, length, refl, rule_line, ◌∙◌, ◌≡◌}
 use Rattle.tabled_line.proofs.Laying.{blank-parts}
 use Rattle.tabled_line.proofs.LeadingFeeds.{lines_after-length}
-use Rattle.tabled_line.specs.BlankRow.{first_offset}
-use Rattle.tabled_line.specs.Row.{left_edge, rule_line}
 use Rattle.tabled_line.proofs.row_template.write_blank.Goals as goal
 
 pub overflow_sub-start : goal.overflow_sub-start

@@ -1,6 +1,5 @@
-use Rattle.std.proofs.Common.{refl}
+use Rattle.tabled_line.proofs.Names.{left_edge, refl}
 use Rattle.tabled_line.proofs.Sending.{finished, stopped-first}
-use Rattle.tabled_line.specs.Row.{left_edge}
 use Rattle.tabled_line.proofs.rules.write_left_edge.Goals as goal
 
 pub returns-in_err-write_indent : goal.returns-in_err-write_indent

@@ -1,7 +1,5 @@
-use Rattle.std.proofs.Common.{refl}
+use Rattle.tabled_line.proofs.Names.{indent, refl, right_edge}
 use Rattle.tabled_line.proofs.Sending.{finished, stopped-first}
-use Rattle.tabled_line.specs.Row.{right_edge}
-use Rattle.tabled_line.specs.Fill.{indent}
 use Rattle.tabled_line.proofs.rules.write_right_edge.Goals as goal
 
 pub returns-in_err-write_bar : goal.returns-in_err-write_bar

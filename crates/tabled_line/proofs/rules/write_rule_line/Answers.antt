@@ -1,6 +1,5 @@
-use Rattle.std.proofs.Common.{refl, append_assoc}
+use Rattle.tabled_line.proofs.Names.{append_assoc, refl, rule_line}
 use Rattle.tabled_line.proofs.Sending.{further, finished, stopped, stopped-first}
-use Rattle.tabled_line.specs.Row.{rule_line}
 use Rattle.tabled_line.proofs.rules.write_rule_line.Goals as goal
 
 pub returns-in_err-write_left_edge : goal.returns-in_err-write_left_edge

@@ -1,9 +1,6 @@
-use Rattle.std.proofs.Common.{◌<◌, ◌++◌, ◌∙◌, ap, append_assoc, arith, refl, sym, unwrap_or}
-use Rattle.std.specs.List.{flat_map, range_with_len}
-use Rattle.tabled_config.specs.Frame.{has_bar}
+use Rattle.tabled_line.proofs.Names.{ap, append_assoc, arith, fill, flat_map, has_bar, piece, range_with_len, refl, rule_piece, sym}
+use Rattle.tabled_line.proofs.Names.{unwrap_or, ◌++◌, ◌<◌, ◌∙◌}
 use Rattle.tabled_line.proofs.Sending.{stopped, further, sends-along}
-use Rattle.tabled_line.specs.Fill.{fill}
-use Rattle.tabled_line.specs.Row.{piece, rule_piece}
 use Rattle.tabled_line.proofs.Each.{each-first, each-more, each-rest}
 use Rattle.tabled_line.proofs.Bars.{no-piece}
 use Rattle.tabled_line.proofs.rules.write_rule_pieces.Goals as goal

@@ -1,6 +1,4 @@
-use Rattle.std.specs.List.{flat_map, range_with_len}
-use Rattle.tabled_line.specs.Sent.{Sends}
-use Rattle.tabled_line.specs.Row.{rule_piece}
+use Rattle.tabled_line.proofs.Names.{Sends, flat_map, range_with_len, rule_piece}
 use Rattle.tabled_line.proofs.rules.write_rule_pieces.Given as goal
 
 abbrev pub invariant-pieces : goal.invariant-pieces

@@ -1,6 +1,4 @@
-use Rattle.std.proofs.Common.{◌++◌, ap, sym, refl, append_assoc, append-nil, ◌∙◌}
-use Rattle.tabled_line.specs.Fill.{fill}
-use Rattle.tabled_line.specs.Row.{cell_piece}
+use Rattle.tabled_line.proofs.Names.{ap, append-nil, append_assoc, cell_piece, fill, refl, sym, ◌++◌, ◌∙◌}
 use Rattle.tabled_line.proofs.Owing.{but-stopped, owes-nothing}
 use Rattle.tabled_line.proofs.Sending.{further, sends-none}
 use Rattle.tabled_line.proofs.Placing.{spaced-parts}

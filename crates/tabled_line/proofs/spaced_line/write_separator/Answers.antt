@@ -1,6 +1,4 @@
-use Rattle.std.proofs.Common.{◌++◌, ap, refl, sym, ◌∙◌, arith}
-use Rattle.tabled_line.specs.Fill.{fill}
-use Rattle.tabled_line.specs.Row.{piece}
+use Rattle.tabled_line.proofs.Names.{ap, arith, fill, piece, refl, sym, ◌++◌, ◌∙◌}
 use Rattle.tabled_line.proofs.Bars.{bar-before, bar-first}
 use Rattle.tabled_line.proofs.Sending.{finished, sends-none, stopped-first}
 use Rattle.tabled_line.proofs.spaced_line.write_separator.Goals as goal

@@ -1,6 +1,4 @@
-use Rattle.std.proofs.Common.{◌++◌, append_assoc, refl, sym}
-use Rattle.tabled_line.specs.Fill.{fill}
-use Rattle.tabled_line.specs.Row.{piece}
+use Rattle.tabled_line.proofs.Names.{append_assoc, fill, piece, refl, sym, ◌++◌}
 use Rattle.tabled_line.proofs.Sending.{finished, further, stopped, stopped-first}
 use Rattle.tabled_line.proofs.spaced_line.write_separator_text.Goals as goal
 

@@ -1,5 +1,4 @@
-use Rattle.std.proofs.Common.{refl, ◌<◌, arith}
-use Rattle.tabled_line.specs.Row.{cell_piece}
+use Rattle.tabled_line.proofs.Names.{arith, cell_piece, refl, ◌<◌}
 use Rattle.tabled_line.proofs.Each.{each-first, each-more, each-rest}
 use Rattle.tabled_line.proofs.Owing.{owes-finished, owes-further, owes-start, owes-stopped}
 use Rattle.tabled_line.proofs.spaced_line.write_spaced_cells.Goals as goal

@@ -1,6 +1,4 @@
-use Rattle.std.specs.List.{flat_map, range_with_len}
-use Rattle.tabled_line.specs.Row.{cell_piece}
-use Rattle.tabled_line.specs.SendsBut.{SendsBut}
+use Rattle.tabled_line.proofs.Names.{SendsBut, cell_piece, flat_map, range_with_len}
 use Rattle.tabled_line.proofs.spaced_line.write_spaced_cells.Given as goal
 
 abbrev pub invariant-cells : goal.invariant-cells

@@ -1,5 +1,4 @@
-use Rattle.std.proofs.Common.{arith}
-use Rattle.tabled_pool.specs.Colours.{marks_of}
+use Rattle.tabled_pool.proofs.Names.{arith, marks_of}
 use Rattle.tabled_pool.proofs.PoolBlocks.{block-above, block-top, block-text, block-past, block-below}
 use Rattle.tabled_pool.proofs.block.draw_block_line.Goals as goal
 

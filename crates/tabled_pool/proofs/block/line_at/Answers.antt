@@ -1,4 +1,4 @@
-use Rattle.std.proofs.Common.{arith}
+use Rattle.tabled_pool.proofs.Names.{arith}
 use Rattle.tabled_line.proofs.Contents.{columns-one, line-first, line-later}
 use Rattle.tabled_pool.proofs.block.line_at.Goals as goal
 

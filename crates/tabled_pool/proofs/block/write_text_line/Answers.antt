@@ -1,7 +1,5 @@
-use Rattle.std.proofs.Common.{append_assoc, refl, sym}
-use Rattle.tabled_line.specs.Fill.{indent}
-use Rattle.tabled_line.proofs.Sending.{further, finished, stopped, stopped-first}
-use Rattle.tabled_pool.specs.Colours.{coloured, mark_of, marks_of}
+use Rattle.tabled_pool.proofs.Names.{append_assoc, coloured, finished, further, indent, mark_of, marks_of, refl, stopped, stopped-first}
+use Rattle.tabled_pool.proofs.Names.{sym}
 use Rattle.tabled_pool.proofs.PlainBlocks.{bare-text_line}
 use Rattle.tabled_pool.proofs.block.write_text_line.Goals as goal
 

@@ -1,4 +1,4 @@
-use Rattle.tabled_pool.specs.Inherited.{run_char}
+use Rattle.tabled_pool.proofs.Names.{run_char}
 use Rattle.tabled_pool.proofs.BlockLines.{run-more}
 use Rattle.tabled_pool.proofs.bordered_text.run_text.Goals as goal
 

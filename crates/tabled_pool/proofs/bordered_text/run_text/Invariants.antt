@@ -1,6 +1,4 @@
-use Rattle.std.proofs.Common.{◌≡◌, string_bytes}
-use Rattle.std.specs.List.{flat_map, range_with_len}
-use Rattle.tabled_pool.specs.Inherited.{run_char}
+use Rattle.tabled_pool.proofs.Names.{flat_map, range_with_len, run_char, string_bytes, ◌≡◌}
 use Rattle.tabled_pool.proofs.bordered_text.run_text.Given as goal
 
 abbrev pub invariant-loop-x : goal.invariant-loop-x

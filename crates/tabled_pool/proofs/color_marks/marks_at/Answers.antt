@@ -1,5 +1,4 @@
-use Rattle.std.proofs.Common.{refl}
-use Rattle.tabled_pool.specs.Plans.{plan_of}
+use Rattle.tabled_pool.proofs.Names.{plan_of, refl}
 use Rattle.tabled_pool.proofs.Neighbours.{marks_known}
 use Rattle.tabled_pool.proofs.color_marks.marks_at.Goals as goal
 

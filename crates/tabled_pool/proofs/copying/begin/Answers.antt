@@ -1,4 +1,4 @@
-use Rattle.std.proofs.Common.{rules}
+use Rattle.tabled_pool.proofs.Names.{rules}
 use Rattle.tabled_pool.proofs.Levels.{begun}
 use Rattle.tabled_pool.proofs.copying.begin.Goals as goal
 

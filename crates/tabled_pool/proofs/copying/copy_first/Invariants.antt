@@ -1,4 +1,4 @@
-use Rattle.tabled_pool.specs.Nodes.{nodes}
+use Rattle.tabled_pool.proofs.Names.{nodes}
 use Rattle.tabled_pool.specs.Levels.{GoesDown}
 use Rattle.tabled_pool.proofs.copying.copy_first.Given as goal
 

@@ -1,5 +1,5 @@
+use Rattle.tabled_pool.proofs.Names.{tree_of}
 use Rattle.std.proofs.Common.{vec_len}
-use Rattle.tabled_pool.specs.Tree.{tree_of}
 use Rattle.tabled_pool.specs.Levels.{GoesUp}
 use Rattle.tabled_pool.proofs.copying.put_copy.Given as goal
 

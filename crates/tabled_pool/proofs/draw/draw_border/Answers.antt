@@ -1,9 +1,4 @@
-use Rattle.tabled_pool.specs.Drawn.{place_text}
-use Rattle.tabled_pool.specs.Plans.{plan_of}
-use Rattle.tabled_pool.specs.Shown.{shown}
-use Rattle.tabled_line.proofs.Sending.{stopped, further}
-use Rattle.std.proofs.Common.{◌+◌, ap, sym, ◌∙◌, arith, encode_utf8}
-use Rattle.tabled_pool.specs.Marks.{within_marks}
+use Rattle.tabled_pool.proofs.Names.{ap, arith, encode_utf8, further, place_text, plan_of, shown, stopped, sym, within_marks, ◌+◌, ◌∙◌}
 use Rattle.tabled_pool.proofs.Bare.{around-bare}
 use Rattle.tabled_pool.proofs.Runs.{places_next, run_copies, run_place, run_rest}
 use Rattle.tabled_pool.proofs.draw.draw_border.Goals as goal

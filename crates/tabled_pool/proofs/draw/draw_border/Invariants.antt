@@ -1,7 +1,4 @@
-use Rattle.std.specs.List.{flat_map, range_with_len}
-use Rattle.tabled_line.specs.Sent.{Sends}
-use Rattle.tabled_pool.specs.Plans.{plan_of}
-use Rattle.tabled_pool.specs.Drawn.{place_text}
+use Rattle.tabled_pool.proofs.Names.{Sends, flat_map, place_text, plan_of, range_with_len}
 use Rattle.tabled_pool.proofs.draw.draw_border.Given as goal
 
 abbrev pub invariant-places : goal.invariant-places

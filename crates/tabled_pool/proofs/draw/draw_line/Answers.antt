@@ -1,8 +1,5 @@
-use Rattle.std.proofs.Common.{◌∙◌, ap, arith}
-use Rattle.std.specs.List.{flat_map, range_with_len}
-use Rattle.tabled_line.proofs.Sending.{sends-along, sends-none, stopped, further}
-use Rattle.tabled_pool.specs.Plans.{plan_of}
-use Rattle.tabled_pool.specs.Drawn.{place_text, drawn_line}
+use Rattle.tabled_pool.proofs.Names.{ap, arith, drawn_line, flat_map, further, place_text, plan_of, range_with_len, stopped, ◌∙◌}
+use Rattle.tabled_line.proofs.Sending.{sends-along, sends-none}
 use Rattle.tabled_pool.proofs.Runs.{at_end, places_more, places_rest}
 use Rattle.tabled_pool.proofs.draw.draw_line.Goals as goal
 

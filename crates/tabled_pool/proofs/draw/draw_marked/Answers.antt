@@ -1,5 +1,4 @@
-use Rattle.std.proofs.Common.{append_assoc, refl}
-use Rattle.tabled_line.proofs.Sending.{further, finished, stopped, stopped-first}
+use Rattle.tabled_pool.proofs.Names.{append_assoc, finished, further, refl, stopped, stopped-first}
 use Rattle.tabled_pool.proofs.draw.draw_marked.Goals as goal
 
 pub returns-in_err-write_text : goal.returns-in_err-write_text

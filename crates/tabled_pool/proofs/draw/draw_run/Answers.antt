@@ -1,6 +1,4 @@
-use Rattle.std.proofs.Common.{arith}
-use Rattle.tabled_pool.specs.Plans.{plan_of}
-use Rattle.tabled_pool.specs.Shown.{shown}
+use Rattle.tabled_pool.proofs.Names.{arith, plan_of, shown}
 use Rattle.tabled_pool.proofs.Runs.{run_inside, run_text}
 use Rattle.tabled_pool.proofs.draw.draw_run.Goals as goal
 

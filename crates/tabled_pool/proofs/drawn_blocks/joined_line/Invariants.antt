@@ -1,6 +1,4 @@
-use Rattle.std.proofs.Common.{◌≡◌, ◌++◌, drop, map, string_bytes}
-use Rattle.std.specs.List.{flat_map}
-use Rattle.tabled_pool.specs.DrawnBlocks.{drawn_block_line, block_sheet_of}
+use Rattle.tabled_pool.proofs.Names.{block_sheet_of, drawn_block_line, drop, flat_map, map, string_bytes, ◌++◌, ◌≡◌}
 use Rattle.tabled_pool.proofs.drawn_blocks.joined_line.Given as goal
 
 abbrev pub invariant-loop-block : goal.invariant-loop-block

@@ -1,6 +1,4 @@
-use Rattle.std.proofs.Common.{◌≡◌, ◌++◌, ◌-◌, drop, map, string_bytes}
-use Rattle.tabled_line.specs.Fill.{fill}
-use Rattle.tabled_pool.specs.DrawnBlocks.{block_sheet_of, widened}
+use Rattle.tabled_pool.proofs.Names.{block_sheet_of, drop, fill, map, string_bytes, widened, ◌++◌, ◌-◌, ◌≡◌}
 use Rattle.tabled_pool.proofs.drawn_blocks.push_widened.Given as goal
 
 abbrev pub invariant-loop-text : goal.invariant-loop-text

@@ -1,6 +1,4 @@
-use Rattle.std.proofs.Common.{◌≡◌, map, string_bytes}
-use Rattle.std.specs.List.{flat_map, range_with_len}
-use Rattle.tabled_pool.specs.DrawnBlocks.{drawn_block_line, block_sheet_of}
+use Rattle.tabled_pool.proofs.Names.{block_sheet_of, drawn_block_line, flat_map, map, range_with_len, string_bytes, ◌≡◌}
 use Rattle.tabled_pool.proofs.drawn_blocks.side_by_side.Given as goal
 
 abbrev pub invariant-loop-y : goal.invariant-loop-y

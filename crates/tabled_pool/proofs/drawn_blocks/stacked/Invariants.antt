@@ -1,6 +1,4 @@
-use Rattle.std.proofs.Common.{◌≡◌, ◌++◌, drop, map, string_bytes}
-use Rattle.std.specs.List.{flat_map}
-use Rattle.tabled_pool.specs.DrawnBlocks.{block_sheet_of, widened}
+use Rattle.tabled_pool.proofs.Names.{block_sheet_of, drop, flat_map, map, string_bytes, widened, ◌++◌, ◌≡◌}
 use Rattle.tabled_pool.proofs.drawn_blocks.stacked.Given as goal
 
 abbrev pub invariant-loop-block : goal.invariant-loop-block

@@ -1,4 +1,4 @@
-use Rattle.std.proofs.Common.{◌≡◌, drop}
+use Rattle.tabled_pool.proofs.Names.{drop, ◌≡◌}
 use Rattle.tabled_pool.specs.Inherited.{is_split}
 use Rattle.tabled_pool.proofs.inheriting_box.is_split.Given as goal
 

@@ -1,6 +1,4 @@
-use Rattle.std.proofs.Common.{sym, ◌∙◌, arith}
-use Rattle.tabled_pool.specs.Plans.{plan_of}
-use Rattle.tabled_pool.specs.Shown.{shown}
+use Rattle.tabled_pool.proofs.Names.{arith, plan_of, shown, sym, ◌∙◌}
 use Rattle.tabled_pool.proofs.Runs.{Owns, along, nothing, owns}
 use Rattle.tabled_pool.proofs.line.stretch_at.Goals.{In-Some}
 use Rattle.tabled_pool.proofs.line.stretch_at.Goals as goal

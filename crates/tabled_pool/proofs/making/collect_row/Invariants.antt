@@ -1,5 +1,4 @@
-use Rattle.std.proofs.Common.{◌≡◌, map}
-use Rattle.tabled_pool.specs.Tree.{leaf, tree_of}
+use Rattle.tabled_pool.proofs.Names.{leaf, map, tree_of, ◌≡◌}
 use Rattle.tabled_pool.proofs.making.collect_row.Given as goal
 
 abbrev pub invariant-loop-cell : goal.invariant-loop-cell

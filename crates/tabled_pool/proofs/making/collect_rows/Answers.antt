@@ -1,8 +1,8 @@
-use Rattle.std.proofs.Common.{[], ◌∷◌, ◌++◌, Some, refl, ap, ◌∙◌}
+use Rattle.tabled_pool.proofs.Names.{Some, [], ap, refl, trees, ◌++◌, ◌∙◌, ◌∷◌}
 use Rattle.std.proofs.iter.Next.{Yields-more}
 use Rattle.std.proofs.lemmas.List.Elements.{All-pop}
 use Rattle.std.specs.Iterator.{IsFiniteIterable}
-use Rattle.tabled_pool.specs.Tree.{across, trees}
+use Rattle.tabled_pool.specs.Tree.{across}
 use Rattle.tabled_pool.proofs.CollectedValues.{collected-more}
 use Rattle.tabled_pool.proofs.making.collect_rows.Goals as goal
 

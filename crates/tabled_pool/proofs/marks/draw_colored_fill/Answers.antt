@@ -1,6 +1,4 @@
-use Rattle.std.proofs.Common.{◌++◌, append_assoc, refl, sym}
-use Rattle.tabled_line.specs.Fill.{fill}
-use Rattle.tabled_line.proofs.Sending.{further, finished, stopped, stopped-first}
+use Rattle.tabled_pool.proofs.Names.{append_assoc, fill, finished, further, refl, stopped, stopped-first, sym, ◌++◌}
 use Rattle.tabled_pool.proofs.marks.draw_colored_fill.Goals as goal
 
 pub returns-in_err-write_text : goal.returns-in_err-write_text

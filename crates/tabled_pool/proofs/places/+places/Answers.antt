@@ -1,8 +1,4 @@
-use Rattle.std.proofs.Common.{◌≡◌, ◌*◌, ◌+◌, ◌<◌, Some, rules, arith}
-use Rattle.tabled_pool.specs.declared.tree.TableValue.TheFolds.{the_lemmas}
-use Rattle.tabled_pool.specs.Boxes.{IsSize, box_of}
-use Rattle.tabled_pool.specs.Nodes.{nodes, nodes_in}
-use Rattle.tabled_pool.specs.Shown.{Fits}
+use Rattle.tabled_pool.proofs.Names.{Fits, IsSize, Some, arith, box_of, nodes, nodes_in, rules, the_lemmas, ◌*◌, ◌+◌, ◌<◌, ◌≡◌}
 use Rattle.tabled_pool.proofs.Directions.{fits_along, fits_bound}
 use Rattle.tabled_pool.proofs.Steps.{can_split, list_facts, list_next, list_parts_next}
 use Rattle.tabled_pool.proofs.places.+places.Goals as goal

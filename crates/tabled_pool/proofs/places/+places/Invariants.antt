@@ -1,7 +1,5 @@
-use Rattle.std.proofs.Common.{◌+◌, ◌*◌, map, drop}
-use Rattle.tabled_pool.specs.Boxes.{box_of, list_box}
-use Rattle.tabled_pool.specs.Nodes.{nodes, nodes_in}
-use Rattle.tabled_pool.specs.Left.{AreLeft, boxes_left, Placing}
+use Rattle.tabled_pool.proofs.Names.{AreLeft, box_of, boxes_left, drop, list_box, map, nodes, nodes_in, ◌*◌, ◌+◌}
+use Rattle.tabled_pool.specs.Left.{Placing}
 use Rattle.tabled_pool.proofs.places.+places.Given as goal
 
 abbrev pub invariant-place_list-loop-child : goal.invariant-place_list-loop-child

@@ -1,5 +1,4 @@
-use Rattle.std.proofs.Common.{◌≡◌, List, [], ◌∷◌, ◌++◌, ap, ◌∙◌, append_assoc}
-use Rattle.tabled_pool.specs.Tiling.{framed}
+use Rattle.tabled_pool.proofs.Names.{List, [], ap, append_assoc, framed, ◌++◌, ◌∙◌, ◌∷◌, ◌≡◌}
 use Rattle.tabled_pool.proofs.places.place_tree.Goals as goal
 
 joined : {A : Type 0} (o a b c d n ps : List A) (p q r s : A) → a ≡ o ++ (p ∷ []) → b ≡ a ++ (q ∷ []) → c

@@ -1,7 +1,5 @@
-use Rattle.std.proofs.Common.{◌≡◌, ◌≤◌, rules, sym, subst, arith, ⊎_elim}
-use Rattle.tabled_pool.specs.Boxes.{box_of, first_part, place_along, rest_part}
+use Rattle.tabled_pool.proofs.Names.{Fits, arith, box_of, first_part, place_along, rest_part, rules, subst, sym, ⊎_elim, ◌≡◌, ◌≤◌}
 use Rattle.tabled_pool.specs.Left.{given_in}
-use Rattle.tabled_pool.specs.Shown.{Fits}
 use Rattle.tabled_pool.proofs.Directions.{Cut, cut_facts}
 use Rattle.tabled_pool.proofs.places.split.Goals.{Start, After-rest_part-behind}
 use Rattle.tabled_pool.proofs.places.split.Goals as goal

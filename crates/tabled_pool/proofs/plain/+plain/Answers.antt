@@ -1,7 +1,6 @@
-use Rattle.std.proofs.Common.{IsTrue, rules, sym, subst, arith}
+use Rattle.tabled_pool.proofs.Names.{EachText, IsPlain, arith, rules, subst, sym, tree_of}
+use Rattle.std.proofs.Common.{IsTrue}
 use Rattle.std.proofs.lemmas.List.{take_all}
-use Rattle.tabled_text.specs.Plain.{IsPlain}
-use Rattle.tabled_pool.specs.Tree.{tree_of, EachText}
 use Rattle.tabled_pool.proofs.TreeTexts.{AllIn, all-each, each-all}
 use Rattle.tabled_pool.proofs.plain.+plain.Goals as goal
 

@@ -1,5 +1,4 @@
-use Rattle.std.proofs.Common.{take}
-use Rattle.tabled_text.specs.Plain.{IsPlain}
+use Rattle.tabled_pool.proofs.Names.{IsPlain, take}
 use Rattle.tabled_pool.proofs.TreeTexts.{AllIn}
 use Rattle.tabled_pool.proofs.plain.+plain.Given as goal
 

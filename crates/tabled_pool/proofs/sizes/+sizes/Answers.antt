@@ -1,6 +1,4 @@
-use Rattle.std.proofs.Common.{rules}
-use Rattle.tabled_pool.specs.declared.tree.TableValue.TheFolds.{the_lemmas}
-use Rattle.tabled_pool.specs.Boxes.{sized}
+use Rattle.tabled_pool.proofs.Names.{rules, sized, the_lemmas}
 use Rattle.tabled_pool.proofs.Sums.{both_exceed, measured_more, next_exceeds, own_exceeds}
 use Rattle.tabled_pool.proofs.sizes.+sizes.Goals as goal
 

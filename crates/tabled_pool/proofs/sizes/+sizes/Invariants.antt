@@ -1,6 +1,4 @@
-use Rattle.std.proofs.Common.{◌+◌, ◌*◌, map, drop}
-use Rattle.tabled_pool.specs.Boxes.{box_of, list_box, sized}
-use Rattle.tabled_pool.specs.Nodes.{nodes, nodes_in}
+use Rattle.tabled_pool.proofs.Names.{box_of, drop, list_box, map, nodes, nodes_in, sized, ◌*◌, ◌+◌}
 use Rattle.tabled_pool.proofs.Sums.{Measured}
 use Rattle.tabled_pool.proofs.sizes.+sizes.Given as goal
 

@@ -1,5 +1,5 @@
+use Rattle.tabled_pool.proofs.Names.{sym, ◌∙◌}
 use Rattle.tabled_pool.proofs.Listed.{found-first}
-use Rattle.std.proofs.Common.{sym, ◌∙◌}
 use Rattle.tabled_pool.proofs.sweep.find.Goals as goal
 
 pub returns-then-contains : goal.returns-then-contains

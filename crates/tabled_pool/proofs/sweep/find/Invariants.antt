@@ -1,6 +1,4 @@
-use Rattle.std.proofs.Common.{◌≡◌, map, drop}
-use Rattle.tabled_pool.specs.Shown.{shown}
-use Rattle.tabled_pool.specs.Owner.{owner}
+use Rattle.tabled_pool.proofs.Names.{drop, map, owner, shown, ◌≡◌}
 use Rattle.tabled_pool.proofs.sweep.find.Given as goal
 
 abbrev pub invariant-loop-number : goal.invariant-loop-number

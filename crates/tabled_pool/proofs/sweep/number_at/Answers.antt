@@ -1,9 +1,5 @@
-use Rattle.std.proofs.Common.{inl, inr, length, map, refl, ap, sym, ◌∙◌, arith}
-use Rattle.std.specs.Option.{option_map}
-use Rattle.std.proofs.lemmas.Option.{slice_get-map, slice_get_read}
-use Rattle.tabled_pool.specs.Shown.{shown}
-use Rattle.tabled_pool.specs.Plans.{plan_of}
-use Rattle.tabled_pool.specs.Plan.{whole}
+use Rattle.tabled_pool.proofs.Names.{ap, arith, inl, inr, length, map, option_map, plan_of, refl, shown, slice_get-map, slice_get_read, sym}
+use Rattle.tabled_pool.proofs.Names.{whole, ◌∙◌}
 use Rattle.tabled_pool.proofs.Listed.{listed_owns, outside}
 use Rattle.tabled_pool.proofs.sweep.number_at.Goals as goal
 

@@ -1,7 +1,4 @@
-use Rattle.tabled_line.proofs.Leading.{lines-further, lines-stopped}
-use Rattle.tabled_pool.specs.Colours.{marks_of}
-use Rattle.tabled_pool.specs.Margins.{within_margin}
-use Rattle.tabled_pool.specs.TableLines.{sheet_of}
+use Rattle.tabled_pool.proofs.Names.{lines-further, lines-stopped, marks_of, sheet_of, within_margin}
 use Rattle.tabled_pool.proofs.BlockLines.{texts-more, texts-rest}
 use Rattle.tabled_pool.proofs.table_lines.draw_inner_lines.Goals as goal
 

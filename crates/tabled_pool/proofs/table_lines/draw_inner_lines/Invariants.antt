@@ -1,8 +1,4 @@
-use Rattle.std.proofs.Common.{map, take}
-use Rattle.tabled_line.specs.Leading.{LineSends}
-use Rattle.tabled_pool.specs.Colours.{marks_of}
-use Rattle.tabled_pool.specs.Margins.{within_margin}
-use Rattle.tabled_pool.specs.TableLines.{sheet_of}
+use Rattle.tabled_pool.proofs.Names.{LineSends, map, marks_of, sheet_of, take, within_margin}
 use Rattle.tabled_pool.proofs.table_lines.draw_inner_lines.Given as goal
 
 abbrev pub invariant-lines : goal.invariant-lines

@@ -1,8 +1,6 @@
-use Rattle.std.proofs.Common.{append_assoc, map, refl, replicate, sym, true}
-use Rattle.tabled_line.proofs.Leading.{lines-further, lines-finished, lines-stopped, lines-stopped-first, lines-text}
-use Rattle.tabled_pool.specs.Colours.{marks_of}
-use Rattle.tabled_pool.specs.Margins.{margin_line, within_margin}
-use Rattle.tabled_pool.specs.TableLines.{sheet_of}
+use Rattle.tabled_pool.proofs.Names.{append_assoc, lines-further, lines-stopped, map, margin_line, marks_of, refl, replicate, sheet_of, sym}
+use Rattle.tabled_pool.proofs.Names.{true, within_margin}
+use Rattle.tabled_line.proofs.Leading.{lines-finished, lines-stopped-first, lines-text}
 use Rattle.tabled_pool.proofs.table_lines.draw_lines.Goals as goal
 
 pub returns-in_err-draw_margin : goal.returns-in_err-draw_margin

@@ -1,5 +1,5 @@
+use Rattle.tabled_pool.proofs.Names.{lines-further, lines-stopped}
 use Rattle.tabled_line.proofs.Each.{copies-append, copies-rest}
-use Rattle.tabled_line.proofs.Leading.{lines-further, lines-stopped}
 use Rattle.tabled_pool.proofs.table_lines.draw_margin.Goals as goal
 
 pub returns-in_err-draw_next : goal.returns-in_err-draw_next

@@ -1,7 +1,4 @@
-use Rattle.std.proofs.Common.{replicate}
-use Rattle.tabled_line.specs.Leading.{LineSends}
-use Rattle.tabled_pool.specs.Colours.{mark_of, marks_of}
-use Rattle.tabled_pool.specs.Margins.{margin_line}
+use Rattle.tabled_pool.proofs.Names.{LineSends, margin_line, mark_of, marks_of, replicate}
 use Rattle.tabled_pool.proofs.table_lines.draw_margin.Given as goal
 
 abbrev pub invariant-lines : goal.invariant-lines

@@ -1,6 +1,5 @@
-use Rattle.std.proofs.Common.{append_assoc, refl}
+use Rattle.tabled_pool.proofs.Names.{append_assoc, finished, further, refl, stopped, stopped-first}
 use Rattle.tabled_line.proofs.Leading.{one-line, one-line-stopped}
-use Rattle.tabled_line.proofs.Sending.{further, finished, stopped, stopped-first}
 use Rattle.tabled_pool.proofs.table_lines.draw_next.Goals as goal
 
 pub returns-in_err-write_break : goal.returns-in_err-write_break

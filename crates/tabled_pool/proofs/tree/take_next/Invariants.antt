@@ -1,5 +1,4 @@
-use Rattle.std.proofs.Common.{◌≤◌}
-use Rattle.tabled_pool.specs.Nodes.{nodes_in}
+use Rattle.tabled_pool.proofs.Names.{nodes_in, ◌≤◌}
 use Rattle.tabled_pool.proofs.tree.take_next.Given as goal
 
 abbrev pub invariant-lists : goal.invariant-lists

@@ -1,6 +1,4 @@
-use Rattle.std.proofs.Common.{ap, ◌∙◌, arith}
-use Rattle.tabled_pool.specs.Inherited.{InheritedSheet}
-use Rattle.tabled_pool.specs.Plans.{plan_of}
+use Rattle.tabled_pool.proofs.Names.{InheritedSheet, ap, arith, plan_of, ◌∙◌}
 use Rattle.tabled_pool.proofs.Directions.{fits_along, fits_bound}
 use Rattle.tabled_pool.proofs.Drawers.{list_added, list_done, passed_across}
 use Rattle.tabled_pool.proofs.Steps.{can_split, list_facts, list_next}

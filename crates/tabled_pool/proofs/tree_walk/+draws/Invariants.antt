@@ -1,10 +1,4 @@
-use Rattle.std.proofs.Common.{map, drop}
-use Rattle.tabled_pool.specs.Boxes.{list_box}
-use Rattle.tabled_pool.specs.Left.{AreLeft, boxes_left}
-use Rattle.tabled_pool.specs.Shown.{Fits}
-use Rattle.tabled_pool.specs.Inherited.{drawer, inheriting_box}
-use Rattle.tabled_pool.specs.DrawnBlocks.{block_sheet_of}
-use Rattle.tabled_pool.specs.Plans.{plan_of}
+use Rattle.tabled_pool.proofs.Names.{AreLeft, Fits, block_sheet_of, boxes_left, drawer, drop, inheriting_box, list_box, map, plan_of}
 use Rattle.tabled_pool.proofs.Drawers.{ListWalk, drawers_left, list_of}
 use Rattle.tabled_pool.proofs.tree_walk.+draws.Given as goal
 

@@ -1,6 +1,4 @@
-use Rattle.std.proofs.Common.{◌≡◌, drop, map}
-use Rattle.tabled_pool.specs.Shown.{shown}
-use Rattle.tabled_pool.specs.Inherited.{has_zero_width}
+use Rattle.tabled_pool.proofs.Names.{drop, has_zero_width, map, shown, ◌≡◌}
 use Rattle.tabled_pool.proofs.tree_walk.has_zero_width.Given as goal
 
 abbrev pub invariant-loop-piece : goal.invariant-loop-piece

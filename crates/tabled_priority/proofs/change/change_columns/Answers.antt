@@ -1,7 +1,5 @@
-use Rattle.std.proofs.Common.{length, arith, ap, subst, sym, ◌∙◌}
-use Rattle.tabled_priority.specs.Permitted.{at}
-use Rattle.tabled_priority.specs.Schedule.{CanChange, IsChanged, IsReached, IsScheduled, first_level, last_level, share}
-use Rattle.tabled_priority.specs.Shrunk.{place_after}
+use Rattle.tabled_priority.proofs.Names.{CanChange, IsChanged, IsReached, IsScheduled, ap, arith, at, first_level, last_level, length}
+use Rattle.tabled_priority.proofs.Names.{place_after, share, subst, sym, ◌∙◌}
 use Rattle.tabled_priority.proofs.ByLevel.{IsPlanned, fits_by, scheduled_by, still_by}
 use Rattle.tabled_priority.proofs.Visiting.{IsBounded-whole, IsBounded-passes}
 use Rattle.tabled_priority.proofs.change.change_columns.Goals as goal

@@ -1,8 +1,5 @@
-use Rattle.std.proofs.Common.{◌≡◌, ◌<◌, length, slice_set, arith, sym, subst, ◌∙◌, ⊎_elim, length-set}
-use Rattle.std.proofs.lemmas.Bool.{cases_eq}
-use Rattle.std.proofs.lemmas.List.{get_or-set_same, get_or-set_other}
-use Rattle.tabled_priority.specs.Permitted.{at}
-use Rattle.tabled_priority.specs.Schedule.{CanChange, IsChanged, first_level, last_level, share}
+use Rattle.tabled_priority.proofs.Names.{CanChange, IsChanged, arith, at, cases_eq, first_level, get_or-set_other, get_or-set_same}
+use Rattle.tabled_priority.proofs.Names.{last_level, length, length-set, share, slice_set, subst, sym, ⊎_elim, ◌<◌, ◌∙◌, ◌≡◌}
 use Rattle.tabled_priority.proofs.Shares.{share-at}
 use Rattle.tabled_priority.proofs.change.change_to.Goals as goal
 

@@ -1,7 +1,4 @@
-use Rattle.std.proofs.Common.{◌≡◌, ℕ, ◌<◌, ◌≤◌, length}
-use Rattle.tabled_priority.specs.Permitted.{at}
-use Rattle.tabled_priority.specs.Schedule.{IsChanged, first_level, last_level, share}
-use Rattle.tabled_priority.specs.Visits.{counted}
+use Rattle.tabled_priority.proofs.Names.{IsChanged, at, counted, first_level, last_level, length, share, ℕ, ◌<◌, ◌≡◌, ◌≤◌}
 use Rattle.tabled_priority.proofs.change.change_to.Given as goal
 
 abbrev pub invariant-loop-place : goal.invariant-loop-place

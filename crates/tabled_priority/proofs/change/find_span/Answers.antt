@@ -1,10 +1,7 @@
-use Rattle.std.proofs.Common.{◌≡◌, ◌+◌, ◌-◌, ◌<◌, ◌≤◌, ℕ, true, MatchBool, arith, inl, inr, subst, sym, ◌∙◌}
-use Rattle.std.proofs.lemmas.Bool.Decides.{nat_tests}
-use Rattle.tabled_priority.specs.Sums.{one_if}
-use Rattle.tabled_priority.specs.Laws.Sums.{sum_below-prefix}
+use Rattle.tabled_priority.proofs.Names.{arith, columns_of, first_of, inl, inr, is_open, last_of, nat_tests, one_if, start, start_of, subst}
+use Rattle.tabled_priority.proofs.Names.{sum_below-prefix, sym, true, ℕ, ◌+◌, ◌-◌, ◌<◌, ◌∙◌, ◌≡◌, ◌≤◌}
+use Rattle.std.proofs.Common.{MatchBool}
 use Rattle.tabled_priority.specs.Laws.Round.{start-le}
-use Rattle.tabled_priority.specs.Schedule.{columns_of, first_of, is_open, last_of, start_of}
-use Rattle.tabled_priority.specs.Shrunk.{start}
 use Rattle.tabled_priority.proofs.Spans.{span_right, span_round}
 use Rattle.tabled_priority.proofs.change.find_span.Goals as goal
 use Rattle.tabled_priority.proofs.change.find_span.Goals.{then-rest-ahead, else-rest-ahead}

@@ -1,4 +1,4 @@
-use Rattle.std.proofs.Common.{arith}
+use Rattle.tabled_priority.proofs.Names.{arith}
 use Rattle.tabled_priority.proofs.Givers.{spare_up_to-zero}
 use Rattle.tabled_priority.proofs.in_order.find_sizes.Goals as goal
 

@@ -1,7 +1,4 @@
-use Rattle.std.proofs.Common.{ℕ, ◌+◌, ◌*◌, ◌<◌, ◌≤◌, length}
-use Rattle.tabled_priority.specs.Permitted.{at}
-use Rattle.tabled_priority.specs.Spares.{spare_up_to}
-use Rattle.tabled_priority.specs.Visits.{counted}
+use Rattle.tabled_priority.proofs.Names.{at, counted, length, spare_up_to, ℕ, ◌*◌, ◌+◌, ◌<◌, ◌≤◌}
 use Rattle.tabled_priority.proofs.in_order.find_sizes.Given as goal
 
 abbrev pub invariant-loop-place : goal.invariant-loop-place

@@ -1,5 +1,4 @@
-use Rattle.std.proofs.Common.{arith, length}
-use Rattle.tabled_priority.specs.Numbers.{greatest_usize}
+use Rattle.tabled_priority.proofs.Names.{arith, greatest_usize, length}
 use Rattle.tabled_priority.proofs.Between.{side_between}
 use Rattle.tabled_priority.proofs.Passes.{side-shrunk}
 use Rattle.tabled_priority.proofs.Visiting.{IsBounded-whole}

@@ -1,7 +1,5 @@
-use Rattle.std.proofs.Common.{◌≡◌, arith, length, sym, ◌∙◌}
+use Rattle.tabled_priority.proofs.Names.{arith, greatest_usize, length, sym, taken, ◌∙◌, ◌≡◌}
 use Rattle.tabled_priority.specs.Laws.Shrunk.{IsMinShrunk-still}
-use Rattle.tabled_priority.specs.Numbers.{greatest_usize}
-use Rattle.tabled_priority.specs.Permitted.{taken}
 use Rattle.tabled_priority.proofs.Between.{min_between}
 use Rattle.tabled_priority.proofs.Givers.{spare_up_to-all}
 use Rattle.tabled_priority.proofs.Passes.{min-shrunk}

@@ -1,6 +1,4 @@
-use Rattle.std.proofs.Common.{◌≡◌, ◌<◌, ◌≤◌, min, arith, ap, sym, subst, ◌∙◌, ⊎_elim}
-use Rattle.std.proofs.lemmas.Bool.{cases_eq, cases_lt}
-use Rattle.tabled_priority.specs.Permitted.{at, low}
+use Rattle.tabled_priority.proofs.Names.{ap, arith, at, cases_eq, cases_lt, low, min, subst, sym, ⊎_elim, ◌<◌, ◌∙◌, ◌≡◌, ◌≤◌}
 use Rattle.tabled_priority.proofs.level.highest.Goals as goal
 use Rattle.tabled_priority.proofs.level.highest.Goals.{then-size-least, else-size-least}
 

@@ -1,5 +1,4 @@
-use Rattle.std.proofs.Common.{◌≡◌, ℕ, ◌<◌, ◌≤◌, length}
-use Rattle.tabled_priority.specs.Permitted.{at, low}
+use Rattle.tabled_priority.proofs.Names.{at, length, low, ℕ, ◌<◌, ◌≡◌, ◌≤◌}
 use Rattle.tabled_priority.proofs.level.highest.Given as goal
 
 abbrev pub invariant-loop-place : goal.invariant-loop-place

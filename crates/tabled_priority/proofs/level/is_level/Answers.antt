@@ -1,6 +1,4 @@
-use Rattle.std.proofs.Common.{arith}
-use Rattle.tabled_priority.specs.Permitted.{at}
-use Rattle.tabled_priority.specs.Laws.Permitted.{in_range}
+use Rattle.tabled_priority.proofs.Names.{arith, at, in_range}
 use Rattle.tabled_priority.proofs.Optimal.{HasLeastGreatest-from_level}
 use Rattle.tabled_priority.proofs.level.is_level.Goals as goal
 

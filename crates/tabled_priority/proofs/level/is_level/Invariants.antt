@@ -1,5 +1,4 @@
-use Rattle.std.proofs.Common.{ℕ, ◌+◌, ◌<◌, ◌≤◌}
-use Rattle.tabled_priority.specs.Permitted.{at}
+use Rattle.tabled_priority.proofs.Names.{at, ℕ, ◌+◌, ◌<◌, ◌≤◌}
 use Rattle.tabled_priority.proofs.level.is_level.Given as goal
 
 abbrev pub invariant-loop-place : goal.invariant-loop-place

@@ -1,4 +1,4 @@
-use Rattle.std.proofs.Common.{arith}
+use Rattle.tabled_priority.proofs.Names.{arith}
 use Rattle.tabled_priority.proofs.ByLevel.{wanted_by}
 use Rattle.tabled_priority.proofs.schedule.amount_by.Goals as goal
 

@@ -1,5 +1,4 @@
-use Rattle.std.proofs.Common.{arith}
-use Rattle.tabled_priority.specs.Schedule.{columns_of, first_of, last_of}
+use Rattle.tabled_priority.proofs.Names.{arith, columns_of, first_of, last_of}
 use Rattle.tabled_priority.proofs.Ramps.{total_amount-le, total_amount-zero}
 use Rattle.tabled_priority.proofs.schedule.find_base.Goals as goal
 

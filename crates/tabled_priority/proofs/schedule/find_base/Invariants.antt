@@ -1,6 +1,5 @@
-use Rattle.std.proofs.Common.{ℕ, ◌+◌, ◌*◌, ◌<◌, ◌≤◌}
-use Rattle.tabled_priority.specs.Schedule.{columns_of, first_of, last_of, total_of}
-use Rattle.tabled_priority.specs.Visits.{counted}
+use Rattle.tabled_priority.proofs.Names.{columns_of, counted, first_of, last_of, ℕ, ◌*◌, ◌+◌, ◌<◌, ◌≤◌}
+use Rattle.tabled_priority.specs.Schedule.{total_of}
 use Rattle.tabled_priority.proofs.schedule.find_base.Given as goal
 
 abbrev pub invariant-loop-place : goal.invariant-loop-place

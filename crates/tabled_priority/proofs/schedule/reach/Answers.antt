@@ -1,10 +1,8 @@
-use Rattle.std.proofs.Common.{◌≡◌, ◌+◌, ◌-◌, ◌*◌, ◌/◌, ◌%◌, ◌<◌, ◌≤◌, ℕ, List, arith, subst, sym}
+use Rattle.tabled_priority.proofs.Names.{Depths, Gains, Heights, IsBase, IsReached, List, Rounds, Schedule, arith, at, columns_of, first_of}
+use Rattle.tabled_priority.proofs.Names.{greatest_usize, last_level, last_of, open_count, subst, sym, total_amount, ℕ, ◌*◌, ◌+◌, ◌-◌, ◌<◌}
+use Rattle.tabled_priority.proofs.Names.{◌≡◌, ◌≤◌}
+use Rattle.std.proofs.Common.{◌/◌, ◌%◌}
 use Rattle.std.proofs.Math.Nat.{mul_comm}
-use Rattle.tabled_priority.specs.Numbers.{greatest_usize}
-use Rattle.tabled_priority.specs.declared.schedule.Schedule.{Schedule}
-use Rattle.tabled_priority.specs.declared.schedule.Schedule.TheVariants.{Depths, Rounds, Heights, Gains}
-use Rattle.tabled_priority.specs.Permitted.{at}
-use Rattle.tabled_priority.specs.Schedule.{IsBase, IsReached, columns_of, first_of, last_level, last_of, open_count, total_amount}
 use Rattle.tabled_priority.proofs.Ramps.{reached, open_some, open_below}
 use Rattle.tabled_priority.proofs.schedule.reach.Goals as goal
 

@@ -1,7 +1,4 @@
-use Rattle.std.proofs.Common.{◌≡◌, min}
-use Rattle.tabled_priority.specs.Numbers.{greatest_usize}
-use Rattle.tabled_priority.specs.Schedule.{total_amount, first_level, last_level}
-use Rattle.tabled_priority.specs.Visits.{counted}
+use Rattle.tabled_priority.proofs.Names.{counted, first_level, greatest_usize, last_level, min, total_amount, ◌≡◌}
 use Rattle.tabled_priority.proofs.schedule.total_amount.Given as goal
 
 abbrev pub invariant-loop-place : goal.invariant-loop-place

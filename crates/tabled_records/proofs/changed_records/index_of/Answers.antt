@@ -1,4 +1,4 @@
-use Rattle.std.proofs.Common.{◌+◌, ◌*◌, ap, arith}
+use Rattle.tabled_records.proofs.Names.{ap, arith, ◌*◌, ◌+◌}
 use Rattle.tabled_records.proofs.ChangedRows.{place-bounds, rows-place}
 use Rattle.tabled_records.proofs.changed_records.index_of.Goals as goal
 

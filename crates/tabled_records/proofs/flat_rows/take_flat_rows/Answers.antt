@@ -1,10 +1,9 @@
-use Rattle.std.proofs.Common.{◌≡◌, ◌-◌, true, [], ◌∷◌, length, ap, arith, length-append, rules}
+use Rattle.tabled_records.proofs.Names.{[], ap, arith, length, length-append, length-map, part, true, ◌-◌, ◌∷◌, ◌≡◌}
+use Rattle.std.proofs.Common.{rules}
 use Rattle.std.proofs.lemmas.Grind.{common_steps}
-use Rattle.std.proofs.lemmas.List.{length-map}
 use Rattle.tabled_records.proofs.Joining.{on-err}
 use Rattle.tabled_records.proofs.Rows.{parts-added, ranges-added}
 use Rattle.tabled_records.proofs.RowsRead.{reads-both, reads-some}
-use Rattle.tabled_records.specs.JoinedRows.{part}
 use Rattle.tabled_records.proofs.flat_rows.take_flat_rows.Goals as goal
 
 pub rows-preserved : goal.rows-preserved

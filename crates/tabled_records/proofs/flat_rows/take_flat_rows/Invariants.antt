@@ -1,6 +1,4 @@
-use Rattle.std.proofs.Common.{◌-◌, ◌≤◌, length}
-use Rattle.tabled_records.specs.JoinedRows.{AreRanges, parts}
-use Rattle.tabled_records.specs.Reading.{MayGive, Reads}
+use Rattle.tabled_records.proofs.Names.{AreRanges, MayGive, Reads, length, parts, ◌-◌, ◌≤◌}
 use Rattle.tabled_records.proofs.flat_rows.take_flat_rows.Given as goal
 
 abbrev pub invariant-rows : goal.invariant-rows

@@ -1,4 +1,4 @@
-use Rattle.std.proofs.Common.{◌≡◌, ℕ, length, get_or}
+use Rattle.tabled_records.proofs.Names.{get_or, length, ℕ, ◌≡◌}
 use Rattle.tabled_records.proofs.joined_records.push_ends.Given as goal
 
 abbrev pub invariant-ones : goal.invariant-ones

@@ -1,4 +1,4 @@
-use Rattle.std.proofs.Common.{◌≡◌, ◌++◌, map}
+use Rattle.tabled_records.proofs.Names.{map, ◌++◌, ◌≡◌}
 use Rattle.tabled_records.proofs.joined_records.push_texts.Given as goal
 
 abbrev pub invariant-loop-cell : goal.invariant-loop-cell

@@ -1,7 +1,5 @@
-use Rattle.std.proofs.Common.{◌≡◌, ◌==◌, ◌-◌, drop, length, sym, ap, ◌∙◌, arith}
-use Rattle.std.specs.List.{slice_range}
-use Rattle.std.proofs.lemmas.List.{length-drop, length-take}
-use Rattle.std.proofs.lemmas.List.Splits.{slice_split_none}
+use Rattle.tabled_records.proofs.Names.{ap, arith, drop, length, length-drop, length-take, slice_range, slice_split_none, sym, ◌-◌, ◌==◌}
+use Rattle.tabled_records.proofs.Names.{◌∙◌, ◌≡◌}
 use Rattle.tabled_text.specs.Measure.{line_columns}
 use Rattle.tabled_text.proofs.Bridge.{text_columns-one}
 use Rattle.tabled_text.proofs.PlainLines.{plain_line-printable, text_columns-plain_line}

@@ -1,10 +1,7 @@
-use Rattle.std.proofs.Common.{◌≡◌, ℕ, List, false, true, ◌+◌, ◌-◌, ◌<◌, ◌≤◌, ◌++◌, [], ◌∷◌, length, get_or, sym, ap, subst, ◌∙◌, arith, length-append}
-use Rattle.std.specs.Int.{is_in_range}
-use Rattle.tabled_base.specs.Cells.{lengthened_rows}
-use Rattle.tabled_text.specs.Measure.{lines_of}
-use Rattle.tabled_records.specs.Joined.{texts_from}
-use Rattle.tabled_records.specs.JoinedRows.{AreRanges, rows_in}
-use Rattle.tabled_records.proofs.Cutting.{IsWithin, cut-feed, cut-tab, cut-start, lent-next, no-feed, placed-next, printable-run, rows-cut, within-end, within-more, within-none, within-run}
+use Rattle.tabled_records.proofs.Names.{AreRanges, List, [], ap, arith, false, get_or, is_in_range, length, length-append, lengthened_rows}
+use Rattle.tabled_records.proofs.Names.{lines_of, rows_in, subst, sym, texts_from, true, ℕ, ◌++◌, ◌+◌, ◌-◌, ◌<◌, ◌∙◌, ◌∷◌, ◌≡◌, ◌≤◌}
+use Rattle.tabled_records.proofs.Cutting.{IsWithin, cut-feed, cut-tab, cut-start, lent-next, no-feed, placed-next, printable-run, rows-cut}
+use Rattle.tabled_records.proofs.Cutting.{within-end, within-more, within-none, within-run}
 use Rattle.tabled_records.proofs.Rows.{rows-lines}
 use Rattle.tabled_records.proofs.lent_rows.split_rows.Goals as goal
 

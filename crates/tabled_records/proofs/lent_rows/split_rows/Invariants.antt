@@ -1,6 +1,4 @@
-use Rattle.std.proofs.Common.{◌≡◌, ◌-◌, ◌≤◌, true, length}
-use Rattle.std.specs.List.{slice_range}
-use Rattle.tabled_records.specs.LentRows.{IsPrintable}
+use Rattle.tabled_records.proofs.Names.{IsPrintable, length, slice_range, true, ◌-◌, ◌≡◌, ◌≤◌}
 use Rattle.tabled_records.proofs.Cutting.{IsCut, IsWithin}
 use Rattle.tabled_records.proofs.lent_rows.split_rows.Given as goal
 

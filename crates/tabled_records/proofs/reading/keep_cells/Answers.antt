@@ -1,4 +1,4 @@
-use Rattle.std.proofs.Common.{[], ◌∷◌, ◌++◌, ◌∙◌, ap, refl, sym, append-nil, append_assoc}
+use Rattle.tabled_records.proofs.Names.{[], ap, append-nil, append_assoc, refl, sym, ◌++◌, ◌∙◌, ◌∷◌}
 use Rattle.tabled_records.proofs.PassRuns.{walked_more}
 use Rattle.tabled_records.proofs.reading.keep_cells.Goals as goal
 use Rattle.tabled_records.proofs.Joining.{on-err}

@@ -1,5 +1,4 @@
-use Rattle.std.proofs.Common.{◌≡◌, ◌++◌}
-use Rattle.tabled_records.specs.Reading.{Walked}
+use Rattle.tabled_records.proofs.Names.{Walked, ◌++◌, ◌≡◌}
 use Rattle.tabled_records.proofs.reading.keep_cells.Given as goal
 
 abbrev pub invariant-cells : goal.invariant-cells

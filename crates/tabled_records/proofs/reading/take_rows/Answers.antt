@@ -1,5 +1,4 @@
-use Rattle.std.proofs.Common.{[], ◌∷◌, length, ap, arith, length-append}
-use Rattle.std.proofs.lemmas.List.{length-map, map-append}
+use Rattle.tabled_records.proofs.Names.{[], ap, arith, length, length-append, length-map, map-append, ◌∷◌}
 use Rattle.tabled_records.proofs.RowsRead.{reads-both, reads-some}
 use Rattle.tabled_records.proofs.reading.take_rows.Goals as goal
 use Rattle.tabled_records.proofs.Joining.{on-err}

@@ -1,5 +1,4 @@
-use Rattle.std.proofs.Common.{◌-◌, ◌≤◌, length, map}
-use Rattle.tabled_records.specs.Reading.{MayGive, Reads}
+use Rattle.tabled_records.proofs.Names.{MayGive, Reads, length, map, ◌-◌, ◌≤◌}
 use Rattle.tabled_records.proofs.reading.take_rows.Given as goal
 
 abbrev pub invariant-rows : goal.invariant-rows

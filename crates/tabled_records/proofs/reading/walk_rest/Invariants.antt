@@ -1,5 +1,4 @@
-use Rattle.std.specs.Iterator.{size}
-use Rattle.tabled_records.specs.Reading.{Walked}
+use Rattle.tabled_records.proofs.Names.{Walked, size}
 use Rattle.tabled_records.proofs.reading.walk_rest.Given as goal
 
 abbrev pub invariant-loop-cell : goal.invariant-loop-cell

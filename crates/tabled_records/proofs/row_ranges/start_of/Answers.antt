@@ -1,4 +1,4 @@
-use Rattle.std.proofs.Common.{◌+◌, ap, ◌∙◌, arith}
+use Rattle.tabled_records.proofs.Names.{ap, arith, ◌+◌, ◌∙◌}
 use Rattle.tabled_records.proofs.Joining.{begin-behind, begin-first}
 use Rattle.tabled_records.proofs.row_ranges.start_of.Goals as goal
 

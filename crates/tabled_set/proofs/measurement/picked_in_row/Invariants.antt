@@ -1,7 +1,5 @@
-use Rattle.std.proofs.Common.{◌≡◌, map}
-use Rattle.std.specs.List.{range_with_len}
-use Rattle.tabled_set.specs.Common.{cell_at}
-use Rattle.tabled_set.specs.Extremes.{extent_of, picked}
+use Rattle.tabled_set.proofs.Names.{cell_at, map, picked, range_with_len, ◌≡◌}
+use Rattle.tabled_set.specs.Extremes.{extent_of}
 use Rattle.tabled_set.proofs.measurement.picked_in_row.Given as goal
 
 abbrev pub invariant-columns : goal.invariant-columns

@@ -1,6 +1,5 @@
-use Rattle.std.proofs.Common.{◌≡◌, map}
-use Rattle.std.specs.List.{range_with_len}
-use Rattle.tabled_set.specs.Extremes.{picked, picked_in_row}
+use Rattle.tabled_set.proofs.Names.{map, picked, range_with_len, ◌≡◌}
+use Rattle.tabled_set.specs.Extremes.{picked_in_row}
 use Rattle.tabled_set.proofs.measurement.picked_of_rows.Given as goal
 
 abbrev pub invariant-rows : goal.invariant-rows

@@ -1,7 +1,5 @@
-use Rattle.std.proofs.Common.{◌≡◌, ◌≤◌, ◌-◌, ◌^◌, ℕ, List, ap, arith, false, inl, inr, rules, subst, sum}
-use Rattle.std.proofs.lemmas.Result.{err_from_is_err_and}
-use Rattle.tabled_set.specs.Common.{effective, is_empty, is_stored, Sheet, total_width}
-use Rattle.tabled_set.specs.Increased.{IsGrownBy}
+use Rattle.tabled_set.proofs.Names.{IsGrownBy, List, Sheet, ap, arith, effective, err_from_is_err_and, false, inl, inr, is_empty, is_stored}
+use Rattle.tabled_set.proofs.Names.{rules, subst, sum, total_width, ℕ, ◌-◌, ◌^◌, ◌≡◌, ◌≤◌}
 use Rattle.tabled_set.proofs.PromisedSizes.{made-wider, wide-already, widths-fit}
 use Rattle.tabled_set.proofs.NarrowingTables.{effective-filled, fails-lacking, if-err}
 use Rattle.tabled_set.proofs.Stopping.{stops-measuring}

@@ -1,6 +1,4 @@
-use Rattle.std.proofs.Common.{◌≡◌, ◌<◌, ℕ, None, length, slice_index_or}
-use Rattle.tabled_set.specs.Minimums.{side_columns}
-use Rattle.tabled_set.specs.Narrowed.{permitted_width}
+use Rattle.tabled_set.proofs.Names.{None, length, permitted_width, side_columns, slice_index_or, ℕ, ◌<◌, ◌≡◌}
 use Rattle.tabled_set.proofs.narrowing.content_widths.Given as goal
 
 abbrev pub invariant-columns : goal.invariant-columns

@@ -1,13 +1,10 @@
-use Rattle.std.proofs.Common.{◌≡◌, ℕ, ◌≤◌, ◌<◌, ◌⊎◌, ◌∙◌, IfErr, IfSome, MatchOption, None, Option, Some, false, inl, refl, rules, slice_index_or, subst}
-use Rattle.std.proofs.lemmas.Result.{err_from_is_err_and}
-use Rattle.tabled_set.specs.Common.{effective, is_empty, is_stored, Memory, Range, Sheet, total_width}
-use Rattle.tabled_set.specs.Narrowed.{content_width, less_padding, NarrowingOutOfRange, IsFound}
-use Rattle.tabled_set.specs.Minimums.{own_padding}
+use Rattle.tabled_set.proofs.Names.{IfErr, IfSome, IsFound, MatchOption, Memory, NarrowingOutOfRange, None, Option, Range, Sheet, Shrinks}
+use Rattle.tabled_set.proofs.Names.{Some, content_width, effective, err_from_is_err_and, false, inl, is_empty, is_stored, less_padding}
+use Rattle.tabled_set.proofs.Names.{own_padding, refl, rules, slice_index_or, subst, total_width, ℕ, ◌<◌, ◌∙◌, ◌≡◌, ◌≤◌, ◌⊎◌}
 use Rattle.tabled_set.specs.declared.narrowing.ColumnWidths.{ColumnWidths}
-use Rattle.tabled_set.proofs.NarrowingTables.{sized-before, sized-made}
-use Rattle.tabled_set.proofs.NarrowingTables.{fails-lacking, if-err, narrows-none, narrows-some, passes-before, stops-some, stops-wider}
+use Rattle.tabled_set.proofs.NarrowingTables.{sized-before, sized-made, fails-lacking, if-err, narrows-none, narrows-some, passes-before}
+use Rattle.tabled_set.proofs.NarrowingTables.{stops-some, stops-wider}
 use Rattle.tabled_set.proofs.Stopping.{stops-measuring}
-use Rattle.tabled_set.specs.Priorities.{Shrinks}
 use Rattle.tabled_set.proofs.narrowing.narrow_table.Goals as goal
 
 pub returns-in_err-n-clause-err : goal.returns-in_err-n-clause-err

@@ -1,8 +1,6 @@
-use Rattle.std.proofs.Common.{◌≡◌, ◌∙◌, ℕ, List, None, [], ap, length, refl, replicate, slice_index_or, sym, take}
+use Rattle.tabled_set.proofs.Names.{List, None, SpannedConfig, [], ap, columns, effective, estimated_widths, length, minimums}
+use Rattle.tabled_set.proofs.Names.{permitted_width, refl, replicate, side_columns, slice_index_or, sym, take, ℕ, ◌∙◌, ◌≡◌}
 use Rattle.tabled_set.proofs.NarrowingTables.{content_widths-are, minimums-fit}
-use Rattle.tabled_set.specs.Common.{columns, effective, estimated_widths, SpannedConfig}
-use Rattle.tabled_set.specs.Minimums.{minimums, side_columns}
-use Rattle.tabled_set.specs.Narrowed.{permitted_width}
 use Rattle.tabled_set.proofs.narrowing.narrowed_widths.Goals as goal
 
 of_empty : (cells : List (List (List ℕ))) (config : SpannedConfig) (n m : ℕ) → n ≡ length cells → m ≡ columns cells

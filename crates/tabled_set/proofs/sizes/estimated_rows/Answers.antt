@@ -1,6 +1,5 @@
-use Rattle.std.proofs.Common.{◌≡◌, ℕ, ◌∙◌, List, ap, false, inr, length, refl, sym}
-use Rattle.tabled_set.specs.Common.{estimated, estimated_heights, filled_height, is_empty, SpannedConfig, total_height}
-use Rattle.tabled_size.specs.Reached.{reached}
+use Rattle.tabled_set.proofs.Names.{List, SpannedConfig, ap, estimated, estimated_heights, false, filled_height, inr, is_empty, length}
+use Rattle.tabled_set.proofs.Names.{reached, refl, sym, total_height, ℕ, ◌∙◌, ◌≡◌}
 use Rattle.tabled_set.proofs.PromisedSizes.{full_height}
 use Rattle.tabled_set.proofs.Totals.{padded, padded_height_total, padded_long, passes}
 use Rattle.tabled_set.proofs.sizes.estimated_rows.Goals as goal

@@ -1,7 +1,6 @@
-use Rattle.std.proofs.Common.{◌≡◌, ℕ, ◌∙◌, List, Some, ap, false, length, min, refl, sym, take}
+use Rattle.tabled_set.proofs.Names.{CompleteDimension, List, Some, SpannedConfig, ap, columns, effective, false, filled_width, is_empty}
+use Rattle.tabled_set.proofs.Names.{length, min, reached, refl, sym, take, total_width, widths_of, ℕ, ◌∙◌, ◌≡◌}
 use Rattle.std.proofs.lemmas.List.{take_min}
-use Rattle.tabled_set.specs.Common.{columns, CompleteDimension, effective, filled_width, is_empty, SpannedConfig, total_width, widths_of}
-use Rattle.tabled_size.specs.Reached.{reached}
 use Rattle.tabled_set.proofs.NarrowingTables.{effective-total, effective-widths}
 use Rattle.tabled_set.proofs.Totals.{padded, padded_long, padded_width_total, passes}
 use Rattle.tabled_set.proofs.sizes.stored_columns.Goals as goal

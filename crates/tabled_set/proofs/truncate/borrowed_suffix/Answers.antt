@@ -1,10 +1,11 @@
-use Rattle.std.proofs.Common.{◌≡◌, ◌⊎◌, ◌-◌, ◌==◌, ℕ, zero, suc, true, List, [], ◌∷◌, MatchBool, inl, inr, length, nat_lt, refl, subst, arith}
-use Rattle.std.proofs.Math.Dec.{eqb-suc-zero}
-use Rattle.std.proofs.lemmas.Bool.{MatchBool-at_true, MatchBool-at_false}
-use Rattle.tabled_set.specs.Truncated.{IsMade, IsMadeFor, IsLimited, IsUsed, suffix_columns, SuffixLimit}
+use Rattle.tabled_set.proofs.Names.{IsLimited, IsUsed, List, MatchBool, MatchBool-at_false, MatchBool-at_true, SuffixLimit, [], arith}
+use Rattle.tabled_set.proofs.Names.{eqb-suc-zero, inl, inr, length, nat_lt, refl, subst, suc, suffix_columns, true, zero, ℕ, ◌-◌, ◌==◌, ◌∷◌}
+use Rattle.tabled_set.proofs.Names.{◌≡◌, ◌⊎◌}
+use Rattle.tabled_set.specs.Truncated.{IsMade, IsMadeFor}
 use Rattle.tabled_set.proofs.TruncatedTexts.{no_columns}
 use Rattle.tabled_set.proofs.ChangingCells.{match-false, match-true}
-use Rattle.tabled_set.proofs.truncate.borrowed_suffix.Goals.{then-content_size-eq0-via-then-content_size-eq0, then-content_size-eq0-via-else-content_size-eq0+then-is_empty}
+use Rattle.tabled_set.proofs.truncate.borrowed_suffix.Goals.{then-content_size-eq0-via-then-content_size-eq0}
+use Rattle.tabled_set.proofs.truncate.borrowed_suffix.Goals.{then-content_size-eq0-via-else-content_size-eq0+then-is_empty}
 use Rattle.tabled_set.proofs.truncate.borrowed_suffix.Goals as goal
 
 empty : (suffix : List ℕ) → (length suffix == 0) ≡ true → suffix ≡ []

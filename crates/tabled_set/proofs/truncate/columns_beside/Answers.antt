@@ -1,6 +1,5 @@
-use Rattle.std.proofs.Common.{◌≡◌, [], ◌+◌, ◌-◌, ◌<◌, Some, None, ap, ◌∙◌, arith}
+use Rattle.tabled_set.proofs.Names.{None, Some, [], ap, arith, suffix_columns, ◌+◌, ◌-◌, ◌<◌, ◌∙◌, ◌≡◌}
 use Rattle.std.proofs.lemmas.Bool.{cond_below}
-use Rattle.tabled_set.specs.Truncated.{suffix_columns}
 use Rattle.tabled_set.proofs.JoinedLines.{taken, left_beside}
 use Rattle.tabled_set.proofs.truncate.columns_beside.Goals as goal
 

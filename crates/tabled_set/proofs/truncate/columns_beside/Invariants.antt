@@ -1,6 +1,4 @@
-use Rattle.std.proofs.Common.{◌≡◌, ◌+◌}
-use Rattle.tabled_text.specs.Lines.{lines_left}
-use Rattle.tabled_set.specs.Common.{lines_of}
+use Rattle.tabled_set.proofs.Names.{lines_left, lines_of, ◌+◌, ◌≡◌}
 use Rattle.tabled_set.proofs.JoinedLines.{taken}
 use Rattle.tabled_set.proofs.truncate.columns_beside.Given as goal
 

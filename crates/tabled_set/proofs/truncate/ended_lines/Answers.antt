@@ -1,9 +1,5 @@
-use Rattle.std.proofs.Common.{◌≡◌, ◌++◌, ◌∙◌, [], ◌∷◌, ap, sym, subst, true, false, cond, append-nil, lit<, string_bytes}
-use Rattle.std.proofs.lemmas.Str.{encode_ascii}
-use Rattle.std.specs.Cow.{cow_str_bytes}
-use Rattle.std.specs.List.{AllZip}
-use Rattle.tabled_text.specs.Lines.{lines_left}
-use Rattle.tabled_set.specs.Truncated.{HasEndedLines, IsEnded}
+use Rattle.tabled_set.proofs.Names.{AllZip, HasEndedLines, IsEnded, [], ap, append-nil, cond, cow_str_bytes, encode_ascii, false}
+use Rattle.tabled_set.proofs.Names.{lines_left, lit<, string_bytes, subst, sym, true, ◌++◌, ◌∙◌, ◌∷◌, ◌≡◌}
 use Rattle.tabled_set.proofs.JoinedLines.{appended, appended-all, appended-more}
 use Rattle.tabled_set.proofs.truncate.ended_lines.Goals.{then-begun+in_ok-push, else-begun}
 use Rattle.tabled_set.proofs.truncate.ended_lines.Goals as goal

@@ -1,8 +1,4 @@
-use Rattle.std.proofs.Common.{ℕ, List, ◌++◌, string_bytes}
-use Rattle.std.specs.Cow.{cow_str_bytes}
-use Rattle.std.specs.List.{AllZip}
-use Rattle.tabled_text.specs.Lines.{lines_left}
-use Rattle.tabled_set.specs.Truncated.{HasEndedLines, IsEnded}
+use Rattle.tabled_set.proofs.Names.{AllZip, HasEndedLines, IsEnded, List, cow_str_bytes, lines_left, string_bytes, ℕ, ◌++◌}
 use Rattle.tabled_set.proofs.JoinedLines.{appended}
 use Rattle.tabled_set.proofs.truncate.ended_lines.Given as goal
 

@@ -1,5 +1,4 @@
-use Rattle.std.proofs.Common.{◌++◌, ◌∙◌, ap, string_bytes}
-use Rattle.std.specs.Cow.{cow_str_bytes}
+use Rattle.tabled_set.proofs.Names.{ap, cow_str_bytes, string_bytes, ◌++◌, ◌∙◌}
 use Rattle.tabled_set.proofs.JoinedLines.{AddsEnded-cut}
 use Rattle.tabled_set.proofs.truncate.push_ended.Goals as goal
 

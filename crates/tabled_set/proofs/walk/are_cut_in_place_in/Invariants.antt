@@ -1,5 +1,4 @@
-use Rattle.std.proofs.Common.{◌&&◌}
-use Rattle.tabled_set.specs.CellChanges.{precedes, ByRow, NeedNoMemory, needs, on_line}
+use Rattle.tabled_set.proofs.Names.{ByRow, NeedNoMemory, needs, on_line, precedes, ◌&&◌}
 use Rattle.tabled_set.proofs.walk.are_cut_in_place_in.Given as goal
 
 abbrev pub invariant-columns : goal.invariant-columns

@@ -1,7 +1,5 @@
-use Rattle.std.proofs.Common.{◌≡◌, ◌⊎◌, ℕ, Bool, List, arith, inl, inr, subst}
-use Rattle.std.proofs.lemmas.Result.{err_from_is_err_and}
-use Rattle.tabled_set.specs.Common.{covers}
-use Rattle.tabled_set.specs.CellChanges.{AreChangedBefore, NeedNoMemory, WalkOrder, leaves, needs}
+use Rattle.tabled_set.proofs.Names.{AreChangedBefore, Bool, List, NeedNoMemory, WalkOrder, arith, covers, err_from_is_err_and, inl, inr}
+use Rattle.tabled_set.proofs.Names.{leaves, needs, subst, ℕ, ◌≡◌, ◌⊎◌}
 use Rattle.tabled_set.proofs.ChangingCells.{AreChanged-both, lines-more, stops-later}
 use Rattle.tabled_set.proofs.walk.change_cells.Goals as goal
 

@@ -1,6 +1,4 @@
-use Rattle.std.proofs.Common.{◌&&◌}
-use Rattle.tabled_set.specs.Common.{covers}
-use Rattle.tabled_set.specs.CellChanges.{AreChanged, precedes, leaves}
+use Rattle.tabled_set.proofs.Names.{AreChanged, covers, leaves, precedes, ◌&&◌}
 use Rattle.tabled_set.proofs.walk.change_cells.Given as goal
 
 abbrev pub invariant-lines : goal.invariant-lines

@@ -1,5 +1,4 @@
-use Rattle.std.proofs.Common.{arith}
-use Rattle.std.proofs.lemmas.Result.{err_from_is_err_and}
+use Rattle.tabled_set.proofs.Names.{arith, err_from_is_err_and}
 use Rattle.tabled_set.proofs.ChangingCells.{AreChanged-next, on_line-itself, on_line-next, stops-there}
 use Rattle.tabled_set.proofs.walk.change_line.Goals as goal
 

@@ -1,5 +1,4 @@
-use Rattle.std.proofs.Common.{◌&&◌}
-use Rattle.tabled_set.specs.CellChanges.{AreChanged, precedes, leaves, on_line}
+use Rattle.tabled_set.proofs.Names.{AreChanged, leaves, on_line, precedes, ◌&&◌}
 use Rattle.tabled_set.proofs.walk.change_line.Given as goal
 
 abbrev pub invariant-places : goal.invariant-places

@@ -1,6 +1,4 @@
-use Rattle.std.proofs.Common.{◌&&◌}
-use Rattle.tabled_set.specs.Common.{covers}
-use Rattle.tabled_set.specs.CellChanges.{precedes, ByRow, NeedNoMemory, needs}
+use Rattle.tabled_set.proofs.Names.{ByRow, NeedNoMemory, covers, needs, precedes, ◌&&◌}
 use Rattle.tabled_set.proofs.walk.order_for.Given as goal
 
 abbrev pub invariant-rows : goal.invariant-rows

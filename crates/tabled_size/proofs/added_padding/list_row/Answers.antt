@@ -1,7 +1,4 @@
-use Rattle.std.proofs.Common.{◌++◌, ◌∷◌, [], ◌∙◌, ap, sym, map, arith}
-use Rattle.std.specs.List.{range_with_len}
-use Rattle.std.proofs.lemmas.List.FromFn.{map-range_with_len_more}
-use Rattle.tabled_size.specs.Added.{added_at, added_by}
+use Rattle.tabled_size.proofs.Names.{[], added_at, added_by, ap, arith, map, map-range_with_len_more, range_with_len, sym, ◌++◌, ◌∙◌, ◌∷◌}
 use Rattle.tabled_size.proofs.added_padding.list_row.Goals as goal
 
 pub columns-preserved : goal.columns-preserved

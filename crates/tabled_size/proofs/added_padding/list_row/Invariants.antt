@@ -1,6 +1,4 @@
-use Rattle.std.proofs.Common.{◌≡◌, map}
-use Rattle.std.specs.List.{range_with_len}
-use Rattle.tabled_size.specs.Added.{added_at}
+use Rattle.tabled_size.proofs.Names.{added_at, map, range_with_len, ◌≡◌}
 use Rattle.tabled_size.proofs.added_padding.list_row.Given as goal
 
 abbrev pub invariant-columns : goal.invariant-columns

@@ -1,7 +1,5 @@
-use Rattle.std.proofs.Common.{◌≡◌, ◌++◌, ◌∷◌, [], ◌∙◌, ap, sym, length, map, arith}
-use Rattle.std.specs.List.{range_with_len}
-use Rattle.std.proofs.lemmas.List.FromFn.{map-range_with_len_more}
-use Rattle.tabled_size.specs.Estimates.{estimated_heights, row_height}
+use Rattle.tabled_size.proofs.Names.{[], ap, arith, estimated_heights, length, map, map-range_with_len_more, range_with_len, row_height}
+use Rattle.tabled_size.proofs.Names.{sym, ◌++◌, ◌∙◌, ◌∷◌, ◌≡◌}
 use Rattle.tabled_size.proofs.estimate.estimate_heights.Goals as goal
 
 pub rows-preserved : goal.rows-preserved

@@ -1,6 +1,4 @@
-use Rattle.std.proofs.Common.{◌≡◌, map}
-use Rattle.std.specs.List.{range_with_len}
-use Rattle.tabled_size.specs.Estimates.{row_height}
+use Rattle.tabled_size.proofs.Names.{map, range_with_len, row_height, ◌≡◌}
 use Rattle.tabled_size.proofs.estimate.estimate_heights.Given as goal
 
 abbrev pub invariant-rows : goal.invariant-rows

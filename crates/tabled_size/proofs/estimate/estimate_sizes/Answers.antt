@@ -1,9 +1,6 @@
-use Rattle.std.proofs.Common.{◌≡◌, ◌++◌, ◌∷◌, [], ◌∙◌, ℕ, ap, sym, length, map, replicate, arith, rules, subst}
-use Rattle.std.specs.List.{range_with_len}
-use Rattle.std.proofs.lemmas.List.FromFn.{map-range_with_len_more}
-use Rattle.tabled_base.specs.Cells.{columns}
-use Rattle.tabled_size.specs.Added.{KnowsAdded}
-use Rattle.tabled_size.specs.Estimates.{column_width, estimated_heights, estimated_widths, needed_width, row_height}
+use Rattle.tabled_size.proofs.Names.{KnowsAdded, [], ap, arith, column_width, columns, estimated_heights, estimated_widths, length, map}
+use Rattle.tabled_size.proofs.Names.{map-range_with_len_more, needed_width, range_with_len, replicate, row_height, rules, subst, sym, ℕ}
+use Rattle.tabled_size.proofs.Names.{◌++◌, ◌∙◌, ◌∷◌, ◌≡◌}
 use Rattle.tabled_size.proofs.Greatest.{greatest_below, greatest_each, greatest_none, written_back}
 use Rattle.tabled_size.proofs.estimate.estimate_sizes.Goals as goal
 

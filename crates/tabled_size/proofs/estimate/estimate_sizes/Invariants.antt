@@ -1,8 +1,4 @@
-use Rattle.std.proofs.Common.{◌≡◌, map}
-use Rattle.std.specs.List.{range_with_len}
-use Rattle.tabled_base.specs.Cells.{columns}
-use Rattle.tabled_size.specs.Added.{KnowsAdded}
-use Rattle.tabled_size.specs.Estimates.{needed_width, row_height}
+use Rattle.tabled_size.proofs.Names.{KnowsAdded, columns, map, needed_width, range_with_len, row_height, ◌≡◌}
 use Rattle.tabled_size.proofs.Greatest.{greatest_below}
 use Rattle.tabled_size.proofs.estimate.estimate_sizes.Given as goal
 

@@ -1,7 +1,5 @@
-use Rattle.std.proofs.Common.{◌≡◌, ◌∙◌, ℕ, ap, length, map, replicate, arith, rules}
-use Rattle.std.specs.List.{range_with_len}
-use Rattle.tabled_base.specs.Cells.{columns}
-use Rattle.tabled_size.specs.Estimates.{column_width, estimated_widths, needed_width}
+use Rattle.tabled_size.proofs.Names.{ap, arith, column_width, columns, estimated_widths, length, map, needed_width, range_with_len}
+use Rattle.tabled_size.proofs.Names.{replicate, rules, ℕ, ◌∙◌, ◌≡◌}
 use Rattle.tabled_size.proofs.Greatest.{greatest_below, greatest_each, greatest_none, written_back}
 use Rattle.tabled_size.proofs.estimate.estimate_widths.Goals as goal
 

@@ -1,7 +1,4 @@
-use Rattle.std.proofs.Common.{◌≡◌, map}
-use Rattle.std.specs.List.{range_with_len}
-use Rattle.tabled_base.specs.Cells.{columns}
-use Rattle.tabled_size.specs.Estimates.{needed_width}
+use Rattle.tabled_size.proofs.Names.{columns, map, needed_width, range_with_len, ◌≡◌}
 use Rattle.tabled_size.proofs.Greatest.{greatest_below}
 use Rattle.tabled_size.proofs.estimate.estimate_widths.Given as goal
 

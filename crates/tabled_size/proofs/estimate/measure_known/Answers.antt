@@ -1,8 +1,6 @@
-use Rattle.std.proofs.Common.{◌∙◌, ap, sym, arith}
+use Rattle.tabled_size.proofs.Names.{added_at, added_by, ap, arith, columns, get_or-map-range_with_len, sym, ◌∙◌}
 use Rattle.std.specs.List.{slice_index_or}
-use Rattle.std.proofs.lemmas.List.FromFn.{get_or-map-range_with_len}
-use Rattle.tabled_base.specs.Cells.{columns}
-use Rattle.tabled_size.specs.Added.{added_at, added_by, nothing}
+use Rattle.tabled_size.specs.Added.{nothing}
 use Rattle.tabled_size.proofs.estimate.measure_known.Goals as goal
 
 pub measure_row-requires-in-Unlike-Some-clause-known : goal.measure_row-requires-in-Unlike-Some-clause-known

@@ -1,9 +1,5 @@
-use Rattle.std.proofs.Common.{◌≡◌, ◌∙◌, ◌<◌, ◌≤◌, ◌^◌, ap, inl, inr, max, arith, get_or}
-use Rattle.std.specs.List.{slice_index}
-use Rattle.std.proofs.lemmas.List.FromFn.{fill_by_all}
-use Rattle.tabled_base.specs.Cells.{columns}
-use Rattle.tabled_size.specs.declared.added_padding.Extent.{Extent}
-use Rattle.tabled_size.specs.Estimates.{needed_height, needed_width, row_height}
+use Rattle.tabled_size.proofs.Names.{Extent, ap, arith, columns, fill_by_all, get_or, inl, inr, max, needed_height, needed_width}
+use Rattle.tabled_size.proofs.Names.{row_height, slice_index, ◌<◌, ◌^◌, ◌∙◌, ◌≡◌, ◌≤◌}
 use Rattle.tabled_size.proofs.Greatest.{greatest_below, greatest_more}
 use Rattle.tabled_size.proofs.Passing.{added_passes, if_none}
 use Rattle.tabled_size.proofs.Raising.{raised-more, rest-more}

@@ -1,8 +1,4 @@
-use Rattle.std.proofs.Common.{◌∙◌, ap, max, arith, get_or}
-use Rattle.std.specs.List.{slice_index}
-use Rattle.std.proofs.lemmas.List.FromFn.{fill_by_all}
-use Rattle.tabled_base.specs.Cells.{columns}
-use Rattle.tabled_size.specs.Estimates.{needed_width}
+use Rattle.tabled_size.proofs.Names.{ap, arith, columns, fill_by_all, get_or, max, needed_width, slice_index, ◌∙◌}
 use Rattle.tabled_size.proofs.Raising.{raised-more, rest-more}
 use Rattle.tabled_size.proofs.estimate.raise_widths.Goals as goal
 

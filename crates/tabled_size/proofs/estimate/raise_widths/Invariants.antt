@@ -1,6 +1,4 @@
-use Rattle.std.proofs.Common.{◌≡◌, ℕ, ◌<◌, ◌≤◌, max}
-use Rattle.std.specs.List.{slice_index}
-use Rattle.tabled_size.specs.Estimates.{needed_width}
+use Rattle.tabled_size.proofs.Names.{max, needed_width, slice_index, ℕ, ◌<◌, ◌≡◌, ◌≤◌}
 use Rattle.tabled_size.proofs.estimate.raise_widths.Given as goal
 
 abbrev pub invariant-columns : goal.invariant-columns

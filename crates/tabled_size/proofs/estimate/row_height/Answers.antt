@@ -1,7 +1,5 @@
-use Rattle.std.proofs.Common.{◌≡◌, ◌+◌, ◌∙◌, ap, arith}
-use Rattle.tabled_size.specs.Estimates.{needed_height, row_height}
+use Rattle.tabled_size.proofs.Names.{ap, arith, columns, needed_height, row_height, ◌+◌, ◌∙◌, ◌≡◌}
 use Rattle.tabled_size.proofs.Greatest.{greatest_below, greatest_more}
-use Rattle.tabled_base.specs.Cells.{columns}
 use Rattle.tabled_config.specs.declared.sides.Indent.{Indent}
 use Rattle.tabled_config.specs.declared.sides.Sides.{Sides}
 use Rattle.tabled_size.proofs.estimate.row_height.Goals as goal

@@ -1,5 +1,4 @@
-use Rattle.std.proofs.Common.{◌≡◌}
-use Rattle.tabled_size.specs.Estimates.{needed_height}
+use Rattle.tabled_size.proofs.Names.{needed_height, ◌≡◌}
 use Rattle.tabled_size.proofs.Greatest.{greatest_below}
 use Rattle.tabled_size.proofs.estimate.row_height.Given as goal
 

@@ -1,4 +1,4 @@
-use Rattle.std.proofs.Common.{refl, arith}
+use Rattle.tabled_size.proofs.Names.{arith, refl}
 use Rattle.tabled_size.proofs.Reaching.{missing_at, reached_so}
 use Rattle.tabled_size.proofs.total.check_heights.Goals as goal
 

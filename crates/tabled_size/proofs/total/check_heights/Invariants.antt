@@ -1,4 +1,4 @@
-use Rattle.std.proofs.Common.{◌≡◌, ◌<◌, ℕ, is_some, true}
+use Rattle.tabled_size.proofs.Names.{is_some, true, ℕ, ◌<◌, ◌≡◌}
 use Rattle.tabled_size.proofs.total.check_heights.Given as goal
 
 abbrev pub invariant-rows : goal.invariant-rows

@@ -1,5 +1,4 @@
-use Rattle.std.proofs.Common.{◌<◌, ◌≤◌, is_some, ap, ◌∙◌, refl, arith, ⊎_elim}
-use Rattle.std.proofs.lemmas.Bool.{cases_lt}
+use Rattle.tabled_size.proofs.Names.{ap, arith, cases_lt, is_some, refl, ⊎_elim, ◌<◌, ◌∙◌, ◌≤◌}
 use Rattle.tabled_size.proofs.Reaching.{missing_at, reached_so}
 use Rattle.tabled_size.proofs.total.check_widths.Goals as goal
 

@@ -1,5 +1,4 @@
-use Rattle.std.proofs.Common.{◌≡◌, ◌∙◌, ℕ, ap, arith, length}
-use Rattle.tabled_size.specs.Estimates.{column_width, needed_width}
+use Rattle.tabled_size.proofs.Names.{ap, arith, column_width, length, needed_width, ℕ, ◌∙◌, ◌≡◌}
 use Rattle.tabled_size.proofs.Greatest.{greatest_below, greatest_more}
 use Rattle.tabled_size.proofs.total.column_width.Goals as goal
 

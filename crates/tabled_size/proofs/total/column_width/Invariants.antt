@@ -1,5 +1,4 @@
-use Rattle.std.proofs.Common.{◌≡◌}
-use Rattle.tabled_size.specs.Estimates.{needed_width}
+use Rattle.tabled_size.proofs.Names.{needed_width, ◌≡◌}
 use Rattle.tabled_size.proofs.Greatest.{greatest_below}
 use Rattle.tabled_size.proofs.total.column_width.Given as goal
 

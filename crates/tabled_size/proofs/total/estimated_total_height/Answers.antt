@@ -1,6 +1,4 @@
-use Rattle.std.proofs.Common.{◌≡◌, ◌≤◌, ◌∙◌, ℕ, MatchOption, ⊎_elim, ap, arith, false, length, subst, sym}
-use Rattle.tabled_size.specs.Sheet.{is_empty}
-use Rattle.tabled_size.specs.Totals.{framed_height}
+use Rattle.tabled_size.proofs.Names.{MatchOption, ap, arith, false, framed_height, is_empty, length, subst, sym, ℕ, ⊎_elim, ◌∙◌, ◌≡◌, ◌≤◌}
 use Rattle.tabled_size.proofs.EstimatedTotals.{filled-height-total, framed-height-total, none-of, sum-in-height}
 use Rattle.tabled_size.proofs.Passing.{too_high_passes}
 use Rattle.tabled_size.proofs.total.estimated_total_height.Goals as goal

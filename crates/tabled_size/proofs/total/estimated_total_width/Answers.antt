@@ -1,7 +1,4 @@
-use Rattle.std.proofs.Common.{◌≡◌, ◌≤◌, ◌∙◌, ℕ, MatchOption, ⊎_elim, ap, arith, false, subst, sym}
-use Rattle.tabled_base.specs.Cells.{columns}
-use Rattle.tabled_size.specs.Sheet.{is_empty}
-use Rattle.tabled_size.specs.Totals.{framed_width}
+use Rattle.tabled_size.proofs.Names.{MatchOption, ap, arith, columns, false, framed_width, is_empty, subst, sym, ℕ, ⊎_elim, ◌∙◌, ◌≡◌, ◌≤◌}
 use Rattle.tabled_size.proofs.EstimatedTotals.{filled-width-total, framed-width-total, none-of, sum-in-width}
 use Rattle.tabled_size.proofs.Passing.{too_wide_passes}
 use Rattle.tabled_size.proofs.total.estimated_total_width.Goals as goal

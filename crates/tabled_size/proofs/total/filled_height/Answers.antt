@@ -1,7 +1,4 @@
-use Rattle.std.proofs.Common.{◌≡◌, ◌∙◌, ap, arith, is_some}
-use Rattle.tabled_priority.specs.Sums.{one_if}
-use Rattle.tabled_size.specs.Reached.{reached}
-use Rattle.tabled_size.specs.Totals.{part_height, rules_at}
+use Rattle.tabled_size.proofs.Names.{ap, arith, is_some, one_if, part_height, reached, rules_at, ◌∙◌, ◌≡◌}
 use Rattle.tabled_size.proofs.EstimatedTotals.{sum-more}
 use Rattle.tabled_size.proofs.Reaching.{reached_size, reached_there}
 use Rattle.tabled_size.proofs.total.filled_height.Goals as goal

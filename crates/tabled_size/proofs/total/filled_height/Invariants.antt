@@ -1,7 +1,4 @@
-use Rattle.std.proofs.Common.{◌≡◌}
-use Rattle.tabled_size.specs.Reached.{reached}
-use Rattle.tabled_priority.specs.Sums.{sum_below}
-use Rattle.tabled_size.specs.Totals.{part_height}
+use Rattle.tabled_size.proofs.Names.{part_height, reached, sum_below, ◌≡◌}
 use Rattle.tabled_size.proofs.total.filled_height.Given as goal
 
 abbrev pub invariant-rows : goal.invariant-rows

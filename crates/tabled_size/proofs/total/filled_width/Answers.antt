@@ -1,6 +1,4 @@
-use Rattle.std.proofs.Common.{arith}
-use Rattle.std.specs.List.{slice_index}
-use Rattle.tabled_size.specs.Reached.{reached}
+use Rattle.tabled_size.proofs.Names.{arith, reached, slice_index}
 use Rattle.tabled_size.proofs.EstimatedTotals.{sum-more}
 use Rattle.tabled_size.proofs.Reaching.{reached_size, reached_there}
 use Rattle.tabled_size.proofs.total.filled_width.Goals as goal

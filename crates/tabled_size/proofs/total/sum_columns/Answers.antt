@@ -1,7 +1,4 @@
-use Rattle.std.proofs.Common.{◌<◌, ◌∙◌, arith, inr, sym}
-use Rattle.std.specs.List.{slice_index}
-use Rattle.tabled_base.specs.Cells.{columns}
-use Rattle.tabled_size.specs.Estimates.{estimated_widths}
+use Rattle.tabled_size.proofs.Names.{arith, columns, estimated_widths, inr, slice_index, sym, ◌<◌, ◌∙◌}
 use Rattle.tabled_size.proofs.EstimatedTotals.{none-of, sum-more, sum-passes}
 use Rattle.tabled_size.proofs.Passing.{width_at}
 use Rattle.tabled_size.proofs.total.sum_columns.Goals as goal

@@ -1,7 +1,4 @@
-use Rattle.std.proofs.Common.{◌≡◌}
-use Rattle.std.specs.List.{slice_index}
-use Rattle.tabled_priority.specs.Sums.{sum_below}
-use Rattle.tabled_size.specs.Estimates.{estimated_widths}
+use Rattle.tabled_size.proofs.Names.{estimated_widths, slice_index, sum_below, ◌≡◌}
 use Rattle.tabled_size.proofs.total.sum_columns.Given as goal
 
 abbrev pub invariant-columns : goal.invariant-columns

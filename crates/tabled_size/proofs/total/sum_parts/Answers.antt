@@ -1,8 +1,5 @@
-use Rattle.std.proofs.Common.{◌≡◌, ℕ, ◌+◌, ◌<◌, ◌∙◌, List, ap, arith, inl, inr, is_some, length}
-use Rattle.tabled_config.specs.declared.spanned.SpannedConfig.{SpannedConfig}
-use Rattle.tabled_priority.specs.Sums.{one_if}
-use Rattle.tabled_size.specs.Estimates.{estimated_heights, row_height}
-use Rattle.tabled_size.specs.Totals.{part_height, rules_at}
+use Rattle.tabled_size.proofs.Names.{List, SpannedConfig, ap, arith, estimated_heights, inl, inr, is_some, length, one_if, part_height}
+use Rattle.tabled_size.proofs.Names.{row_height, rules_at, ℕ, ◌+◌, ◌<◌, ◌∙◌, ◌≡◌}
 use Rattle.tabled_size.proofs.EstimatedTotals.{none-of, part-passes, sum-more, sum-passes}
 use Rattle.tabled_size.proofs.Passing.{height_at}
 use Rattle.tabled_size.proofs.total.sum_parts.Goals as goal

@@ -1,7 +1,4 @@
-use Rattle.std.proofs.Common.{◌≡◌, length}
-use Rattle.tabled_priority.specs.Sums.{sum_below}
-use Rattle.tabled_size.specs.Estimates.{estimated_heights}
-use Rattle.tabled_size.specs.Totals.{part_height}
+use Rattle.tabled_size.proofs.Names.{estimated_heights, length, part_height, sum_below, ◌≡◌}
 use Rattle.tabled_size.proofs.total.sum_parts.Given as goal
 
 abbrev pub invariant-rows : goal.invariant-rows

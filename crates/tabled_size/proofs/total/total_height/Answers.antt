@@ -1,9 +1,7 @@
-use Rattle.std.proofs.Common.{◌∙◌, ℕ, List, Option, Some, ap, length, option_map, refl, sym}
+use Rattle.tabled_size.proofs.Names.{List, Option, Some, ap, effective_sizes, estimated_heights, filled_height, length, option_map, refl}
+use Rattle.tabled_size.proofs.Names.{sym, ℕ, ◌∙◌}
 use Rattle.tabled_base.specs.declared.error.TableError.TheVariants.{ShortHeights}
-use Rattle.tabled_size.specs.Effective.{effective_sizes}
-use Rattle.tabled_size.specs.Estimates.{estimated_heights}
 use Rattle.tabled_size.specs.Stored.{heights_of}
-use Rattle.tabled_size.specs.Totals.{filled_height}
 use Rattle.tabled_size.proofs.Passing.{too_high_passes}
 use Rattle.tabled_size.proofs.Totalling.{reached_estimates, reached_stands, total_moved, total_refused, heights_length}
 use Rattle.tabled_size.proofs.total.total_height.Goals as goal

@@ -1,10 +1,7 @@
-use Rattle.std.proofs.Common.{◌∙◌, ℕ, List, Option, Some, ap, option_map, refl, sym}
-use Rattle.tabled_base.specs.Cells.{columns}
+use Rattle.tabled_size.proofs.Names.{List, Option, Some, ap, columns, effective_sizes, estimated_widths, filled_width, option_map, refl}
+use Rattle.tabled_size.proofs.Names.{sym, ℕ, ◌∙◌}
 use Rattle.tabled_base.specs.declared.error.TableError.TheVariants.{ShortWidths}
-use Rattle.tabled_size.specs.Effective.{effective_sizes}
-use Rattle.tabled_size.specs.Estimates.{estimated_widths}
 use Rattle.tabled_size.specs.Stored.{widths_of}
-use Rattle.tabled_size.specs.Totals.{filled_width}
 use Rattle.tabled_size.proofs.Passing.{too_wide_passes}
 use Rattle.tabled_size.proofs.Totalling.{reached_estimates, reached_stands, total_moved, total_refused, widths_length}
 use Rattle.tabled_size.proofs.total.total_width.Goals as goal

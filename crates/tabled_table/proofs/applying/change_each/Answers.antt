@@ -1,9 +1,8 @@
-use Rattle.std.proofs.Common.{List, [], ◌∷◌, ◌++◌, refl, arith, subst}
-use Rattle.std.proofs.lemmas.List.{take_more}
+use Rattle.tabled_table.proofs.Names.{ChangesEach, List, [], arith, refl, subst, take_more, ◌++◌, ◌∷◌}
 use Rattle.tabled_base.specs.declared.position.Entity.{Entity}
 use Rattle.tabled_base.specs.declared.position.Entity.TheVariants.{Global}
 use Rattle.tabled_config.specs.declared.colored.ColoredConfig.{ColoredConfig}
-use Rattle.tabled_table.specs.Applied.{CellChange, Cells, ChangesEach}
+use Rattle.tabled_table.specs.Applied.{CellChange, Cells}
 use Rattle.tabled_table.proofs.applying.change_each.Goals as goal
 
 -- one entity more

@@ -1,5 +1,4 @@
-use Rattle.std.proofs.Common.{take}
-use Rattle.tabled_table.specs.Applied.{ChangesEach}
+use Rattle.tabled_table.proofs.Names.{ChangesEach, take}
 use Rattle.tabled_table.proofs.applying.change_each.Given as goal
 
 abbrev pub invariant-loop-entity : goal.invariant-loop-entity

@@ -1,5 +1,4 @@
-use Rattle.std.proofs.lemmas.List.{map-append}
-use Rattle.tabled_records.proofs.RowsRead.{reads-both}
+use Rattle.tabled_table.proofs.Names.{map-append, reads-both}
 use Rattle.tabled_table.proofs.iter_table.collect_rows.Goals as goal
 
 pub rows-preserved : goal.rows-preserved

@@ -1,6 +1,4 @@
-use Rattle.std.proofs.Common.{map}
-use Rattle.std.specs.Iterator.{size}
-use Rattle.tabled_records.specs.Reading.{MayGive, Reads}
+use Rattle.tabled_table.proofs.Names.{MayGive, Reads, map, size}
 use Rattle.tabled_table.proofs.iter_table.collect_rows.Given as goal
 
 abbrev pub invariant-rows : goal.invariant-rows

@@ -1,4 +1,4 @@
-use Rattle.std.proofs.Common.{sym, ◌∙◌}
+use Rattle.tabled_text.proofs.Names.{sym, ◌∙◌}
 use Rattle.tabled_text.proofs.LetterLemmas.{narrow-count, wide-count}
 use Rattle.tabled_text.proofs.character.char_count.Goals as goal
 

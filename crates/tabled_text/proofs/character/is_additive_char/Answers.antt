@@ -1,4 +1,4 @@
-use Rattle.std.proofs.Common.{sym, ◌∙◌}
+use Rattle.tabled_text.proofs.Names.{sym, ◌∙◌}
 use Rattle.tabled_text.proofs.PlainLemmas.{is_additive-listed}
 use Rattle.tabled_text.proofs.character.is_additive_char.Goals as goal
 

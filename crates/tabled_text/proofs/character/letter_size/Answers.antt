@@ -1,5 +1,4 @@
-use Rattle.std.proofs.Common.{ap, sym, subst, ◌∙◌, ◌<◌, ◌≤◌}
-use Rattle.tabled_text.specs.Letters.{is_narrow_lead, is_wide_lead}
+use Rattle.tabled_text.proofs.Names.{ap, is_narrow_lead, is_wide_lead, subst, sym, ◌<◌, ◌∙◌, ◌≤◌}
 use Rattle.tabled_text.proofs.LetterLemmas.{ascii-length, narrow-length, narrow-letter, wide-length, wide-letter}
 use Rattle.tabled_text.proofs.character.letter_size.Goals as goal
 

@@ -1,5 +1,4 @@
-use Rattle.std.proofs.Common.{◌≡◌, ◌++◌, length, ap, length-append, arith}
-use Rattle.std.proofs.lemmas.Str.{chars_past_char, length-encode, len_utf8_bounds}
+use Rattle.tabled_text.proofs.Names.{ap, arith, chars_past_char, len_utf8_bounds, length, length-append, length-encode, ◌++◌, ◌≡◌}
 use Rattle.std.specs.Prelude.{encode_utf8}
 use Rattle.tabled_text.proofs.character.split_first.Goals as goal
 

@@ -1,6 +1,4 @@
-use Rattle.std.proofs.Common.{ap, arith, length, get_or, sym, subst, ◌∙◌, ◌<◌}
-use Rattle.std.proofs.lemmas.Bool.Decides.{nat_tests}
-use Rattle.tabled_text.specs.Letters.{BeginsBy, IsLetter}
+use Rattle.tabled_text.proofs.Names.{BeginsBy, IsLetter, ap, arith, get_or, length, nat_tests, subst, sym, ◌<◌, ◌∙◌}
 use Rattle.tabled_text.proofs.LetterLemmas.{letter-split}
 use Rattle.tabled_text.proofs.character.split_letter.Goals as goal
 

@@ -1,5 +1,4 @@
-use Rattle.std.proofs.Common.{arith, subst, sym, ◌∙◌}
-use Rattle.tabled_text.specs.Walk.{IsPiece}
+use Rattle.tabled_text.proofs.Names.{IsPiece, arith, subst, sym, ◌∙◌}
 use Rattle.tabled_text.proofs.CutLemmas.{front_boundary, front_taken}
 use Rattle.tabled_text.proofs.Pieces.{Taken-more, Taken-start}
 use Rattle.tabled_text.proofs.character.split_piece.Goals as goal

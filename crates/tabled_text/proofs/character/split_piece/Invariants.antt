@@ -1,4 +1,4 @@
-use Rattle.std.proofs.Common.{length}
+use Rattle.tabled_text.proofs.Names.{length}
 use Rattle.tabled_text.proofs.Pieces.{Taken}
 use Rattle.tabled_text.proofs.character.split_piece.Given as goal
 

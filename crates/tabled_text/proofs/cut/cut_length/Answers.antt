@@ -1,5 +1,4 @@
-use Rattle.std.proofs.Common.{chars, subst}
-use Rattle.tabled_text.specs.Cut.{IsParted}
+use Rattle.tabled_text.proofs.Names.{IsParted, chars, subst}
 use Rattle.tabled_text.proofs.CutOnce.{no_fill}
 use Rattle.tabled_text.proofs.cut.cut_length.Goals as goal
 

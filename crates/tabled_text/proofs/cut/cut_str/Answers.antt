@@ -1,7 +1,5 @@
-use Rattle.std.proofs.Common.{◌≡◌, ◌++◌, encode_utf8_all, replicate}
+use Rattle.tabled_text.proofs.Names.{IfOk-weaker, IsCut, encode_utf8_all, replicate, ◌++◌, ◌≡◌}
 use Rattle.std.specs.Cow.{cow_str_bytes}
-use Rattle.std.proofs.lemmas.Result.{IfOk-weaker}
-use Rattle.tabled_text.specs.Cut.{IsCut}
 use Rattle.tabled_text.proofs.CutLemmas.{IsCut-filled}
 use Rattle.tabled_text.proofs.cut.cut_str.Goals as goal
 

@@ -1,6 +1,5 @@
-use Rattle.std.proofs.Common.{◌≡◌, ap, arith, subst, sym, take, true, ◌∙◌}
-use Rattle.std.specs.Str.{IsCharBoundary}
-use Rattle.std.proofs.lemmas.Str.{IsCharBoundary-from_take, IsUtf8-from_ascii}
+use Rattle.tabled_text.proofs.Names.{IsCharBoundary, IsUtf8-from_ascii, ap, arith, subst, sym, take, true, ◌∙◌, ◌≡◌}
+use Rattle.std.proofs.lemmas.Str.{IsCharBoundary-from_take}
 use Rattle.tabled_text.proofs.CutWhole.{IsParted-short}
 use Rattle.tabled_text.proofs.Pieces.{is_printable, IsAscii-printable, parted-printable}
 use Rattle.tabled_text.proofs.cut.part.Goals as goal

@@ -1,11 +1,7 @@
-use Rattle.std.proofs.Common.{◌+◌, ◌≤◌, ◌<◌, ap, arith, chars, get_or, sym, ◌∙◌, subst}
-use Rattle.std.proofs.lemmas.Str.{IsUtf8-past_char}
-use Rattle.std.specs.Str.{IsCharBoundary}
-use Rattle.tabled_text.specs.Measure.{char_count}
-use Rattle.tabled_text.specs.Cut.{IsParted}
-use Rattle.tabled_text.proofs.CutLemmas.{Walked, Walked-start, Walked-le, Walked-feed, Walked-push}
-use Rattle.tabled_text.proofs.CutLemmas.{IsParted-wide, IsParted-full, IsParted-end, front_taken}
-use Rattle.tabled_text.proofs.CutLemmas.{rest_taken, front_boundary}
+use Rattle.tabled_text.proofs.Names.{IsCharBoundary, IsParted, IsUtf8-past_char, ap, arith, char_count, chars, get_or, subst, sym, ◌+◌, ◌<◌}
+use Rattle.tabled_text.proofs.Names.{◌∙◌, ◌≤◌}
+use Rattle.tabled_text.proofs.CutLemmas.{Walked, Walked-start, Walked-le, Walked-feed, Walked-push, IsParted-wide, IsParted-full}
+use Rattle.tabled_text.proofs.CutLemmas.{IsParted-end, front_taken, rest_taken, front_boundary}
 use Rattle.tabled_text.proofs.LetterLemmas.{feed-lead, lead-feed}
 use Rattle.tabled_text.proofs.cut.part_by_chars.Goals as goal
 use Rattle.tabled_text.proofs.cut.part_by_chars.Goals.{in-Some+then-columns-n, in_default}

@@ -1,8 +1,6 @@
-use Rattle.std.proofs.Common.{◌≡◌, ◌<◌, ◌↔◌, ◌∙◌, sym, subst, Some, true, false, chars, option_copied, encode_utf8_all, IsTrue, inl, inr, arith}
-use Rattle.tabled_text.specs.Measure.{lines_of}
-use Rattle.tabled_text.specs.Walk.{pending}
-use Rattle.tabled_text.specs.Expected.{Expects}
-use Rattle.tabled_text.specs.Wrapping.{IsFittingWrapping}
+use Rattle.tabled_text.proofs.Names.{Expects, IsFittingWrapping, Some, arith, chars, encode_utf8_all, false, inl, inr, lines_of}
+use Rattle.tabled_text.proofs.Names.{option_copied, pending, subst, sym, true, ◌<◌, ◌↔◌, ◌∙◌, ◌≡◌}
+use Rattle.std.proofs.Common.{IsTrue}
 use Rattle.tabled_text.proofs.CheckLemmas.{expected-iff, roomy-iff, not_roomy}
 use Rattle.tabled_text.proofs.FewestLines.{fewest-wrapped}
 use Rattle.tabled_text.proofs.OwnBreaking.{least_breaking}

@@ -1,7 +1,4 @@
-use Rattle.std.proofs.Common.{ap, sym, ◌∙◌, chars, map}
-use Rattle.std.specs.List.{list_all}
-use Rattle.tabled_text.specs.Lines.{lines_left}
-use Rattle.tabled_text.specs.Walk.{fits_line}
+use Rattle.tabled_text.proofs.Names.{ap, chars, fits_line, lines_left, list_all, map, sym, ◌∙◌}
 use Rattle.tabled_text.proofs.FitLemmas.{fits-wide}
 use Rattle.tabled_text.proofs.Bridge.{lines_of-chars}
 use Rattle.tabled_text.proofs.fewest_lines.units_fit.Goals as goal

@@ -1,8 +1,4 @@
-use Rattle.std.proofs.Common.{◌≡◌, chars, map}
-use Rattle.std.specs.List.{list_all}
-use Rattle.tabled_text.specs.Lines.{lines_left}
-use Rattle.tabled_text.specs.Measure.{lines_of}
-use Rattle.tabled_text.specs.Walk.{fits_line}
+use Rattle.tabled_text.proofs.Names.{chars, fits_line, lines_left, lines_of, list_all, map, ◌≡◌}
 use Rattle.tabled_text.proofs.fewest_lines.units_fit.Given as goal
 
 abbrev pub invariant-loop-line : goal.invariant-loop-line

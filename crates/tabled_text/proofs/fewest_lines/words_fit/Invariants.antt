@@ -1,9 +1,4 @@
-use Rattle.std.proofs.Common.{◌≡◌, chars, length}
-use denote.Text.{Utf8}
-use denote.Shadow.{shadow}
-use Rattle.std.specs.List.{list_all}
-use Rattle.tabled_text.specs.Units.{words_of}
-use Rattle.tabled_text.specs.Walk.{fits_word}
+use Rattle.tabled_text.proofs.Names.{Utf8, chars, fits_word, length, list_all, shadow, words_of, ◌≡◌}
 use Rattle.tabled_text.proofs.fewest_lines.words_fit.Given as goal
 
 abbrev pub invariant-words : goal.invariant-words

@@ -1,4 +1,4 @@
-use Rattle.std.proofs.Common.{arith}
+use Rattle.tabled_text.proofs.Names.{arith}
 use Rattle.tabled_text.proofs.FewestLines.{lines-cut}
 use Rattle.tabled_text.proofs.LongestLemmas.{cut_longest, cut_kept}
 use Rattle.tabled_text.proofs.StayLemmas.{StaysWithin-cut, StaysWithin-cut_before, StaysWithin-suffix}

@@ -1,6 +1,4 @@
-use Rattle.std.proofs.Common.{sym, ◌∙◌}
-use Rattle.std.proofs.lemmas.Bool.{or_right}
-use Rattle.tabled_text.specs.Plain.{is_listed, is_drawn}
+use Rattle.tabled_text.proofs.Names.{is_drawn, is_listed, or_right, sym, ◌∙◌}
 use Rattle.tabled_text.proofs.PlainLemmas.{is_plain-listed, is_additive-listed, is_additive-plain}
 use Rattle.tabled_text.proofs.PlainLines.{only_plain-printable, additive_column-plain, additive-plain}
 use Rattle.tabled_text.proofs.WrapRoom.{only_plain_replacement}

@@ -1,4 +1,4 @@
-use Rattle.std.proofs.Common.{sym, ◌∙◌, chars}
+use Rattle.tabled_text.proofs.Names.{chars, sym, ◌∙◌}
 use Rattle.tabled_text.proofs.PlainLemmas.{line_columns-plain, count_of-plain}
 use Rattle.tabled_text.proofs.WrapRoom.{plain_replacement}
 use Rattle.tabled_text.proofs.laws.plain_columns.Goals as goal

@@ -1,4 +1,4 @@
-use Rattle.std.proofs.Common.{chars, ◌∙◌}
+use Rattle.tabled_text.proofs.Names.{chars, ◌∙◌}
 use Rattle.tabled_text.proofs.PlainLemmas.{line_columns-plain}
 use Rattle.tabled_text.proofs.laws.plain_line_width.Goals as goal
 

@@ -1,4 +1,4 @@
-use Rattle.std.proofs.Common.{lit<}
+use Rattle.tabled_text.proofs.Names.{lit<}
 use Rattle.std.proofs.lemmas.Iterator.Splits.{YieldsList-from_str_split}
 use Rattle.std.proofs.lemmas.Iterator.Consumers.{count_from_yields_List}
 use Rattle.tabled_text.proofs.measure.count_lines.Goals as goal

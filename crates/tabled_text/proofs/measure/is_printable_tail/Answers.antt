@@ -1,5 +1,4 @@
-use Rattle.std.proofs.Common.{sym, ◌∙◌, arith}
-use Rattle.std.specs.Int.{is_in_range}
+use Rattle.tabled_text.proofs.Names.{arith, is_in_range, sym, ◌∙◌}
 use Rattle.tabled_text.proofs.RunLemmas.{all-later}
 use Rattle.tabled_text.proofs.measure.is_printable_tail.Goals as goal
 

@@ -1,12 +1,6 @@
-use Rattle.std.proofs.Common.{◌≡◌, ◌+◌, [], ap, arith, chars, length, sum_by, true, false, ◌∙◌}
-use Rattle.std.specs.List.{list_all}
-use Rattle.std.proofs.lemmas.Bool.{and_from}
-use Rattle.std.proofs.lemmas.Bool.Decides.{nat_tests}
-use Rattle.std.proofs.lemmas.List.{nil_from_length}
-use Rattle.std.proofs.lemmas.List.Sums.{sum_by-cons}
-use Rattle.std.proofs.lemmas.Str.{IsUtf8-past_char, chars-nil}
-use Rattle.unicode_width.proofs.Rules.{is_simple, str_width-simple}
-use Rattle.tabled_text.specs.Measure.{char_columns, line_columns}
+use Rattle.tabled_text.proofs.Names.{IsUtf8-past_char, [], and_from, ap, arith, char_columns, chars, chars-nil, false, is_simple, length}
+use Rattle.tabled_text.proofs.Names.{line_columns, list_all, nat_tests, nil_from_length, str_width-simple, sum_by, sum_by-cons, true, ◌+◌}
+use Rattle.tabled_text.proofs.Names.{◌∙◌, ◌≡◌}
 use Rattle.tabled_text.proofs.measure.letters_width.Goals as goal
 
 pub letters-init : goal.letters-init

@@ -1,9 +1,5 @@
-use Rattle.std.proofs.Common.{◌≡◌, ◌+◌, ◌*◌, ◌≤◌, true, chars, length, sum_by}
-use Rattle.std.specs.List.{list_all}
-use denote.Text.{Utf8}
-use denote.Shadow.{shadow}
-use Rattle.unicode_width.proofs.Rules.{is_simple}
-use Rattle.tabled_text.specs.Measure.{char_columns, line_columns}
+use Rattle.tabled_text.proofs.Names.{Utf8, char_columns, chars, is_simple, length, line_columns, list_all, shadow, sum_by, true, ◌*◌, ◌+◌}
+use Rattle.tabled_text.proofs.Names.{◌≡◌, ◌≤◌}
 use Rattle.tabled_text.proofs.measure.letters_width.Given as goal
 
 abbrev pub invariant-letters : goal.invariant-letters

@@ -1,4 +1,4 @@
-use Rattle.std.proofs.Common.{sym, ◌∙◌}
+use Rattle.tabled_text.proofs.Names.{sym, ◌∙◌}
 use Rattle.tabled_text.proofs.PlainLines.{plain_line-printable}
 use Rattle.tabled_text.proofs.measure.line_width.Goals as goal
 

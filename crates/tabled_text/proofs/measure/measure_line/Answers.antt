@@ -1,8 +1,4 @@
-use Rattle.std.proofs.Common.{◌≡◌, List, ℕ, ◌∷◌, map, take, true, ap, sym, ◌∙◌}
-use Rattle.std.specs.Int.{is_in_range}
-use Rattle.std.specs.List.{list_all}
-use Rattle.tabled_text.specs.Lines.{lines_in}
-use Rattle.tabled_text.specs.Measure.{line_columns}
+use Rattle.tabled_text.proofs.Names.{List, ap, is_in_range, line_columns, lines_in, list_all, map, sym, take, true, ℕ, ◌∙◌, ◌∷◌, ◌≡◌}
 use Rattle.tabled_text.proofs.PlainLines.{plain_line-printable}
 use Rattle.tabled_text.proofs.RunLemmas.{run-front}
 use Rattle.tabled_text.proofs.Searched.{lines-split}

@@ -1,7 +1,6 @@
-use Rattle.std.proofs.Common.{rules, ◌≡◌, ◌+◌, ◌<◌, ℕ, List, ◌∷◌, map, length, arith, ap, subst, ◌∙◌, IfSome, IsUtf8}
-use Rattle.std.proofs.lemmas.List.{length-map}
-use Rattle.tabled_text.specs.Lines.{lines_in}
-use Rattle.tabled_text.specs.Measure.{greatest, line_columns, lines_of}
+use Rattle.tabled_text.proofs.Names.{IfSome, List, ap, arith, greatest, length, length-map, line_columns, lines_in, lines_of, map, subst, ℕ}
+use Rattle.tabled_text.proofs.Names.{◌+◌, ◌<◌, ◌∙◌, ◌∷◌, ◌≡◌}
+use Rattle.std.proofs.Common.{rules, IsUtf8}
 use Rattle.tabled_text.proofs.BoundLemmas.{count_lines-le}
 use Rattle.tabled_text.proofs.Bridge.{some_line}
 use Rattle.tabled_text.proofs.measure.measures_of_lines.Goals as goal

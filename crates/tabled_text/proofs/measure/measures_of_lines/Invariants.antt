@@ -1,7 +1,4 @@
-use Rattle.std.proofs.Common.{◌≡◌, ◌+◌, ◌*◌, ◌≤◌, length, max}
-use denote.Shadow.{shadow}
-use denote.Text.{Utf8}
-use Rattle.tabled_text.specs.Measure.{lines_of, text_columns}
+use Rattle.tabled_text.proofs.Names.{Utf8, length, lines_of, max, shadow, text_columns, ◌*◌, ◌+◌, ◌≡◌, ◌≤◌}
 use Rattle.tabled_text.specs.Runs.{EndsRun}
 use Rattle.tabled_text.proofs.measure.measures_of_lines.Given as goal
 

@@ -1,7 +1,4 @@
-use Rattle.std.proofs.Common.{◌≡◌, true, drop, length, sym, ap, ◌∙◌, arith}
-use Rattle.std.specs.Int.{is_in_range}
-use Rattle.std.specs.List.{list_all}
-use Rattle.std.proofs.lemmas.List.{length-drop}
+use Rattle.tabled_text.proofs.Names.{ap, arith, drop, is_in_range, length, length-drop, list_all, sym, true, ◌∙◌, ◌≡◌}
 use Rattle.tabled_text.proofs.PlainLines.{plain_line-lines, plain_line-printable, text_columns-plain_line}
 use Rattle.tabled_text.proofs.measure.tail_measures.Goals as goal
 

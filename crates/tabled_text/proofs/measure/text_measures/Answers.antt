@@ -1,6 +1,4 @@
-use Rattle.std.proofs.Common.{◌≡◌, length, true, arith, sym, ap, ◌∙◌}
-use Rattle.std.specs.Int.{is_in_range}
-use Rattle.std.specs.List.{list_all}
+use Rattle.tabled_text.proofs.Names.{ap, arith, is_in_range, length, list_all, sym, true, ◌∙◌, ◌≡◌}
 use Rattle.tabled_text.proofs.PlainLines.{plain_line-lines, plain_line-printable, text_columns-plain_line}
 use Rattle.tabled_text.proofs.RunLemmas.{run-all}
 use Rattle.tabled_text.proofs.measure.text_measures.Goals as goal

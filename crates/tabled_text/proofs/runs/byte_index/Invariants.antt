@@ -1,4 +1,4 @@
-use Rattle.std.proofs.Common.{◌-◌, ◌≤◌, length}
+use Rattle.tabled_text.proofs.Names.{length, ◌-◌, ◌≤◌}
 use Rattle.tabled_text.specs.Runs.{IsMissing}
 use Rattle.tabled_text.proofs.runs.byte_index.Given as goal
 

@@ -1,6 +1,5 @@
-use Rattle.std.proofs.Common.{◌%◌, ◌^◌, ltb, map, replicate, ap, ◌∙◌, arith, w8}
-use Rattle.std.specs.Simd.Lanes.{mask_l}
-use Rattle.std.proofs.lemmas.List.{length-map}
+use Rattle.tabled_text.proofs.Names.{ap, arith, length-map, ltb, map, mask_l, replicate, w8, ◌%◌, ◌∙◌}
+use Rattle.std.proofs.Common.{◌^◌}
 use Rattle.std.proofs.lemmas.Simd.{mask_l-mod, tops_compared, zip2_splat_left}
 use Rattle.tabled_text.proofs.runs.greater.Goals as goal
 

@@ -1,8 +1,4 @@
-use Rattle.std.proofs.Common.{◌≡◌, true, false, length, drop, arith, inl, inr}
-use Rattle.std.specs.Int.{is_in_range}
-use Rattle.std.specs.List.{list_all}
-use Rattle.std.proofs.lemmas.Bool.{cases_lt}
-use Rattle.std.proofs.lemmas.Bool.Decides.{nat_tests}
+use Rattle.tabled_text.proofs.Names.{arith, cases_lt, drop, false, inl, inr, is_in_range, length, list_all, nat_tests, true, ◌≡◌}
 use Rattle.tabled_text.proofs.RunLemmas.{run-all, run-some}
 use Rattle.tabled_text.proofs.runs.is_run.Goals as goal
 

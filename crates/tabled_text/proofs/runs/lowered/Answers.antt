@@ -1,4 +1,4 @@
-use Rattle.std.proofs.Common.{◌+◌, ◌-◌, ◌%◌}
+use Rattle.tabled_text.proofs.Names.{◌%◌, ◌+◌, ◌-◌}
 use Rattle.std.proofs.lemmas.Simd.{zip2_splat}
 use Rattle.tabled_text.proofs.runs.lowered.Goals as goal
 

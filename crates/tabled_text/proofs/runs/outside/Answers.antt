@@ -1,5 +1,4 @@
-use Rattle.std.proofs.Common.{◌+◌, ◌-◌, ◌%◌, map, ltb, ap, ◌∙◌, arith, w8}
-use Rattle.std.specs.Simd.Lanes.{chunk, mask_l}
+use Rattle.tabled_text.proofs.Names.{ap, arith, chunk, ltb, map, mask_l, w8, ◌%◌, ◌+◌, ◌-◌, ◌∙◌}
 use Rattle.std.proofs.lemmas.Simd.{chunk-fits, map-map}
 use Rattle.tabled_text.proofs.Blocks.{same-tests}
 use Rattle.tabled_text.proofs.runs.outside.Goals as goal

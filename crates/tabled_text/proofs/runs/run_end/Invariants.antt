@@ -1,5 +1,4 @@
-use Rattle.std.proofs.Common.{◌-◌, ◌≤◌, length}
-use Rattle.tabled_text.specs.Runs.{LieWithin}
+use Rattle.tabled_text.proofs.Names.{LieWithin, length, ◌-◌, ◌≤◌}
 use Rattle.tabled_text.proofs.runs.run_end.Given as goal
 
 abbrev pub invariant-whole : goal.invariant-whole

@@ -1,7 +1,5 @@
-use Rattle.std.proofs.Common.{ℕ, Bool, not, sym, ◌∙◌, arith}
-use Rattle.std.specs.Int.{is_in_range}
+use Rattle.tabled_text.proofs.Names.{Bool, arith, is_in_range, not, not-false, not-true, sym, ℕ, ◌∙◌}
 use Rattle.std.proofs.lemmas.Simd.{none_from_empty_mask, run_in_chunk_fails, run_in_chunk_le, run_in_chunk_stops}
-use Rattle.std.proofs.lemmas.Bool.{not-true, not-false}
 use Rattle.tabled_text.proofs.Blocks.{lowest-is-first}
 use Rattle.tabled_text.proofs.runs.run_in_block.Goals as goal
 

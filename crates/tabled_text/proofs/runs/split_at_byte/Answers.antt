@@ -1,8 +1,6 @@
-use Rattle.std.proofs.Common.{◌≡◌, ◌<◌, ◌+◌, ℕ, List, ap, arith, length, refl, subst, sym, take, drop, ◌∙◌}
-use Rattle.std.specs.Str.{IsCharBoundary, IsUtf8}
-use Rattle.std.proofs.lemmas.List.{take_all}
-use Rattle.std.proofs.lemmas.Str.{IsCharBoundary-before_ascii, IsCharBoundary-after_ascii, IsUtf8-take, IsUtf8-drop}
-use Rattle.tabled_text.specs.Runs.{IsFirstAt}
+use Rattle.tabled_text.proofs.Names.{IsCharBoundary, IsFirstAt, IsUtf8, IsUtf8-drop, List, ap, arith, drop, length, refl, subst, sym, take}
+use Rattle.tabled_text.proofs.Names.{take_all, ℕ, ◌+◌, ◌<◌, ◌∙◌, ◌≡◌}
+use Rattle.std.proofs.lemmas.Str.{IsCharBoundary-before_ascii, IsCharBoundary-after_ascii, IsUtf8-take}
 use Rattle.tabled_text.proofs.runs.split_at_byte.Goals as goal
 
 before : (byte at : ℕ) (text : List ℕ) → byte < 128 → IsFirstAt byte text at → at < length text → IsCharBoundary text at

@@ -1,4 +1,4 @@
-use Rattle.std.proofs.Common.{subst, replicate, encode_utf8_all, encode_utf8}
+use Rattle.tabled_text.proofs.Names.{encode_utf8, encode_utf8_all, replicate, subst}
 use Rattle.tabled_text.proofs.WriteLemmas.{encodes-copies}
 use Rattle.tabled_text.proofs.sink.append_copies.Goals as goal
 

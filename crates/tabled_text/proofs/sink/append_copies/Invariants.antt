@@ -1,4 +1,4 @@
-use Rattle.std.proofs.Common.{replicate, encode_utf8_all}
+use Rattle.tabled_text.proofs.Names.{encode_utf8_all, replicate}
 use Rattle.tabled_text.proofs.sink.append_copies.Given as goal
 
 abbrev pub invariant-loop-i : goal.invariant-loop-i

@@ -1,4 +1,4 @@
-use Rattle.std.proofs.Common.{◌≤◌}
+use Rattle.tabled_text.proofs.Names.{◌≤◌}
 use Rattle.tabled_text.proofs.wrap.after_space.Given as goal
 
 abbrev pub invariant-bytes : goal.invariant-bytes

@@ -1,9 +1,5 @@
-use Rattle.std.proofs.Common.{ap, sym, subst, ◌∙◌, map, encode_utf8_all}
-use Rattle.std.specs.Int.{is_in_range}
-use Rattle.std.proofs.lemmas.Bool.{and_parts}
-use Rattle.std.proofs.lemmas.List.{nil_from_length}
-use Rattle.tabled_text.specs.Units.{unit_of_char}
-use Rattle.tabled_text.specs.Walk.{append_all, append_text, append_used}
+use Rattle.tabled_text.proofs.Names.{and_parts, ap, append_all, append_text, append_used, encode_utf8_all, is_in_range, map}
+use Rattle.tabled_text.proofs.Names.{nil_from_length, subst, sym, unit_of_char, ◌∙◌}
 use Rattle.tabled_text.proofs.Pieces.{chars-printable, count-printable, is_printable}
 use Rattle.tabled_text.proofs.WriteLemmas.{encodes-more}
 use Rattle.tabled_text.proofs.wrap.append_bytes.Goals as goal

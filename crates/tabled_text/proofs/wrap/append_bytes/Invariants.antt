@@ -1,6 +1,4 @@
-use Rattle.std.proofs.Common.{◌≡◌, length, map, chars, encode_utf8_all, true}
-use Rattle.tabled_text.specs.Units.{unit_of_char}
-use Rattle.tabled_text.specs.Walk.{append_all}
+use Rattle.tabled_text.proofs.Names.{append_all, chars, encode_utf8_all, length, map, true, unit_of_char, ◌≡◌}
 use Rattle.tabled_text.proofs.Pieces.{is_printable}
 use Rattle.tabled_text.proofs.wrap.append_bytes.Given as goal
 

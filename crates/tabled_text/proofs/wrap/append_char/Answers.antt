@@ -1,5 +1,4 @@
-use Rattle.std.proofs.Common.{subst, ◌-◌, encode_utf8_all, replicate}
-use Rattle.tabled_text.specs.Walk.{begin_text}
+use Rattle.tabled_text.proofs.Names.{begin_text, encode_utf8_all, replicate, subst, ◌-◌}
 use Rattle.tabled_text.proofs.WriteLemmas.{encodes-wide}
 use Rattle.tabled_text.proofs.wrap.append_char.Goals as goal
 

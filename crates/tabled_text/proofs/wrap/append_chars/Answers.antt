@@ -1,7 +1,6 @@
-use Rattle.std.proofs.Common.{◌≡◌, ◌≤◌, ◌+◌, ◌-◌, ◌++◌, ◌∙◌, arith, ap, sym, subst, map, chars, encode_utf8_all, ◌∷◌, append-nil, length-append, length}
-use Rattle.std.proofs.lemmas.Str.{IsUtf8-past_char}
-use Rattle.tabled_text.specs.Units.{unit_of_char}
-use Rattle.tabled_text.specs.Walk.{append_all, append_used, append_text, used_after}
+use Rattle.tabled_text.proofs.Names.{IsUtf8-past_char, ap, append_all, append_text, append_used, arith, chars, encode_utf8_all, length}
+use Rattle.tabled_text.proofs.Names.{length-append, map, subst, sym, unit_of_char, used_after, ◌++◌, ◌+◌, ◌-◌, ◌∙◌, ◌∷◌, ◌≡◌, ◌≤◌}
+use Rattle.std.proofs.Common.{append-nil}
 use Rattle.tabled_text.proofs.Pieces.{piece-used, piece-written}
 use Rattle.tabled_text.proofs.WriteLemmas.{encodes-more}
 use Rattle.tabled_text.proofs.wrap.append_chars.Goals as goal

@@ -1,8 +1,4 @@
-use Rattle.std.proofs.Common.{◌≡◌, length, map, chars, encode_utf8_all}
-use denote.Shadow.{shadow}
-use denote.Text.{Utf8}
-use Rattle.tabled_text.specs.Units.{unit_of_char}
-use Rattle.tabled_text.specs.Walk.{append_all, used_after}
+use Rattle.tabled_text.proofs.Names.{Utf8, append_all, chars, encode_utf8_all, length, map, shadow, unit_of_char, used_after, ◌≡◌}
 use Rattle.tabled_text.proofs.wrap.append_chars.Given as goal
 
 abbrev pub invariant-pieces : goal.invariant-pieces

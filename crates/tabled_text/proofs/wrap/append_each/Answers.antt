@@ -1,7 +1,5 @@
-use Rattle.std.proofs.Common.{◌≡◌, ◌∙◌, ap, sym, subst, map, chars, encode_utf8_all, ◌∷◌}
-use Rattle.std.proofs.lemmas.Str.{IsUtf8-past_char}
-use Rattle.tabled_text.specs.Units.{unit_of_char}
-use Rattle.tabled_text.specs.Walk.{append_all, append_used, append_text, used_after}
+use Rattle.tabled_text.proofs.Names.{IsUtf8-past_char, ap, append_all, append_text, append_used, chars, encode_utf8_all, map, subst, sym}
+use Rattle.tabled_text.proofs.Names.{unit_of_char, used_after, ◌∙◌, ◌∷◌, ◌≡◌}
 use Rattle.tabled_text.proofs.WriteLemmas.{encodes-more}
 use Rattle.tabled_text.proofs.wrap.append_each.Goals as goal
 

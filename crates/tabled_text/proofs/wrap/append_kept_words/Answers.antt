@@ -1,7 +1,5 @@
-use Rattle.std.proofs.Common.{arith, true, encode_utf8, take, drop, subst, sym, ap, ◌∙◌, ◌++◌}
-use Rattle.std.specs.Str.{IsUtf8}
-use Rattle.std.proofs.lemmas.Result.{on_ok_weaker}
-use Rattle.std.proofs.lemmas.Str.{IsCharBoundary-from_ascii, IsUtf8-drop}
+use Rattle.tabled_text.proofs.Names.{IsCharBoundary-from_ascii, IsUtf8, IsUtf8-drop, ap, arith, drop, encode_utf8, on_ok_weaker, subst, sym}
+use Rattle.tabled_text.proofs.Names.{take, true, ◌++◌, ◌∙◌}
 use Rattle.tabled_text.proofs.Pieces.{is_printable, IsAscii-printable, parts-printable}
 use Rattle.tabled_text.proofs.WordBreaks.{spelled, spelled-more}
 use Rattle.tabled_text.proofs.WrapWhole.{written-short}

@@ -1,6 +1,4 @@
-use Rattle.std.proofs.Common.{◌≡◌, length, true}
-use denote.Shadow.{shadow}
-use denote.Text.{Utf8}
+use Rattle.tabled_text.proofs.Names.{Utf8, length, shadow, true, ◌≡◌}
 use Rattle.tabled_text.proofs.Pieces.{is_printable}
 use Rattle.tabled_text.proofs.WordBreaks.{spelled}
 use Rattle.tabled_text.proofs.wrap.append_kept_words.Given as goal

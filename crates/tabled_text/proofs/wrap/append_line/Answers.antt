@@ -1,4 +1,4 @@
-use Rattle.std.proofs.Common.{OnOk, arith, subst}
+use Rattle.tabled_text.proofs.Names.{OnOk, arith, subst}
 use Rattle.tabled_text.proofs.WrapWhole.{written-short}
 use Rattle.tabled_text.proofs.wrap.append_line.Goals as goal
 

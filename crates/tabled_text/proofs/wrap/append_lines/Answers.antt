@@ -1,8 +1,5 @@
-use Rattle.std.proofs.Common.{OnOk, ◌++◌, ◌∙◌, [], ◌∷◌, ap, sym, subst, true, false, cond, chars, encode_utf8_all, lit<, map}
-use Rattle.std.proofs.lemmas.Str.{encode_ascii}
-use Rattle.tabled_text.specs.Lines.{lines_left}
-use Rattle.tabled_text.specs.Units.{units}
-use Rattle.tabled_text.specs.Walk.{append_all, pending}
+use Rattle.tabled_text.proofs.Names.{OnOk, [], ap, append_all, chars, cond, encode_ascii, encode_utf8_all, false, lines_left, lit<, map}
+use Rattle.tabled_text.proofs.Names.{pending, subst, sym, true, units, ◌++◌, ◌∙◌, ◌∷◌}
 use Rattle.tabled_text.proofs.Bridge.{lines_of-chars}
 use Rattle.tabled_text.proofs.Pieces.{pending-printable}
 use Rattle.tabled_text.proofs.WriteLemmas.{encodes-pending}

@@ -1,7 +1,4 @@
-use Rattle.std.proofs.Common.{false, chars, encode_utf8_all, map}
-use Rattle.tabled_text.specs.Measure.{lines_of}
-use Rattle.tabled_text.specs.Lines.{lines_left}
-use Rattle.tabled_text.specs.Walk.{pending}
+use Rattle.tabled_text.proofs.Names.{chars, encode_utf8_all, false, lines_left, lines_of, map, pending}
 use Rattle.tabled_text.proofs.wrap.append_lines.Given as goal
 
 abbrev pub invariant-loop-line : goal.invariant-loop-line

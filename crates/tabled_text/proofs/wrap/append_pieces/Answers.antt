@@ -1,9 +1,5 @@
-use Rattle.std.proofs.Common.{arith, false, map, chars, encode_utf8, encode_utf8_all, take, drop, subst, sym, ap, ◌∙◌, ◌++◌}
-use Rattle.std.specs.Str.{IsUtf8}
-use Rattle.std.proofs.lemmas.Result.{on_ok_weaker}
-use Rattle.std.proofs.lemmas.Str.{IsCharBoundary-from_ascii, IsUtf8-drop}
-use Rattle.tabled_text.specs.Units.{unit_of_char}
-use Rattle.tabled_text.specs.Walk.{append_all}
+use Rattle.tabled_text.proofs.Names.{IsCharBoundary-from_ascii, IsUtf8, IsUtf8-drop, ap, append_all, arith, chars, drop, encode_utf8}
+use Rattle.tabled_text.proofs.Names.{encode_utf8_all, false, map, on_ok_weaker, subst, sym, take, unit_of_char, ◌++◌, ◌∙◌}
 use Rattle.tabled_text.proofs.Pieces.{is_printable, IsAscii-printable, parts-printable, written-piece}
 use Rattle.tabled_text.proofs.WrapWhole.{written-short}
 use Rattle.tabled_text.proofs.wrap.append_pieces.Goals as goal

@@ -1,8 +1,4 @@
-use Rattle.std.proofs.Common.{◌≡◌, length, map, chars, encode_utf8_all, true}
-use denote.Shadow.{shadow}
-use denote.Text.{Utf8}
-use Rattle.tabled_text.specs.Units.{unit_of_char}
-use Rattle.tabled_text.specs.Walk.{append_all}
+use Rattle.tabled_text.proofs.Names.{Utf8, append_all, chars, encode_utf8_all, length, map, shadow, true, unit_of_char, ◌≡◌}
 use Rattle.tabled_text.proofs.Pieces.{is_printable}
 use Rattle.tabled_text.proofs.wrap.append_pieces.Given as goal
 

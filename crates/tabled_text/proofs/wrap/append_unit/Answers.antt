@@ -1,5 +1,4 @@
-use Rattle.std.proofs.Common.{◌≡◌, sym, ap, subst, encode_utf8_all, IfOk, OnOk}
-use Rattle.tabled_text.specs.Walk.{append_all, used_after}
+use Rattle.tabled_text.proofs.Names.{IfOk, OnOk, ap, append_all, encode_utf8_all, subst, sym, used_after, ◌≡◌}
 use Rattle.tabled_text.proofs.WriteLemmas.{units_of_word-empty, units_of_word-short, append_all-one}
 use Rattle.tabled_text.proofs.wrap.append_unit.Goals as goal
 

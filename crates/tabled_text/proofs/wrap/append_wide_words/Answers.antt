@@ -1,5 +1,4 @@
-use Rattle.std.proofs.Common.{OnOk, subst}
-use Rattle.tabled_text.specs.Runs.{IsSplitAt}
+use Rattle.tabled_text.proofs.Names.{IsSplitAt, OnOk, subst}
 use Rattle.tabled_text.proofs.WordBreaks.{spelled-word}
 use Rattle.tabled_text.proofs.wrap.append_wide_words.Goals as goal
 

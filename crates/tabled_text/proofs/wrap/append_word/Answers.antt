@@ -1,5 +1,4 @@
-use Rattle.std.proofs.Common.{subst}
-use Rattle.tabled_text.specs.Walk.{begin_text}
+use Rattle.tabled_text.proofs.Names.{begin_text, subst}
 use Rattle.tabled_text.proofs.WriteLemmas.{encodes-word}
 use Rattle.tabled_text.proofs.wrap.append_word.Goals as goal
 

@@ -1,6 +1,6 @@
-use Rattle.std.proofs.Common.{◌≡◌, ◌++◌, ◌∙◌, ap, sym, subst, chars, encode_utf8_all, ◌∷◌, [], IfSome, IsUtf8, length, ◌<◌}
-use Rattle.tabled_text.specs.Units.{units_of_word, units_of_words, words_of, space}
-use Rattle.tabled_text.specs.Walk.{words_in, append_all, append_used, append_text, used_after}
+use Rattle.tabled_text.proofs.Names.{IfSome, [], ap, append_all, append_text, append_used, chars, encode_utf8_all, length, space, subst}
+use Rattle.tabled_text.proofs.Names.{sym, units_of_word, units_of_words, used_after, words_in, words_of, ◌++◌, ◌<◌, ◌∙◌, ◌∷◌, ◌≡◌}
+use Rattle.std.proofs.Common.{IsUtf8}
 use Rattle.tabled_text.proofs.WriteLemmas.{encodes-more, encodes-on, units_of_words-more, space-is, unit_of}
 use Rattle.tabled_text.proofs.wrap.append_words.Goals as goal
 

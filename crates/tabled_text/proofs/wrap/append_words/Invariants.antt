@@ -1,8 +1,4 @@
-use Rattle.std.proofs.Common.{length, chars, encode_utf8_all}
-use denote.Shadow.{shadow}
-use denote.Text.{Utf8}
-use Rattle.tabled_text.specs.Units.{units_of_words, words_of}
-use Rattle.tabled_text.specs.Walk.{append_all}
+use Rattle.tabled_text.proofs.Names.{Utf8, append_all, chars, encode_utf8_all, length, shadow, units_of_words, words_of}
 use Rattle.tabled_text.proofs.wrap.append_words.Given as goal
 
 abbrev pub invariant-words : goal.invariant-words

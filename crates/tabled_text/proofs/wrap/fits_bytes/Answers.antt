@@ -1,5 +1,4 @@
-use Rattle.std.proofs.Common.{length}
-use Rattle.std.proofs.lemmas.Bool.{leb-true}
+use Rattle.tabled_text.proofs.Names.{leb-true, length}
 use Rattle.tabled_text.proofs.CutOnce.{no_fill}
 use Rattle.tabled_text.proofs.CutWhole.{IsCut-short, IsParted-short}
 use Rattle.tabled_text.proofs.WrapWhole.{IsWrapped-short}

@@ -1,6 +1,4 @@
-use Rattle.std.proofs.Common.{◌∙◌, ◌-◌, arith, ap, get_or, sym, subst}
-use Rattle.std.proofs.lemmas.Str.{IsCharBoundary-from_ascii}
-use Rattle.tabled_text.specs.Runs.{IsSplitAt}
+use Rattle.tabled_text.proofs.Names.{IsCharBoundary-from_ascii, IsSplitAt, ap, arith, get_or, subst, sym, ◌-◌, ◌∙◌}
 use Rattle.tabled_text.proofs.Pieces.{IsAscii-printable}
 use Rattle.tabled_text.proofs.WordBreaks.{breaks-before, breaks-word}
 use Rattle.tabled_text.proofs.wrap.line_end.Goals as goal

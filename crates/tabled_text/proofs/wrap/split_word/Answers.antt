@@ -1,6 +1,5 @@
-use Rattle.std.proofs.Common.{List, ℕ, Option, Some, None, length, IfSome, IsUtf8, ◌<◌}
-use Rattle.std.specs.Borrow.{Bor}
-use Rattle.tabled_text.specs.Runs.{IsSplitAt}
+use Rattle.tabled_text.proofs.Names.{Bor, IfSome, IsSplitAt, List, None, Option, Some, length, ℕ, ◌<◌}
+use Rattle.std.proofs.Common.{IsUtf8}
 use Rattle.tabled_text.proofs.Searched.{shorter-split, words-split}
 use Rattle.tabled_text.proofs.wrap.split_word.Goals as goal
 

@@ -1,12 +1,7 @@
-use Rattle.std.proofs.Common.{◌≡◌, ◌++◌, ◌∙◌, IfOk, ap, sym, subst, false, chars, length, string_bytes, encode_utf8_all, arith, inl, inr}
-use Rattle.std.proofs.lemmas.Bool.{eqb-true}
-use Rattle.std.proofs.lemmas.List.{nil_from_length}
-use Rattle.std.proofs.lemmas.Result.{IfOk-weaker}
+use Rattle.tabled_text.proofs.Names.{HasFewestLines, IfOk, IfOk-weaker, IsLeastBreaking, IsWrapped, ap, arith, chars, encode_utf8_all}
+use Rattle.tabled_text.proofs.Names.{eqb-true, false, inl, inr, length, lines_of, nil_from_length, pending, subst, sym, ◌++◌, ◌∙◌, ◌≡◌}
+use Rattle.std.proofs.Common.{string_bytes}
 use Rattle.std.proofs.lemmas.Str.{IsUtf8-string_bytes}
-use Rattle.tabled_text.specs.Breaking.{HasFewestLines, IsLeastBreaking}
-use Rattle.tabled_text.specs.Measure.{lines_of}
-use Rattle.tabled_text.specs.Walk.{pending}
-use Rattle.tabled_text.specs.Wrapping.{IsWrapped}
 use Rattle.tabled_text.proofs.FewestLines.{fewest-wrapped}
 use Rattle.tabled_text.proofs.OwnBreaking.{least_breaking}
 use Rattle.tabled_text.proofs.WriteLemmas.{IsWrapped-written, IsWrapped-nothing}

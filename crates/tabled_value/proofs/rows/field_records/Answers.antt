@@ -1,7 +1,4 @@
-use Rattle.std.proofs.Common.{◌≡◌, ◌∙◌, ◌++◌, ap, map, rules}
-use Rattle.std.specs.Cow.{cow_str_bytes}
-use Rattle.tabled_base.specs.Cells.{row_texts}
-use Rattle.tabled_value.specs.ValueRows.{pairs}
+use Rattle.tabled_value.proofs.Names.{ap, cow_str_bytes, map, pairs, row_texts, rules, ◌++◌, ◌∙◌, ◌≡◌}
 use Rattle.tabled_value.proofs.FieldRows.{fields_added, rectangular_fields}
 use Rattle.tabled_value.proofs.rows.field_records.Goals as goal
 

@@ -1,5 +1,4 @@
-use Rattle.tabled_base.specs.Cells.{row_texts}
-use Rattle.tabled_value.specs.ValueRows.{FieldsAdded}
+use Rattle.tabled_value.proofs.Names.{FieldsAdded, row_texts}
 use Rattle.tabled_value.proofs.rows.field_records.Given as goal
 
 abbrev pub invariant-values : goal.invariant-values

@@ -1,4 +1,4 @@
-use Rattle.std.proofs.Common.{rules}
+use Rattle.tabled_value.proofs.Names.{rules}
 use Rattle.tabled_value.proofs.RowsAdded.{names_stand, rectangular_named, values_added}
 use Rattle.tabled_value.proofs.rows.named_records.Goals as goal
 

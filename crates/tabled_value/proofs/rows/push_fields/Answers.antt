@@ -1,5 +1,4 @@
-use Rattle.std.specs.Cow.{cow_str_bytes}
-use Rattle.tabled_base.specs.Cells.{row_texts}
+use Rattle.tabled_value.proofs.Names.{cow_str_bytes, row_texts}
 use Rattle.tabled_value.proofs.FieldRows.{no_pair}
 use Rattle.tabled_value.proofs.rows.push_fields.Goals as goal
 

@@ -1,10 +1,5 @@
-use Rattle.std.proofs.Common.{◌≡◌, ◌++◌, map, length}
-use Rattle.std.specs.Cow.{cow_str_bytes}
-use Rattle.std.specs.Iterator.Adapters.{zip_first, zip_second}
-use Rattle.std.specs.Slice.Iter.{iter_rest}
-use Rattle.std.specs.Vec.Iter.{into_iter_items, into_iter_len}
-use Rattle.tabled_base.specs.Cells.{row_texts}
-use Rattle.tabled_value.specs.ValueRows.{pairs}
+use Rattle.tabled_value.proofs.Names.{cow_str_bytes, into_iter_items, into_iter_len, iter_rest, length, map, pairs, row_texts, zip_first}
+use Rattle.tabled_value.proofs.Names.{zip_second, ◌++◌, ◌≡◌}
 use Rattle.tabled_value.proofs.rows.push_fields.Given as goal
 
 -- what stands and what is to come is what stood and all pairs; the texts to come are counted

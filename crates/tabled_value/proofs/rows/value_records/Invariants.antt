@@ -1,6 +1,4 @@
-use Rattle.std.proofs.Common.{[]}
-use Rattle.tabled_base.specs.Cells.{row_texts}
-use Rattle.tabled_value.specs.ValueRows.{ValuesAdded}
+use Rattle.tabled_value.proofs.Names.{ValuesAdded, [], row_texts}
 use Rattle.tabled_value.proofs.rows.value_records.Given as goal
 
 abbrev pub invariant-values : goal.invariant-values

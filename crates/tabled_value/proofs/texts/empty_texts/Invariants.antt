@@ -1,5 +1,5 @@
-use Rattle.std.proofs.Common.{◌≡◌, [], map, replicate, vec_len}
-use Rattle.std.specs.Cow.{cow_str_bytes}
+use Rattle.tabled_value.proofs.Names.{[], cow_str_bytes, map, vec_len, ◌≡◌}
+use Rattle.std.proofs.Common.{replicate}
 use Rattle.tabled_value.proofs.texts.empty_texts.Given as goal
 
 abbrev pub invariant-empty : goal.invariant-empty

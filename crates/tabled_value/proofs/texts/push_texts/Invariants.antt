@@ -1,5 +1,4 @@
-use Rattle.std.proofs.Common.{◌≡◌, ◌+◌, ◌++◌, length, map, vec_len}
-use Rattle.std.specs.Cow.{cow_str_bytes}
+use Rattle.tabled_value.proofs.Names.{cow_str_bytes, length, map, vec_len, ◌++◌, ◌+◌, ◌≡◌}
 use Rattle.tabled_value.proofs.texts.push_texts.Given as goal
 
 abbrev pub invariant-texts : goal.invariant-texts

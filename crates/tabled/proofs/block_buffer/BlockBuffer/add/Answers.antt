@@ -1,4 +1,4 @@
-use Rattle.std.proofs.Common.{arith}
+use Rattle.tabled.proofs.Names.{arith}
 use Rattle.tabled.proofs.BytesSince.{held_more}
 use Rattle.tabled.proofs.block_buffer.BlockBuffer.add.Goals as goal
 

@@ -1,6 +1,5 @@
-use Rattle.std.proofs.Common.{append-nil, sym}
-use Rattle.tabled_line.proofs.Sending.{further, sends-along, stopped, took-more, took-none}
-use Rattle.tabled.specs.BlockSent.{block, waiting}
+use Rattle.tabled.proofs.Names.{append-nil, block, further, sends-along, sym, waiting}
+use Rattle.tabled_line.proofs.Sending.{stopped, took-more, took-none}
 use Rattle.tabled.proofs.BytesSince.{advances_none, advances_then, buffered, waits}
 use Rattle.tabled.proofs.block_sink.BlockSink.buffer_parts.Goals as goal
 

@@ -1,6 +1,5 @@
-use Rattle.std.proofs.Common.{◌+◌, length}
+use Rattle.tabled.proofs.Names.{Advances, block, block_sent, length, ◌+◌}
 use Rattle.tabled_line.specs.Sent.{Took}
-use Rattle.tabled.specs.BlockSent.{Advances, block, block_sent}
 use Rattle.tabled.proofs.block_sink.BlockSink.buffer_parts.Given as goal
 
 abbrev pub invariant-pieces : goal.invariant-pieces

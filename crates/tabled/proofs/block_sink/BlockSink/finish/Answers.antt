@@ -1,6 +1,4 @@
-use Rattle.std.proofs.Common.{[], refl}
-use Rattle.tabled_line.proofs.Sending.{Appends-nil}
-use Rattle.tabled.specs.BlockSent.{waiting}
+use Rattle.tabled.proofs.Names.{Appends-nil, [], refl, waiting}
 use Rattle.tabled.proofs.BytesSince.{advances_then, failed}
 use Rattle.tabled.proofs.block_sink.BlockSink.finish.Goals as goal
 

@@ -1,8 +1,5 @@
-use Rattle.std.proofs.Common.{[], refl, sym, take, arith}
+use Rattle.tabled.proofs.Names.{Appends-nil, Keeps, [], arith, further, refl, sym, take, waiting}
 use Rattle.std.proofs.lemmas.List.{drop-drop}
-use Rattle.std.specs.Io.KnownBytes.{Keeps}
-use Rattle.tabled_line.proofs.Sending.{Appends-nil, further}
-use Rattle.tabled.specs.BlockSent.{waiting}
 use Rattle.tabled.proofs.BytesSince.{advances_then, failed, kept_so, took, took_none}
 use Rattle.tabled.proofs.block_sink.BlockSink.flush_block.Goals as goal
 use Rattle.tabled.proofs.block_sink.BlockSink.flush_block.Goals.{in_default-via-in-Ok+else-n-gt0, in_default-via-in_default}

@@ -1,6 +1,4 @@
-use Rattle.std.proofs.Common.{[], ◌-◌}
-use Rattle.tabled_line.specs.Sent.{Sends}
-use Rattle.tabled.specs.BlockSent.{Advances, block, block_sent}
+use Rattle.tabled.proofs.Names.{Advances, Sends, [], block, block_sent, ◌-◌}
 use Rattle.tabled.proofs.block_sink.BlockSink.flush_block.Given as goal
 
 abbrev pub invariant-taken : goal.invariant-taken

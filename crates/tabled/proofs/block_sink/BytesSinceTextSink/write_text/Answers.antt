@@ -1,6 +1,4 @@
-use Rattle.std.proofs.Common.{subst}
-use Rattle.tabled_line.specs.Sent.{Writes}
-use Rattle.tabled.specs.BlockSent.{block, sent_since}
+use Rattle.tabled.proofs.Names.{Writes, block, sent_since, subst}
 use Rattle.tabled.proofs.BytesSince.{since_writes}
 use Rattle.tabled.proofs.block_sink.BytesSinceTextSink.write_text.Goals as goal
 

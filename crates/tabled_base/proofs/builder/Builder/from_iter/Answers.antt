@@ -1,7 +1,7 @@
-use Rattle.std.proofs.Common.{[], ◌∷◌, ◌++◌, Some, refl}
+use Rattle.tabled_base.proofs.Names.{IsFiniteIterable, [], refl, ◌++◌, ◌∷◌}
+use Rattle.std.proofs.Common.{Some}
 use Rattle.std.proofs.iter.Next.{Yields-more}
 use Rattle.std.proofs.lemmas.List.Elements.{All-pop}
-use Rattle.std.specs.Iterator.{IsFiniteIterable}
 use Rattle.tabled_base.proofs.Collecting.{collected-more}
 use Rattle.tabled_base.proofs.builder.Builder.from_iter.Goals as goal
 

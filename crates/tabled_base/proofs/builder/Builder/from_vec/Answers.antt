@@ -1,5 +1,5 @@
-use Rattle.std.proofs.Common.{◌≡◌, ◌++◌, ◌∙◌, ap, arith, drop, length, map, subst, sym, take}
-use Rattle.tabled_base.specs.Cells.{IsRectangular, lengthened, longest, lengthened_rows, row_texts}
+use Rattle.tabled_base.proofs.Names.{IsRectangular, ap, arith, drop, length, lengthened, lengthened_rows, longest, map, row_texts, subst}
+use Rattle.tabled_base.proofs.Names.{sym, take, ◌++◌, ◌∙◌, ◌≡◌}
 use Rattle.tabled_base.proofs.LengthenedRows.{lengthened_rows-rectangular, rectangular-longest, written_back}
 use Rattle.tabled_base.proofs.Lengthening.{on-err}
 use Rattle.tabled_base.proofs.builder.Builder.from_vec.Goals as goal

@@ -1,5 +1,4 @@
-use Rattle.std.proofs.Common.{◌∙◌, ap}
-use Rattle.tabled_base.specs.Cells.{texts_of}
+use Rattle.tabled_base.proofs.Names.{ap, texts_of, ◌∙◌}
 use Rattle.tabled_base.proofs.LentGiving.{lent_rows_give}
 use Rattle.tabled_base.proofs.vec_records.RefVecRecordsRecords.iter_rows.Goals as goal
 

@@ -1,6 +1,5 @@
-use Rattle.std.proofs.Common.{◌≡◌, ◌≤◌, ◌∙◌, ap, arith, length, subst, sym}
-use Rattle.std.proofs.lemmas.List.{length-map, take_all}
-use Rattle.tabled_base.specs.Cells.{IsRectangular, row_texts}
+use Rattle.tabled_base.proofs.Names.{IsRectangular, ap, arith, length, length-map, row_texts, subst, sym, ◌∙◌, ◌≡◌, ◌≤◌}
+use Rattle.std.proofs.lemmas.List.{take_all}
 use Rattle.tabled_base.proofs.CopiedRows.{copied-more}
 use Rattle.tabled_base.proofs.vec_records.VecRecords+Text+String.clone.Goals as goal
 

@@ -1,6 +1,4 @@
-use Rattle.std.proofs.Common.{◌∙◌, ap, subst, sym, ◌<◌, length}
-use Rattle.std.proofs.lemmas.List.{length-map}
-use Rattle.tabled_base.specs.Cells.{IsRectangular, texts_of, with_cell}
+use Rattle.tabled_base.proofs.Names.{IsRectangular, ap, length, length-map, subst, sym, texts_of, with_cell, ◌<◌, ◌∙◌}
 use Rattle.tabled_base.proofs.ChangedCells.{texts_after, with_cell-rectangular}
 use Rattle.tabled_base.proofs.RowLemmas.{column_inside, row_inside}
 use Rattle.tabled_base.proofs.vec_records.VecRecordsTextRecordsMut.set.Goals as goal

@@ -1,6 +1,5 @@
-use Rattle.std.proofs.Common.{◌≡◌, ◌∙◌, ◌++◌, ap, subst, sym, ◌<◌, length, take}
-use Rattle.std.proofs.lemmas.List.{length-map}
-use Rattle.tabled_base.specs.Cells.{IsRectangular, cell_at, texts_of, with_cell}
+use Rattle.tabled_base.proofs.Names.{IsRectangular, ap, cell_at, length, length-map, subst, sym, take, texts_of, with_cell, ◌++◌, ◌<◌, ◌∙◌}
+use Rattle.tabled_base.proofs.Names.{◌≡◌}
 use Rattle.tabled_base.proofs.ChangedCells.{texts_after, with_cell-rectangular}
 use Rattle.tabled_base.proofs.RowLemmas.{cell_read, row_inside}
 use Rattle.tabled_base.proofs.vec_records.VecRecordsTextRecordsMut.shorten.Goals as goal

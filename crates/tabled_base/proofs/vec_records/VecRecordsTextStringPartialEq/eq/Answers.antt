@@ -1,6 +1,4 @@
-use Rattle.std.proofs.Common.{◌∙◌, ap, nat_eq}
-use Rattle.std.specs.Cmp.Lexicographic.{pointwise}
-use Rattle.tabled_base.specs.Cells.{row_texts}
+use Rattle.tabled_base.proofs.Names.{ap, nat_eq, pointwise, row_texts, ◌∙◌}
 use Rattle.tabled_base.proofs.CopiedRows.{compared-rows}
 use Rattle.tabled_base.proofs.vec_records.VecRecordsTextStringPartialEq.eq.Goals as goal
 

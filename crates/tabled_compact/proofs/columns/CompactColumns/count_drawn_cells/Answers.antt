@@ -1,4 +1,4 @@
-use Rattle.std.proofs.Common.{◌≡◌, ap, sym, ◌∙◌}
+use Rattle.tabled_compact.proofs.Names.{ap, sym, ◌∙◌, ◌≡◌}
 use Rattle.tabled_compact.proofs.RowPieces.{empty-piece}
 use Rattle.tabled_compact.proofs.columns.CompactColumns.count_drawn_cells.Goals as goal
 

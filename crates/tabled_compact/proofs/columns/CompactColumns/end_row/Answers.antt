@@ -1,8 +1,5 @@
-use Rattle.std.proofs.Common.{◌+◌, ◌<◌, ◌≤◌, ◌++◌, ap, append_assoc, arith, sym, ◌∙◌}
-use Rattle.tabled_line.specs.Row.{right_edge}
-use Rattle.tabled_line.proofs.Sending.{finished, further, stopped}
-use Rattle.tabled_compact.specs.CompactCells.{columns_of}
-use Rattle.tabled_compact.specs.CompactLines.{part_front}
+use Rattle.tabled_compact.proofs.Names.{ap, append_assoc, arith, columns_of, finished, further, part_front, right_edge, stopped, sym, ◌++◌}
+use Rattle.tabled_compact.proofs.Names.{◌+◌, ◌<◌, ◌∙◌, ◌≤◌}
 use Rattle.tabled_compact.proofs.RowPieces.{front-drawn, front-missing, front-rest, front-whole}
 use Rattle.tabled_compact.proofs.columns.CompactColumns.end_row.Goals as goal
 

@@ -1,6 +1,4 @@
-use Rattle.std.proofs.Common.{◌≡◌, ℕ, Bool, List, length, min}
-use Rattle.tabled_line.specs.Sent.{Sends, Sent}
-use Rattle.tabled_compact.specs.CompactLines.{part_front}
+use Rattle.tabled_compact.proofs.Names.{Bool, List, Sends, Sent, length, min, part_front, ℕ, ◌≡◌}
 use Rattle.tabled_compact.proofs.columns.CompactColumns.end_row.Given as goal
 
 abbrev pub invariant-columns : goal.invariant-columns

@@ -1,7 +1,4 @@
-use Rattle.std.proofs.Common.{refl}
-use Rattle.std.specs.List.{slice_index}
-use Rattle.tabled_compact.specs.CompactCells.{compact_cell, compact_piece}
-use Rattle.tabled_line.proofs.Sending.{finished, stopped-first}
+use Rattle.tabled_compact.proofs.Names.{compact_cell, compact_piece, finished, refl, slice_index, stopped-first}
 use Rattle.tabled_compact.proofs.columns.CompactColumns.write_cell.Goals as goal
 
 pub returns-in_err-write_bar : goal.returns-in_err-write_bar

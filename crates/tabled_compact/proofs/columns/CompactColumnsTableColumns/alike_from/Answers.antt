@@ -1,6 +1,4 @@
-use Rattle.std.proofs.Common.{◌≡◌, ℕ, ◌<◌, ◌≤◌, subst}
-use Rattle.std.specs.List.{slice_index}
-use Rattle.tabled_compact.specs.CompactCells.{CompactSheet}
+use Rattle.tabled_compact.proofs.Names.{CompactSheet, slice_index, subst, ℕ, ◌<◌, ◌≡◌, ◌≤◌}
 use Rattle.tabled_compact.proofs.Alike.{alike-or}
 use Rattle.tabled_compact.proofs.columns.CompactColumnsTableColumns.alike_from.Goals as goal
 

@@ -1,6 +1,4 @@
-use Rattle.std.proofs.Common.{◌≡◌, ◌<◌, subst, sym, arith}
-use Rattle.std.specs.List.{slice_index}
-use Rattle.tabled_compact.specs.CompactCells.{CompactSheet}
+use Rattle.tabled_compact.proofs.Names.{CompactSheet, arith, slice_index, subst, sym, ◌<◌, ◌≡◌}
 use Rattle.tabled_size.proofs.Reaching.{reached_size, reached_there}
 use Rattle.tabled_compact.proofs.columns.CompactColumnsTableColumns.width.Goals as goal
 

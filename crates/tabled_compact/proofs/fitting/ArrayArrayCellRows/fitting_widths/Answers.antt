@@ -1,7 +1,5 @@
-use Rattle.std.proofs.Common.{◌≡◌, ◌+◌, ◌<◌, ◌∙◌, length, map, min, take, ap, sym, arith, rules}
+use Rattle.tabled_compact.proofs.Names.{ap, arith, fitting_width, length, map, min, range_with_len, rules, sym, take, ◌+◌, ◌<◌, ◌∙◌, ◌≡◌}
 use Rattle.std.proofs.Math.Seq.{take-length}
-use Rattle.std.specs.List.{range_with_len}
-use Rattle.tabled_compact.specs.Fitting.{fitting_width}
 use Rattle.tabled_compact.proofs.FittingLemmas.{written-next}
 use Rattle.tabled_compact.proofs.fitting.ArrayArrayCellRows.fitting_widths.Goals as goal
 

@@ -1,6 +1,4 @@
-use Rattle.std.proofs.Common.{◌≡◌, length, map, take}
-use Rattle.std.specs.List.{range_with_len}
-use Rattle.tabled_compact.specs.Fitting.{fitting_width}
+use Rattle.tabled_compact.proofs.Names.{fitting_width, length, map, range_with_len, take, ◌≡◌}
 use Rattle.tabled_compact.proofs.fitting.ArrayArrayCellRows.fitting_widths.Given as goal
 
 abbrev pub invariant-columns : goal.invariant-columns

@@ -1,8 +1,6 @@
-use Rattle.std.proofs.Common.{◌≡◌, [], ◌++◌, ap, append_assoc, append-nil, refl, ◌∙◌}
-use Rattle.tabled_line.specs.Leading.{begun_after, break}
-use Rattle.tabled_line.proofs.Sending.{further, stopped, stopped-first}
-use Rattle.tabled_compact.specs.CompactCells.{columns_of, row_front}
-use Rattle.tabled_compact.specs.CompactLines.{above, part_front}
+use Rattle.tabled_compact.proofs.Names.{[], above, ap, append-nil, append_assoc, begun_after, columns_of, further, part_front, refl}
+use Rattle.tabled_compact.proofs.Names.{row_front, stopped, stopped-first, ◌++◌, ◌∙◌, ◌≡◌}
+use Rattle.tabled_line.specs.Leading.{break}
 use Rattle.tabled_compact.proofs.rows.RowPrinter.begin_row.Goals as goal
 
 pub returns-in_err-write_above-clause-put : goal.returns-in_err-write_above-clause-put

@@ -1,9 +1,6 @@
-use Rattle.std.proofs.Common.{◌≡◌, ◌^◌, ◌<◌, ◌≤◌, IfErr, Result, Ok, Err, subst, sym}
-use Rattle.std.specs.Result.{IsErrAnd}
-use Rattle.tabled_base.specs.declared.error.TableError.{TableError}
-use Rattle.tabled_compact.specs.CompactCells.{CompactSheet, sheet_by}
+use Rattle.tabled_compact.proofs.Names.{CompactSheet, Err, IsErrAnd, IsFailure, Ok, Result, TableError, sheet_by, subst, sym, ◌<◌, ◌≡◌, ◌≤◌}
+use Rattle.std.proofs.Common.{◌^◌, IfErr}
 use Rattle.tabled_compact.specs.CompactLines.{compact_width}
-use Rattle.tabled_compact.specs.Printed.{IsFailure}
 use Rattle.tabled_compact.proofs.rows.RowPrinter.new.Goals as goal
 
 refused : {T : Type 0} (t : CompactSheet) (r : Result T TableError) (e : TableError) → IsErrAnd r (λ d. d ≡ e) → IsFailure t e → IfErr r (IsFailure t)

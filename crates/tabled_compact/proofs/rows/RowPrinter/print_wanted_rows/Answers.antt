@@ -1,8 +1,5 @@
-use Rattle.std.proofs.Common.{◌≡◌, [], ◌∷◌, ◌++◌, Some, Ok, false, true, map, refl, ◌∙◌}
-use Rattle.std.proofs.iter.Next.{Yields-more}
-use Rattle.std.proofs.lemmas.List.Elements.{All-pop}
-use Rattle.std.specs.Iterator.{IsFiniteIterable}
-use Rattle.tabled_compact.specs.RowsPut.{PutsRows}
+use Rattle.tabled_compact.proofs.Names.{All-pop, IsFiniteIterable, Ok, PutsRows, Some, Yields-more, [], false, map, refl, true, ◌++◌, ◌∙◌}
+use Rattle.tabled_compact.proofs.Names.{◌∷◌, ◌≡◌}
 use Rattle.tabled_compact.proofs.Putting.{have-all, have-enough, have-more, have-none, have-stopped}
 use Rattle.tabled_compact.proofs.SoFar.{rows-begin, rows-stop, so_far-more}
 use Rattle.tabled_compact.proofs.rows.RowPrinter.print_wanted_rows.Goals as goal

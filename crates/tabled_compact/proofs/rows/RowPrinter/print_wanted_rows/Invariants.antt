@@ -1,5 +1,4 @@
-use Rattle.std.proofs.Common.{◌≡◌}
-use Rattle.tabled_compact.specs.Shown.{IsSpent}
+use Rattle.tabled_compact.proofs.Names.{IsSpent, ◌≡◌}
 use Rattle.tabled_compact.proofs.SoFar.{SoFar}
 use Rattle.tabled_compact.proofs.Putting.{HavePut}
 use Rattle.tabled_compact.proofs.rows.RowPrinter.print_wanted_rows.Given as goal

@@ -1,10 +1,8 @@
-use Rattle.std.proofs.Common.{Bool, ◌∙◌, ap, refl, subst, sym}
+use Rattle.tabled_compact.proofs.Names.{Bool, WritesLines, above, ap, columns_of, lines-finished, lines-stopped-first, refl, subst, sym}
+use Rattle.tabled_compact.proofs.Names.{◌∙◌}
 use Rattle.tabled_config.specs.Frame.{if_any, top_line}
 use Rattle.tabled_line.specs.Row.{rule_if}
-use Rattle.tabled_line.specs.Leading.{WritesLines}
-use Rattle.tabled_line.proofs.Leading.{lines-finished, lines-stopped-first}
-use Rattle.tabled_compact.specs.CompactCells.{columns_of}
-use Rattle.tabled_compact.specs.CompactLines.{above, head_lines}
+use Rattle.tabled_compact.specs.CompactLines.{head_lines}
 use Rattle.tabled_compact.proofs.rows.RowPrinter.write_above.Goals as goal
 
 pub returns-then-has_begun-clause-printed : goal.returns-then-has_begun-clause-printed

@@ -1,8 +1,6 @@
-use Rattle.std.proofs.Common.{◌≡◌, ◌∷◌, ◌∙◌, [], ap, length, length-append, map, min, arith, rules, subst, sym}
-use Rattle.std.proofs.lemmas.List.{length-map}
-use Rattle.tabled_base.specs.Given.{Given}
-use Rattle.tabled_line.specs.Sent.{Sends}
-use Rattle.tabled_compact.specs.CompactLines.{part_front}
+use Rattle.tabled_compact.proofs.Names.{Given, Sends, [], ap, arith, length, length-map, map, min, part_front, rules, subst, sym, ◌∙◌, ◌∷◌}
+use Rattle.tabled_compact.proofs.Names.{◌≡◌}
+use Rattle.std.proofs.Common.{length-append}
 use Rattle.tabled_compact.proofs.RowPieces.{begun-step, given-skip, given-step, next-step, part-put, part-stopped}
 use Rattle.tabled_compact.proofs.rows.RowPrinter.write_row.Goals.{in-Ok, in-Err}
 use Rattle.tabled_compact.proofs.rows.RowPrinter.write_row.Goals as goal

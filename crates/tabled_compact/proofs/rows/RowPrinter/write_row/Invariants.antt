@@ -1,6 +1,4 @@
-use Rattle.std.proofs.Common.{◌≡◌, IfOk, OnOk, length, map, min, true}
-use Rattle.tabled_line.specs.Sent.{Writes}
-use Rattle.tabled_compact.specs.CompactLines.{part_front}
+use Rattle.tabled_compact.proofs.Names.{IfOk, OnOk, Writes, length, map, min, part_front, true, ◌≡◌}
 use Rattle.tabled_compact.proofs.rows.RowPrinter.write_row.Given as goal
 
 abbrev pub invariant-cells : goal.invariant-cells

@@ -1,6 +1,5 @@
-use Rattle.std.proofs.Common.{◌∙◌, [], ap, if◌then◌else◌, refl, sym}
-use Rattle.tabled_line.proofs.Leading.{lines-finished, lines-stopped-first}
-use Rattle.tabled_compact.specs.CompactLines.{margin_lines, tail_lines}
+use Rattle.tabled_compact.proofs.Names.{[], ap, if◌then◌else◌, lines-finished, lines-stopped-first, refl, sym, tail_lines, ◌∙◌}
+use Rattle.tabled_compact.specs.CompactLines.{margin_lines}
 use Rattle.tabled_compact.proofs.rows.RowPrinter.write_tail.Goals as goal
 
 pub returns-in_err-write_rule-clause-printed : goal.returns-in_err-write_rule-clause-printed

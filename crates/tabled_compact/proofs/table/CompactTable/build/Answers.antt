@@ -1,4 +1,4 @@
-use Rattle.std.proofs.Common.{◌∙◌, ap, rules}
+use Rattle.tabled_compact.proofs.Names.{ap, rules, ◌∙◌}
 use Rattle.tabled_compact.proofs.ToWriters.{prints-written}
 use Rattle.tabled_compact.proofs.table.CompactTable.build.Goals as goal
 

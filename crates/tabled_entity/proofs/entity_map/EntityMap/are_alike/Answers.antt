@@ -1,5 +1,4 @@
-use Rattle.std.proofs.Common.{◌≡◌, reverse, length, sym, ap, ◌∙◌, arith}
-use Rattle.tabled_entity.specs.Changes.{setting_at}
+use Rattle.tabled_entity.proofs.Names.{ap, arith, length, reverse, setting_at, sym, ◌∙◌, ◌≡◌}
 use Rattle.tabled_entity.proofs.Indexed.{alike-found, nothing_set}
 use Rattle.tabled_entity.proofs.entity_map.EntityMap.are_alike.Goals as goal
 

@@ -1,5 +1,4 @@
-use Rattle.std.proofs.Common.{reverse, sym, ap, ◌∙◌}
-use Rattle.tabled_entity.specs.Changes.{setting_at}
+use Rattle.tabled_entity.proofs.Names.{ap, reverse, setting_at, sym, ◌∙◌}
 use Rattle.tabled_entity.proofs.Indexed.{alike-found}
 use Rattle.tabled_entity.proofs.entity_map.EntityMap.are_all_alike.Goals as goal
 

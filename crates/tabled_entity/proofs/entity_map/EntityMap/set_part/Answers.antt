@@ -1,7 +1,5 @@
-use Rattle.std.proofs.Common.{◌≡◌, ◌++◌, [], ◌∷◌, ◌∙◌, ap, length, reverse, subst, sym}
-use Rattle.std.proofs.lemmas.List.{reverse-append}
-use Rattle.tabled_base.specs.declared.position.Entity.{Entity}
-use Rattle.tabled_entity.specs.ChangeIndex.{IsIndexed}
+use Rattle.tabled_entity.proofs.Names.{Entity, IsIndexed, [], ap, length, reverse, reverse-append, subst, sym, ◌∙◌, ◌∷◌, ◌≡◌}
+use Rattle.std.proofs.Common.{◌++◌}
 use Rattle.tabled_entity.proofs.Indexed.{indexed-more}
 use Rattle.tabled_entity.proofs.entity_map.EntityMap.set_part.Goals as goal
 

@@ -1,6 +1,5 @@
-use Rattle.std.proofs.Common.{◌≡◌, ◌<◌, length, reverse, sym, ap, ◌∙◌, arith}
-use Rattle.std.proofs.lemmas.List.{length-reverse}
-use Rattle.tabled_entity.specs.Changes.{setting_at, shared}
+use Rattle.tabled_entity.proofs.Names.{ap, arith, length, length-reverse, reverse, setting_at, sym, ◌<◌, ◌∙◌, ◌≡◌}
+use Rattle.tabled_entity.specs.Changes.{shared}
 use Rattle.tabled_entity.proofs.Indexed.{nothing_set, parted, unparted}
 use Rattle.tabled_entity.proofs.entity_map.EntityMap.shared.Goals as goal
 

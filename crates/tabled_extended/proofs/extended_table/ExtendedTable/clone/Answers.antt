@@ -1,5 +1,4 @@
-use Rattle.std.proofs.Common.{◌∙◌, ap, arith}
-use Rattle.tabled_base.specs.Cells.{row_texts}
+use Rattle.tabled_extended.proofs.Names.{ap, arith, row_texts, ◌∙◌}
 use Rattle.tabled_base.proofs.CopiedRows.{copied-more}
 use Rattle.tabled_extended.proofs.extended_table.ExtendedTable.clone.Goals as goal
 

@@ -1,5 +1,4 @@
-use Rattle.std.proofs.Common.{◌≡◌, take}
-use Rattle.tabled_base.specs.Cells.{row_texts}
+use Rattle.tabled_extended.proofs.Names.{row_texts, take, ◌≡◌}
 use Rattle.tabled_extended.proofs.extended_table.ExtendedTable.clone.Given as goal
 
 abbrev pub invariant-loop-record : goal.invariant-loop-record

@@ -1,12 +1,6 @@
-use Rattle.std.proofs.Common.{◌≡◌, List, ℕ, inr, refl, subst}
-use Rattle.std.specs.Prelude.{OnErr, OnOk}
-use Rattle.std.specs.List.{AllZip}
-use Rattle.std.specs.declared.alloc.Global.{Global}
-use Rattle.std.specs.declared.vec.Vec.{Vec}
+use Rattle.tabled_extended.proofs.Names.{AllZip, Global, IsTruncated, List, OnErr, OnOk, Vec, if_sized, inr, refl, row_texts, subst, ℕ, ◌≡◌}
 use Rattle.std.proofs.lemmas.Result.{on_err_weaker}
-use Rattle.tabled_base.specs.Cells.{row_texts}
-use Rattle.tabled_set.specs.CellChanges.{if_sized}
-use Rattle.tabled_extended.specs.Truncated.{IsTruncated, StopsInRecords}
+use Rattle.tabled_extended.specs.Truncated.{StopsInRecords}
 use Rattle.tabled_extended.proofs.TruncatedTable.{in_none, in_some, ok_both}
 use Rattle.tabled_extended.proofs.extended_table.ExtendedTable.truncate_to.Goals.{in-Some+in_ok-truncate_row, in_default}
 use Rattle.tabled_extended.proofs.extended_table.ExtendedTable.truncate_to.Goals as goal

@@ -1,5 +1,4 @@
-use Rattle.std.proofs.Common.{arith, sym}
-use Rattle.std.proofs.lemmas.List.{length-map}
+use Rattle.tabled_extended.proofs.Names.{arith, length-map, sym}
 use Rattle.tabled_extended.proofs.Records.{so_far-none, so_far-more, so_far-all, records-stopped}
 use Rattle.tabled_extended.proofs.extended_table.ExtendedTable.write_to.Goals as goal
 

@@ -1,5 +1,4 @@
-use Rattle.std.proofs.Common.{false}
-use Rattle.tabled_base.specs.Cells.{row_texts}
+use Rattle.tabled_extended.proofs.Names.{false, row_texts}
 use Rattle.tabled_extended.proofs.Records.{PrintedSoFar}
 use Rattle.tabled_extended.proofs.extended_table.ExtendedTable.write_to.Given as goal
 

@@ -1,4 +1,4 @@
-use Rattle.tabled_base.specs.Cells.{row_texts}
+use Rattle.tabled_extended.proofs.Names.{row_texts}
 use Rattle.tabled_extended.proofs.EscapedRecords.{AreEscaped}
 use Rattle.tabled_extended.proofs.making.ExtendedTable+RecordTemplate.new.Given as goal
 

@@ -1,4 +1,4 @@
-use Rattle.std.proofs.Common.{Ok, refl, subst, ◌≡◌}
+use Rattle.tabled_extended.proofs.Names.{Ok, refl, subst, ◌≡◌}
 use Rattle.tabled_extended.proofs.template.FnTemplateTemplate.label.Goals as goal
 
 pub returns-clause-text : goal.returns-clause-text

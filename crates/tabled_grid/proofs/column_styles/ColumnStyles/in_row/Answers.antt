@@ -1,5 +1,4 @@
-use Rattle.std.proofs.Common.{◌∙◌, sym}
-use Rattle.tabled_config.specs.Settings.{style_at}
+use Rattle.tabled_grid.proofs.Names.{style_at, sym, ◌∙◌}
 use Rattle.tabled_grid.proofs.AlikeRows.{alike-maps}
 use Rattle.tabled_grid.proofs.column_styles.ColumnStyles.in_row.Goals as goal
 

@@ -1,10 +1,6 @@
-use Rattle.std.proofs.Common.{◌≡◌, ◌<◌, ℕ, slice_index_or, subst, ap, ◌∙◌, arith}
-use Rattle.std.proofs.lemmas.List.FromFn.{get_or-map-range_with_len}
-use Rattle.std.specs.List.{slice_index}
-use Rattle.tabled_base.specs.Cells.{columns}
-use Rattle.tabled_size.specs.Reached.{reached}
+use Rattle.tabled_grid.proofs.Names.{ap, arith, columns, get_or-map-range_with_len, reached, slice_index, slice_index_or, style_at, subst}
+use Rattle.tabled_grid.proofs.Names.{ℕ, ◌<◌, ◌∙◌, ◌≡◌}
 use Rattle.tabled_config.specs.RowStyles.{plain_style}
-use Rattle.tabled_config.specs.Settings.{style_at}
 use Rattle.tabled_grid.proofs.grid.Grid.styles.Goals as goal
 
 pub returns : goal.returns

@@ -1,7 +1,4 @@
-use Rattle.std.proofs.Common.{◌≡◌, ◌<◌, arith, length, subst, sym}
-use Rattle.std.specs.List.{slice_index}
-use Rattle.tabled_size.specs.Sheet.{Sheet}
-use Rattle.tabled_size.proofs.Reaching.{reached_size, reached_there}
+use Rattle.tabled_grid.proofs.Names.{Sheet, arith, length, reached_size, reached_there, slice_index, subst, sym, ◌<◌, ◌≡◌}
 use Rattle.tabled_grid.proofs.parts.GridRowRow.height.Goals as goal
 
 pub get_height-requires : goal.get_height-requires

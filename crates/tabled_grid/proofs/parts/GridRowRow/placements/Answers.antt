@@ -1,7 +1,5 @@
-use Rattle.std.proofs.Common.{subst}
-use Rattle.tabled_config.specs.Settings.{style_at}
+use Rattle.tabled_grid.proofs.Names.{Sheet, style_at, subst}
 use Rattle.tabled_line.specs.Placements.{IsUniform}
-use Rattle.tabled_size.specs.Sheet.{Sheet}
 use Rattle.tabled_grid.proofs.parts.GridRowRow.placements.Goals as goal
 
 -- how texts with the row's padding and alignment stand is how each of the row stands

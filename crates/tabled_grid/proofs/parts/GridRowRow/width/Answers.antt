@@ -1,8 +1,4 @@
-use Rattle.std.proofs.Common.{◌≡◌, ◌<◌, arith, length, subst, sym}
-use Rattle.std.specs.List.{slice_index}
-use Rattle.tabled_base.specs.Cells.{columns}
-use Rattle.tabled_size.specs.Sheet.{Sheet}
-use Rattle.tabled_size.proofs.Reaching.{reached_size, reached_there}
+use Rattle.tabled_grid.proofs.Names.{Sheet, arith, columns, length, reached_size, reached_there, slice_index, subst, sym, ◌<◌, ◌≡◌}
 use Rattle.tabled_grid.proofs.parts.GridRowRow.width.Goals as goal
 
 pub get_width-requires : goal.get_width-requires

@@ -1,5 +1,4 @@
-use Rattle.std.proofs.Common.{ap, sym, ◌∙◌}
-use Rattle.std.specs.Option.{option_map}
+use Rattle.tabled_line.proofs.Names.{ap, option_map, sym, ◌∙◌}
 use Rattle.tabled_line.proofs.Blocks.{block-above, block-text, block-below}
 use Rattle.tabled_line.proofs.block.CellBlock.write_line.Goals as goal
 

@@ -1,4 +1,4 @@
-use Rattle.tabled_line.specs.Block.{cell_line}
+use Rattle.tabled_line.proofs.Names.{cell_line}
 use Rattle.tabled_line.proofs.block.CellBlock.write_text_line.Goals as goal
 
 pub returns : goal.returns

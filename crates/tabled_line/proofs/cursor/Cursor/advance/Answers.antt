@@ -1,6 +1,5 @@
-use Rattle.std.proofs.Common.{◌≡◌, ◌+◌, ◌-◌, ◌≤◌, [], drop, sym, ap, ◌∙◌, arith}
+use Rattle.tabled_line.proofs.Names.{[], ap, arith, drop, lines_of, sym, ◌+◌, ◌-◌, ◌∙◌, ◌≡◌, ◌≤◌}
 use Rattle.tabled_text.specs.Lines.{lines_in}
-use Rattle.tabled_text.specs.Measure.{lines_of}
 use Rattle.tabled_line.proofs.Moving.{drop-next, drop-past, line-at, no-line-at}
 use Rattle.tabled_line.proofs.cursor.Cursor.advance.Goals as goal
 

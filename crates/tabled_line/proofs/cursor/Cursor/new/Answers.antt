@@ -1,6 +1,4 @@
-use Rattle.std.proofs.Common.{◌≡◌, ◌+◌, ◌-◌, ◌≤◌, [], ◌∷◌, drop, sym, ap, refl, ◌∙◌, arith}
-use Rattle.tabled_text.specs.Measure.{lines_of}
-use Rattle.tabled_text.proofs.Bridge.{lines_of-one}
+use Rattle.tabled_line.proofs.Names.{[], ap, arith, drop, lines_of, lines_of-one, refl, sym, ◌+◌, ◌-◌, ◌∙◌, ◌∷◌, ◌≡◌, ◌≤◌}
 use Rattle.tabled_line.proofs.Contents.{columns-one, line-first}
 use Rattle.tabled_line.proofs.cursor.Cursor.new.Goals as goal
 

@@ -1,10 +1,5 @@
-use Rattle.std.proofs.Common.{◌≡◌, ◌-◌, ◌≤◌, [], Some, None, sym, ap, refl, ◌∙◌, arith, slice_get}
-use Rattle.std.specs.Option.{option_map}
-use Rattle.std.specs.List.{slice_index_or}
-use Rattle.std.proofs.lemmas.Option.{get_or_from_slice_get, slice_get_past}
-use Rattle.std.proofs.lemmas.List.{get_or_past}
-use Rattle.tabled_text.specs.Measure.{line_columns, lines_of}
-use Rattle.tabled_text.proofs.Ends.{line-nil}
+use Rattle.tabled_line.proofs.Names.{None, Some, [], ap, arith, get_or_from_slice_get, get_or_past, line-nil, line_columns, lines_of}
+use Rattle.tabled_line.proofs.Names.{option_map, refl, slice_get, slice_get_past, slice_index_or, sym, ◌-◌, ◌∙◌, ◌≡◌, ◌≤◌}
 use Rattle.tabled_line.proofs.Blocks.{past_from_none}
 use Rattle.tabled_line.proofs.cursor.Cursor.text_line.Goals as goal
 

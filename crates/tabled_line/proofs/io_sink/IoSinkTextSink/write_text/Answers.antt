@@ -1,4 +1,4 @@
-use Rattle.std.proofs.Common.{arith, refl}
+use Rattle.tabled_line.proofs.Names.{arith, refl}
 use Rattle.tabled_line.proofs.Sending.{took-more}
 use Rattle.tabled_line.proofs.io_sink.IoSinkTextSink.write_text.Goals as goal
 

@@ -1,5 +1,4 @@
-use Rattle.std.proofs.Common.{◌≡◌, false, length}
-use Rattle.tabled_line.specs.Sent.{Took}
+use Rattle.tabled_line.proofs.Names.{Took, false, length, ◌≡◌}
 use Rattle.tabled_line.proofs.io_sink.IoSinkTextSink.write_text.Given as goal
 
 abbrev pub invariant-taken : goal.invariant-taken

@@ -1,5 +1,4 @@
-use Rattle.std.proofs.Common.{◌<◌, arith, length, refl, rules}
-use Rattle.std.specs.Io.KnownBytes.{Keeps}
+use Rattle.tabled_line.proofs.Names.{Keeps, arith, length, refl, rules, ◌<◌}
 use Rattle.tabled_line.proofs.Sending.{took-more}
 use Rattle.tabled_line.proofs.Writers.{kept-failed, kept-none, named-appends, took-failed}
 use Rattle.tabled_line.proofs.io_sink.WriterSinkTextSink.write_text.Goals as goal

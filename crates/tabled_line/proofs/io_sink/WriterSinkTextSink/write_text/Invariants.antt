@@ -1,6 +1,4 @@
-use Rattle.std.proofs.Common.{◌≡◌, None, length}
-use Rattle.tabled_line.specs.Sent.{Took}
-use Rattle.tabled_line.specs.WriterSent.{named_sent}
+use Rattle.tabled_line.proofs.Names.{None, Took, length, named_sent, ◌≡◌}
 use Rattle.tabled_line.proofs.io_sink.WriterSinkTextSink.write_text.Given as goal
 
 abbrev pub invariant-taken : goal.invariant-taken

@@ -1,5 +1,4 @@
-use Rattle.std.proofs.Common.{◌∷◌, ◌++◌, [], ◌∙◌, ap, sym, unwrap_or}
-use Rattle.tabled_line.specs.Row.{rule_line}
+use Rattle.tabled_line.proofs.Names.{[], ap, rule_line, sym, unwrap_or, ◌++◌, ◌∙◌, ◌∷◌}
 use Rattle.tabled_line.proofs.Sending.{sent-ok}
 use Rattle.tabled_line.proofs.line_printer.CachedRule.lay_out.Goals as goal
 

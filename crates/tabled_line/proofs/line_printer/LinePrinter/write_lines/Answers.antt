@@ -1,8 +1,5 @@
-use Rattle.std.proofs.Common.{◌≡◌, ◌+◌, ◌-◌, ap, arith, map, refl, subst, sym, ◌∙◌}
-use Rattle.tabled_line.specs.Cursors.{AreAt}
-use Rattle.std.specs.List.{range_with_len}
-use Rattle.tabled_line.specs.Leading.{WritesLines}
-use Rattle.tabled_line.specs.Row.{row_line, row_lines}
+use Rattle.tabled_line.proofs.Names.{AreAt, WritesLines, ap, arith, map, range_with_len, refl, row_line, row_lines, subst, sym, ◌+◌, ◌-◌}
+use Rattle.tabled_line.proofs.Names.{◌∙◌, ◌≡◌}
 use Rattle.tabled_line.proofs.Each.{map-more, map-rest}
 use Rattle.tabled_line.proofs.Leading.{lines-further, lines-stopped}
 use Rattle.tabled_line.proofs.line_printer.LinePrinter.write_lines.Goals as goal

@@ -1,9 +1,4 @@
-use Rattle.std.proofs.Common.{◌≡◌, ◌-◌, map}
-use Rattle.std.specs.List.{range_with_len}
-use Rattle.tabled_line.specs.Leading.{LineSends}
-use Rattle.tabled_line.specs.LineCache.{IsCacheOf}
-use Rattle.tabled_line.specs.Cursors.{AreAt}
-use Rattle.tabled_line.specs.Row.{row_line}
+use Rattle.tabled_line.proofs.Names.{AreAt, IsCacheOf, LineSends, map, range_with_len, row_line, ◌-◌, ◌≡◌}
 use Rattle.tabled_line.proofs.line_printer.LinePrinter.write_lines.Given as goal
 
 abbrev pub invariant-lines : goal.invariant-lines

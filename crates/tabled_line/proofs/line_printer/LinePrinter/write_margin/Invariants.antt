@@ -1,7 +1,4 @@
-use Rattle.std.proofs.Common.{◌≡◌, replicate}
-use Rattle.tabled_line.specs.Fill.{fill}
-use Rattle.tabled_line.specs.Leading.{LineSends}
-use Rattle.tabled_line.specs.LineCache.{IsCacheOf}
+use Rattle.tabled_line.proofs.Names.{IsCacheOf, LineSends, fill, replicate, ◌≡◌}
 use Rattle.tabled_line.proofs.line_printer.LinePrinter.write_margin.Given as goal
 
 abbrev pub invariant-lines : goal.invariant-lines

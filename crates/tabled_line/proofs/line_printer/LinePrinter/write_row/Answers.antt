@@ -1,7 +1,4 @@
-use Rattle.std.proofs.Common.{map, refl, subst, sym, ◌∙◌}
-use Rattle.std.specs.List.{range_with_len}
-use Rattle.tabled_line.specs.Leading.{WritesLines}
-use Rattle.tabled_line.specs.Row.{row_line, row_lines}
+use Rattle.tabled_line.proofs.Names.{WritesLines, map, range_with_len, refl, row_line, row_lines, subst, sym, ◌∙◌}
 use Rattle.tabled_line.proofs.line_printer.LinePrinter.write_row.Goals as goal
 
 pub returns-then-height-eq1-clause-printed : goal.returns-then-height-eq1-clause-printed

@@ -1,6 +1,5 @@
-use Rattle.std.proofs.Common.{◌≡◌, ap, drop, subst, sym, ◌∙◌}
+use Rattle.tabled_line.proofs.Names.{ap, drop, row_line, subst, sym, ◌∙◌, ◌≡◌}
 use Rattle.std.specs.Prelude.{IsUtf8}
-use Rattle.tabled_line.specs.Row.{row_line}
 use Rattle.tabled_line.proofs.LeadingFeeds.{lines_after-whole}
 use Rattle.tabled_line.proofs.line_printer.LinePrinter.write_row_line.Goals as goal
 

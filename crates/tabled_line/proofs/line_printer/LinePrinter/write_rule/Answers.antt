@@ -1,5 +1,4 @@
-use Rattle.std.proofs.Common.{◌≡◌, ◌∷◌, drop, refl, sym, ap, ◌∙◌}
-use Rattle.tabled_line.specs.Row.{rule_line}
+use Rattle.tabled_line.proofs.Names.{ap, drop, refl, rule_line, sym, ◌∙◌, ◌∷◌, ◌≡◌}
 use Rattle.tabled_line.proofs.Leading.{lines-none}
 use Rattle.tabled_line.proofs.LeadingFeeds.{lines_after-parts}
 use Rattle.tabled_line.proofs.line_printer.LinePrinter.write_rule.Goals as goal

@@ -1,4 +1,4 @@
-use Rattle.std.proofs.Common.{◌<◌, length, ap, rules, subst, sym, ◌∙◌}
+use Rattle.tabled_line.proofs.Names.{ap, length, rules, subst, sym, ◌<◌, ◌∙◌}
 use Rattle.tabled_line.proofs.PlacementFacts.{cell-known, known-within}
 use Rattle.tabled_line.specs.Placements.{IsPlaceable, placement_of}
 use Rattle.tabled_line.proofs.placement.RefSliceCellPlacementRowPlacements.at.Goals as goal

@@ -1,4 +1,4 @@
-use Rattle.std.proofs.Common.{◌<◌, length, ap, arith, rules}
+use Rattle.tabled_line.proofs.Names.{ap, arith, length, rules, ◌<◌}
 use Rattle.tabled_line.proofs.LaidSlots.{text-begins}
 use Rattle.tabled_line.proofs.PlacementFacts.{cell-known, known-within}
 use Rattle.tabled_line.proofs.placement.RefSliceCellPlacementRowPlacements.text_offset.Goals as goal

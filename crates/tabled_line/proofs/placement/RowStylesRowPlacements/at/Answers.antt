@@ -1,4 +1,4 @@
-use Rattle.std.proofs.Common.{ap, ◌∙◌}
+use Rattle.tabled_line.proofs.Names.{ap, ◌∙◌}
 use Rattle.tabled_line.proofs.placement.RowStylesRowPlacements.at.Goals as goal
 
 pub returns : goal.returns

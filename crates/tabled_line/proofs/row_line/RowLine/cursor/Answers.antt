@@ -1,6 +1,4 @@
-use Rattle.std.proofs.Common.{◌≡◌, arith, subst}
-use Rattle.tabled_line.specs.Block.{fill_above}
-use Rattle.tabled_line.specs.Cursors.{IsAt}
+use Rattle.tabled_line.proofs.Names.{IsAt, arith, fill_above, subst, ◌≡◌}
 use Rattle.tabled_line.proofs.row_line.RowLine.cursor.Goals as goal
 
 pub lines-init : goal.lines-init

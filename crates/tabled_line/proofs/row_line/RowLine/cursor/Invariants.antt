@@ -1,5 +1,4 @@
-use Rattle.tabled_line.specs.Block.{fill_above}
-use Rattle.tabled_line.specs.Cursors.{IsAt}
+use Rattle.tabled_line.proofs.Names.{IsAt, fill_above}
 use Rattle.tabled_line.proofs.row_line.RowLine.cursor.Given as goal
 
 abbrev pub invariant-lines : goal.invariant-lines

@@ -1,4 +1,4 @@
-use Rattle.std.proofs.Common.{◌≡◌, false, true, sym, arith}
+use Rattle.tabled_line.proofs.Names.{arith, false, sym, true, ◌≡◌}
 use Rattle.tabled_line.proofs.row_line.RowLine.only.Goals as goal
 
 pub returns-clause-line : goal.returns-clause-line

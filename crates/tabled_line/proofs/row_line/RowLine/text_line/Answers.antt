@@ -1,8 +1,5 @@
-use Rattle.std.proofs.Common.{◌≡◌, [], ap, arith, inl, inr, subst, sym, ◌∙◌}
-use Rattle.std.specs.List.{slice_index_or}
-use Rattle.tabled_text.specs.Measure.{lines_of, text_columns}
+use Rattle.tabled_line.proofs.Names.{IsAt, [], ap, arith, cursor_of, inl, inr, lines_of, slice_index_or, subst, sym, text_columns, ◌∙◌, ◌≡◌}
 use Rattle.tabled_line.specs.Block.{first_line}
-use Rattle.tabled_line.specs.Cursors.{IsAt, cursor_of}
 use Rattle.tabled_line.proofs.Spacing.{top-above}
 use Rattle.tabled_line.proofs.row_line.RowLine.text_line.Goals as goal
 

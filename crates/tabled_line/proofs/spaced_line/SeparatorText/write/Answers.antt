@@ -1,10 +1,7 @@
-use Rattle.std.proofs.Common.{◌≡◌, ◌+◌, ◌-◌, ◌<◌, ◌≤◌, ◌++◌, length, get_or, inl, inr, append_assoc, ap, ◌∙◌, subst, sym, refl, arith, lit<}
-use Rattle.std.proofs.lemmas.Bool.{cases_lt}
-use Rattle.std.proofs.lemmas.Str.{IsCharBoundary-after_ascii, IsCharBoundary-before_ascii, IsCharBoundary-end, IsUtf8-from_is_utf8}
-use Rattle.std.specs.List.{slice_range}
-use Rattle.std.specs.Str.{IsCharBoundary}
-use Rattle.tabled_line.specs.Fill.{fill}
-use Rattle.tabled_line.specs.Row.{piece, separator_text}
+use Rattle.tabled_line.proofs.Names.{IsCharBoundary, IsCharBoundary-after_ascii, IsCharBoundary-before_ascii, ap, append_assoc, arith}
+use Rattle.tabled_line.proofs.Names.{cases_lt, fill, get_or, inl, inr, length, lit<, piece, refl, separator_text, slice_range, subst, sym}
+use Rattle.tabled_line.proofs.Names.{◌++◌, ◌+◌, ◌-◌, ◌<◌, ◌∙◌, ◌≡◌, ◌≤◌}
+use Rattle.std.proofs.lemmas.Str.{IsCharBoundary-end, IsUtf8-from_is_utf8}
 use Rattle.tabled_line.proofs.Fills.{fill-first_bytes}
 use Rattle.tabled_line.proofs.SeparatorTexts.{separator-last_bytes, separator-length, separator-part, separator-parts}
 use Rattle.tabled_line.proofs.Sending.{finished, further, stopped, stopped-first}

@@ -1,6 +1,4 @@
-use Rattle.std.proofs.Common.{map, string_bytes}
-use Rattle.tabled_pool.specs.Inherited.{inner_text, inheriting_box}
-use Rattle.tabled_pool.specs.Plans.{plan_of}
+use Rattle.tabled_pool.proofs.Names.{inheriting_box, inner_text, map, plan_of, string_bytes}
 use Rattle.tabled_pool.proofs.BlockLines.{one-more}
 use Rattle.tabled_pool.proofs.bordered_text.BorderedText.push_inner_texts.Goals as goal
 

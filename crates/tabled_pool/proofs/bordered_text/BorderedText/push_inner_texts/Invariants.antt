@@ -1,7 +1,4 @@
-use Rattle.std.proofs.Common.{◌≡◌, ◌++◌, map, string_bytes}
-use Rattle.std.specs.List.{range_with_len}
-use Rattle.tabled_pool.specs.Inherited.{inner_text, inheriting_box}
-use Rattle.tabled_pool.specs.Plans.{plan_of}
+use Rattle.tabled_pool.proofs.Names.{inheriting_box, inner_text, map, plan_of, range_with_len, string_bytes, ◌++◌, ◌≡◌}
 use Rattle.tabled_pool.proofs.bordered_text.BorderedText.push_inner_texts.Given as goal
 
 abbrev pub invariant-loop-y : goal.invariant-loop-y

@@ -1,7 +1,4 @@
-use Rattle.std.proofs.Common.{map, refl, arith}
-use Rattle.tabled_pool.specs.Plans.{plan_of}
-use Rattle.tabled_pool.specs.Shown.{shown}
-use Rattle.tabled_pool.specs.Plan.{whole}
+use Rattle.tabled_pool.proofs.Names.{arith, map, plan_of, refl, shown, whole}
 use Rattle.tabled_pool.proofs.Listed.{piece_owns}
 use Rattle.tabled_pool.proofs.Neighbours.{no_marks_here, one_number, piece_marks}
 use Rattle.tabled_pool.proofs.color_marks.First.or_at.Goals as goal

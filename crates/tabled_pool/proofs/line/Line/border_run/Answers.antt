@@ -1,8 +1,4 @@
-use Rattle.std.proofs.Common.{◌≡◌, sym, ap, subst, ◌∙◌, arith}
-use Rattle.std.specs.Option.{option_map}
-use Rattle.tabled_pool.specs.Owner.{is_line, owner}
-use Rattle.tabled_pool.specs.Plans.{plan_of}
-use Rattle.tabled_pool.specs.Shown.{shown}
+use Rattle.tabled_pool.proofs.Names.{ap, arith, is_line, option_map, owner, plan_of, shown, subst, sym, ◌∙◌, ◌≡◌}
 use Rattle.tabled_pool.proofs.Runs.{Arms, Ends, Owns, kind_before, owns, run_chars}
 use Rattle.tabled_pool.proofs.line.Line.border_run.Goals.{Start, then-last-end, else-last-end}
 use Rattle.tabled_pool.proofs.line.Line.border_run.Goals as goal

@@ -1,6 +1,4 @@
-use Rattle.std.proofs.Common.{◌+◌, arith, sym}
-use Rattle.tabled_pool.specs.Plans.{plan_of}
-use Rattle.tabled_pool.specs.Shown.{shown}
+use Rattle.tabled_pool.proofs.Names.{arith, plan_of, shown, sym, ◌+◌}
 use Rattle.tabled_pool.proofs.Runs.{Owns, kind_before, owns}
 use Rattle.tabled_pool.proofs.line.Line.run_at.Goals.{Start}
 use Rattle.tabled_pool.proofs.line.Line.run_at.Goals as goal

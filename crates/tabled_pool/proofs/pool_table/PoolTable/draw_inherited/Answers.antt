@@ -1,5 +1,4 @@
-use Rattle.std.proofs.Common.{ap, sym, ◌∙◌}
-use Rattle.tabled_pool.specs.Pool.{marks_for}
+use Rattle.tabled_pool.proofs.Names.{ap, marks_for, sym, ◌∙◌}
 use Rattle.tabled_pool.proofs.PoolLemmas.{inherited_text}
 use Rattle.tabled_pool.proofs.pool_table.PoolTable.draw_inherited.Goals as goal
 

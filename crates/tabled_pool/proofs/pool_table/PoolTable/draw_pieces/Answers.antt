@@ -1,7 +1,4 @@
-use Rattle.std.proofs.Common.{ap, sym, subst, ◌∙◌}
-use Rattle.tabled_pool.specs.Pool.{marks_for}
-use Rattle.tabled_pool.specs.Numbers.{AreSized}
-use Rattle.tabled_pool.specs.Plan.{DrawingPlan}
+use Rattle.tabled_pool.proofs.Names.{AreSized, DrawingPlan, ap, marks_for, subst, sym, ◌∙◌}
 use Rattle.tabled_pool.proofs.Padded.{sized_parts}
 use Rattle.tabled_pool.proofs.PoolLemmas.{text_of}
 use Rattle.tabled_pool.proofs.pool_table.PoolTable.draw_pieces.Goals as goal

@@ -1,5 +1,4 @@
-use Rattle.std.proofs.Common.{ap, arith}
-use Rattle.tabled_pool.specs.Colours.{line_marks_of, marks_of}
+use Rattle.tabled_pool.proofs.Names.{ap, arith, line_marks_of, marks_of}
 use Rattle.tabled_pool.proofs.PoolLemmas.{plan_is, plan_tiles}
 use Rattle.tabled_pool.proofs.pool_table.PoolTable.drawing.Goals as goal
 

@@ -1,4 +1,4 @@
-use Rattle.std.proofs.Common.{arith, ⊎_elim, inl, inr}
+use Rattle.tabled_pool.proofs.Names.{arith, inl, inr, ⊎_elim}
 use Rattle.tabled_pool.proofs.pool_table.PoolTable.framed_size.Goals as goal
 
 pub returns-in_default : goal.returns-in_default

@@ -1,4 +1,4 @@
-use Rattle.tabled_pool.specs.Pool.{plan}
+use Rattle.tabled_pool.proofs.Names.{plan}
 use Rattle.tabled_pool.proofs.pool_table.PoolTable.pieces.Goals as goal
 
 pub returns : goal.returns

@@ -1,5 +1,6 @@
 -- `with` by hand: the table is lent again to `apply`, comes back as that left it, and is passed on or given up.
-use Rattle.std.proofs.Common.{◌≡◌, inl, inr, ℕ, List, [], ◌∷◌, ◌++◌, refl, sym, subst, lit<, MutBor}
+use Rattle.tabled_pool.proofs.Names.{List, [], inl, inr, lit<, refl, subst, sym, ℕ, ◌++◌, ◌∷◌, ◌≡◌}
+use Rattle.std.proofs.Common.{MutBor}
 use Rattle.std.proofs.raw_atomic.Walks.{proved_at}
 use Rattle.std.specs.Prelude.{Result, Ok, Err, OnOk, IfErr, ⊤}
 use seplogic.Ra.Ura.{Ura}

@@ -1,5 +1,4 @@
-use Rattle.std.proofs.Common.{arith}
-use Rattle.tabled_pool.specs.Plans.{plan_of}
+use Rattle.tabled_pool.proofs.Names.{arith, plan_of}
 use Rattle.tabled_pool.proofs.Totals.{drawn-at, drawn-length}
 use Rattle.tabled_pool.proofs.table_lines.TableLines.line.Goals as goal
 

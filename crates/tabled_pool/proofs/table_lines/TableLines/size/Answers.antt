@@ -1,5 +1,4 @@
-use Rattle.std.proofs.Common.{sym}
-use Rattle.tabled_pool.specs.Plans.{plan_of}
+use Rattle.tabled_pool.proofs.Names.{plan_of, sym}
 use Rattle.tabled_pool.proofs.Totals.{drawn-length}
 use Rattle.tabled_pool.proofs.table_lines.TableLines.size.Goals as goal
 

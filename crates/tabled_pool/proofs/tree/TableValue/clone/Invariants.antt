@@ -1,6 +1,5 @@
-use Rattle.std.proofs.Common.{◌≡◌}
-use Rattle.tabled_pool.specs.Tree.{tree_of}
-use Rattle.tabled_pool.specs.Levels.{left_in, within}
+use Rattle.tabled_pool.proofs.Names.{left_in, tree_of, ◌≡◌}
+use Rattle.tabled_pool.specs.Levels.{within}
 use Rattle.tabled_pool.proofs.tree.TableValue.clone.Given as goal
 
 abbrev pub invariant-values : goal.invariant-values

@@ -1,4 +1,4 @@
-use Rattle.tabled_pool.specs.Nodes.{nodes_in}
+use Rattle.tabled_pool.proofs.Names.{nodes_in}
 use Rattle.tabled_pool.proofs.tree.TableValue.drop.Given as goal
 
 abbrev pub decreases-values : goal.decreases-values

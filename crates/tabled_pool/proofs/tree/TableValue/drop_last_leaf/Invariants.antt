@@ -1,5 +1,4 @@
-use Rattle.std.proofs.Common.{◌≡◌, ◌+◌}
-use Rattle.tabled_pool.specs.Nodes.{nodes, nodes_in}
+use Rattle.tabled_pool.proofs.Names.{nodes, nodes_in, ◌+◌, ◌≡◌}
 use Rattle.tabled_pool.proofs.tree.TableValue.drop_last_leaf.Given as goal
 
 abbrev pub invariant-lists : goal.invariant-lists

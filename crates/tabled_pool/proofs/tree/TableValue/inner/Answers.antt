@@ -1,4 +1,4 @@
-use Rattle.std.proofs.Common.{◌∙◌, arith}
+use Rattle.tabled_pool.proofs.Names.{arith, ◌∙◌}
 use Rattle.tabled_pool.proofs.tree.TableValue.inner.Goals as goal
 
 pub lists-preserved : goal.lists-preserved

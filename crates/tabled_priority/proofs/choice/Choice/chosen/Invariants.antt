@@ -1,6 +1,4 @@
-use Rattle.std.proofs.Common.{◌≡◌, MatchOption}
-use Rattle.tabled_priority.specs.Permitted.{at}
-use Rattle.tabled_priority.specs.Visits.{counted}
+use Rattle.tabled_priority.proofs.Names.{MatchOption, at, counted, ◌≡◌}
 use Rattle.tabled_priority.proofs.BestPlace.{NoneAboveBelow, IsBestBelow}
 use Rattle.tabled_priority.proofs.choice.Choice.chosen.Given as goal
 

@@ -1,12 +1,7 @@
-use Rattle.std.proofs.Common.{ℕ, ◌+◌, ◌<◌, ◌≤◌, List, [], slice_set, arith, length, sym, subst, ◌∙◌, ⊎_elim, length-set}
-use Rattle.std.proofs.lemmas.Bool.{cases_eq}
-use Rattle.std.proofs.lemmas.List.{get_or-set_same, get_or-set_other}
-use Rattle.std.proofs.lemmas.List.Sums.{sum_by-set}
-use Rattle.tabled_priority.specs.Permitted.{at}
-use Rattle.tabled_priority.specs.Choices.{IsChosen}
+use Rattle.tabled_priority.proofs.Names.{IsChosen, List, [], added-none, added-some, arith, at, cases_eq, get_or-set_other, get_or-set_same}
+use Rattle.tabled_priority.proofs.Names.{in_range, length, length-set, slice_set, subst, sum_by-set, sym, ℕ, ⊎_elim, ◌+◌, ◌<◌, ◌∙◌, ◌≤◌}
 use Rattle.tabled_priority.specs.Grown.{IsGrownAt}
-use Rattle.tabled_priority.specs.Laws.Grown.{IsGrownAt-still, IsGrownFrom-still, added-none, added-some}
-use Rattle.tabled_priority.specs.Laws.Permitted.{in_range}
+use Rattle.tabled_priority.specs.Laws.Grown.{IsGrownAt-still, IsGrownFrom-still}
 use Rattle.tabled_priority.proofs.BestPlace.{IsChosen-above}
 use Rattle.tabled_priority.proofs.Visiting.{IsBounded-one, IsBounded-whole, growing}
 use Rattle.tabled_priority.proofs.choice.Choice.grow.Goals as goal

@@ -1,7 +1,5 @@
-use Rattle.std.proofs.Common.{◌≡◌, ◌+◌, ◌-◌, ◌<◌, ◌&&◌, ap, arith, if◌then◌else◌, length, min, nat_le, nat_lt, slice_set, subst, sym, ◌∙◌}
-use Rattle.tabled_priority.specs.Peak.{place_at}
-use Rattle.tabled_priority.specs.Permitted.{at}
-use Rattle.tabled_priority.specs.Spares.{spare_within}
+use Rattle.tabled_priority.proofs.Names.{ap, arith, at, if◌then◌else◌, length, min, nat_le, nat_lt, place_at, slice_set, spare_within}
+use Rattle.tabled_priority.proofs.Names.{subst, sym, ◌&&◌, ◌+◌, ◌-◌, ◌<◌, ◌∙◌, ◌≡◌}
 use Rattle.tabled_priority.proofs.Passes.{Midway, midway-end, midway-start, midway-take}
 use Rattle.tabled_priority.proofs.Turns.{ahead-place}
 use Rattle.tabled_priority.proofs.in_order.Pass.take.Goals as goal

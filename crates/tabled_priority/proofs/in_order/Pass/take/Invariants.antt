@@ -1,5 +1,4 @@
-use Rattle.std.proofs.Common.{◌≡◌}
-use Rattle.tabled_priority.specs.Visits.{counted}
+use Rattle.tabled_priority.proofs.Names.{counted, ◌≡◌}
 use Rattle.tabled_priority.proofs.Passes.{Midway}
 use Rattle.tabled_priority.proofs.in_order.Pass.take.Given as goal
 

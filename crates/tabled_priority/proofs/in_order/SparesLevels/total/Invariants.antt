@@ -1,8 +1,4 @@
-use Rattle.std.proofs.Common.{◌≡◌, min}
-use Rattle.tabled_priority.specs.Numbers.{greatest_usize}
-use Rattle.tabled_priority.specs.Spares.{spare_if_up_to}
-use Rattle.tabled_priority.specs.Sums.{sum_below}
-use Rattle.tabled_priority.specs.Visits.{counted}
+use Rattle.tabled_priority.proofs.Names.{counted, greatest_usize, min, spare_if_up_to, sum_below, ◌≡◌}
 use Rattle.tabled_priority.proofs.in_order.SparesLevels.total.Given as goal
 
 abbrev pub invariant-loop-place : goal.invariant-loop-place

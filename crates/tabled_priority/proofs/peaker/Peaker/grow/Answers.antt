@@ -1,4 +1,4 @@
-use Rattle.std.proofs.Common.{ℕ, ◌+◌, ◌-◌, [], arith, rules, subst}
+use Rattle.tabled_priority.proofs.Names.{[], arith, rules, subst, ℕ, ◌+◌, ◌-◌}
 use Rattle.tabled_priority.specs.Permitted.{IsAbove, raised}
 use Rattle.tabled_priority.specs.Laws.Grown.{IsNoneSmaller-raised, IsRaised-raised}
 use Rattle.tabled_priority.proofs.Visiting.{changed-le, changed-self}

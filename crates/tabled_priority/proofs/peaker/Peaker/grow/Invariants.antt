@@ -1,6 +1,5 @@
-use Rattle.std.proofs.Common.{◌≡◌, ℕ, ◌+◌, ◌-◌, ◌≤◌, List, sum}
+use Rattle.tabled_priority.proofs.Names.{List, changed, counted, sum, ℕ, ◌+◌, ◌-◌, ◌≡◌, ◌≤◌}
 use Rattle.tabled_priority.specs.Grown.{IsNoneSmaller}
-use Rattle.tabled_priority.specs.Visits.{changed, counted}
 use Rattle.tabled_priority.proofs.peaker.Peaker.grow.Given as goal
 
 abbrev pub invariant-loop-added : goal.invariant-loop-added

@@ -1,5 +1,5 @@
-use Rattle.std.proofs.Common.{ℕ, ◌+◌, ◌-◌, arith, rules, subst}
-use Rattle.tabled_priority.specs.Permitted.{at, lowered}
+use Rattle.tabled_priority.proofs.Names.{arith, at, rules, subst, ℕ, ◌+◌, ◌-◌}
+use Rattle.tabled_priority.specs.Permitted.{lowered}
 use Rattle.tabled_priority.specs.Laws.Permitted.{IsPermitted-lowered, sum-lowered}
 use Rattle.tabled_priority.proofs.Visiting.{changed-le, changed-self}
 use Rattle.tabled_priority.proofs.peaker.Peaker.shrink.Goals as goal

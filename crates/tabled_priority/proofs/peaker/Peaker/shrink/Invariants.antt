@@ -1,6 +1,4 @@
-use Rattle.std.proofs.Common.{◌≡◌, ℕ, ◌+◌, ◌-◌, ◌≤◌, List, sum}
-use Rattle.tabled_priority.specs.Permitted.{IsPermitted}
-use Rattle.tabled_priority.specs.Visits.{changed, counted}
+use Rattle.tabled_priority.proofs.Names.{IsPermitted, List, changed, counted, sum, ℕ, ◌+◌, ◌-◌, ◌≡◌, ◌≤◌}
 use Rattle.tabled_priority.proofs.peaker.Peaker.shrink.Given as goal
 
 abbrev pub invariant-loop-taken : goal.invariant-loop-taken

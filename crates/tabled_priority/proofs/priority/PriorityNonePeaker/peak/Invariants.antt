@@ -1,6 +1,4 @@
-use Rattle.std.proofs.Common.{◌≡◌, ℕ, ◌+◌, ◌<◌, ◌≤◌, length}
-use Rattle.tabled_priority.specs.Permitted.{at}
-use Rattle.tabled_priority.specs.Shrunk.{start}
+use Rattle.tabled_priority.proofs.Names.{at, length, start, ℕ, ◌+◌, ◌<◌, ◌≡◌, ◌≤◌}
 use Rattle.tabled_priority.proofs.priority.PriorityNonePeaker.peak.Given as goal
 
 abbrev pub invariant-loop-turn : goal.invariant-loop-turn

@@ -1,6 +1,4 @@
-use Rattle.std.proofs.Common.{◌≡◌, ◌<◌}
-use Rattle.tabled_priority.specs.Schedule.{open_of}
-use Rattle.tabled_priority.specs.Visits.{counted}
+use Rattle.tabled_priority.proofs.Names.{counted, open_of, ◌<◌, ◌≡◌}
 use Rattle.tabled_priority.proofs.schedule.Ramps.nth_open.Given as goal
 
 abbrev pub invariant-loop-place : goal.invariant-loop-place

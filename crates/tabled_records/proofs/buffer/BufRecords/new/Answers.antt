@@ -1,4 +1,4 @@
-use Rattle.std.proofs.Common.{false}
+use Rattle.tabled_records.proofs.Names.{false}
 use Rattle.tabled_base.specs.Laws.{whole_rows}
 use Rattle.tabled_records.proofs.BufferedRuns.{open_begun, whole_begun}
 use Rattle.tabled_records.proofs.RowsRead.{reads-begun}

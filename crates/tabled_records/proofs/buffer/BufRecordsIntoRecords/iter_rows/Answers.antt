@@ -1,5 +1,4 @@
-use Rattle.std.proofs.Common.{true, length, ap, sym, subst, ◌∙◌}
-use Rattle.tabled_records.specs.Buffered.{BufBegin, cells_ahead}
+use Rattle.tabled_records.proofs.Names.{BufBegin, ap, cells_ahead, length, subst, sym, true, ◌∙◌}
 use Rattle.tabled_records.proofs.BufferedRuns.{buf_begin, buf_end}
 use Rattle.tabled_records.proofs.Runs.{given_whole}
 use Rattle.tabled_records.proofs.buffer.BufRecordsIntoRecords.iter_rows.Goals as goal

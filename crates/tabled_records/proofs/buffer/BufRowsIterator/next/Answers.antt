@@ -1,4 +1,4 @@
-use Rattle.std.proofs.Common.{refl, sym, ap, length, ◌∙◌}
+use Rattle.tabled_records.proofs.Names.{ap, length, refl, sym, ◌∙◌}
 use Rattle.tabled_records.proofs.buffer.BufRowsIterator.next.Goals as goal
 
 pub returns-in-Some-clause-steps : goal.returns-in-Some-clause-steps

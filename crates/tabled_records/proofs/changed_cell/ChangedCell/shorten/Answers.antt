@@ -1,5 +1,4 @@
-use Rattle.std.proofs.Common.{◌≡◌, length, ap, arith}
-use Rattle.tabled_records.specs.Changed.{text_of}
+use Rattle.tabled_records.proofs.Names.{ap, arith, length, text_of, ◌≡◌}
 use Rattle.tabled_records.proofs.changed_cell.ChangedCell.shorten.Goals as goal
 
 pub returns-in-Short : goal.returns-in-Short

@@ -1,7 +1,7 @@
-use Rattle.std.proofs.Common.{◌≡◌, ◌+◌, ◌++◌, List, ℕ, [], ◌∷◌, refl, length, take, drop, ap, subst, sym, ◌∙◌, arith, length-append}
+use Rattle.tabled_records.proofs.Names.{IsUtf8, List, [], ap, arith, drop, length, length-append, refl, subst, sym, take, ℕ, ◌++◌, ◌+◌, ◌∙◌}
+use Rattle.tabled_records.proofs.Names.{◌∷◌, ◌≡◌}
 use Rattle.std.proofs.Math.Seq.{take-append-add, take-append_seam}
 use Rattle.std.proofs.lemmas.Str.{IsUtf8-append}
-use Rattle.std.specs.Str.{IsUtf8}
 use Rattle.tabled_records.proofs.changed_cell.ShortText.joined.Goals as goal
 
 none : (bytes : List ℕ) → take 0 bytes ≡ []

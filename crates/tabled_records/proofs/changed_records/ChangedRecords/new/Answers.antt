@@ -1,6 +1,4 @@
-use Rattle.std.proofs.Common.{ap, refl, ◌∙◌}
-use Rattle.tabled_records.specs.Changed.{changed_rows, text_of}
-use Rattle.tabled_records.specs.declared.changed_cell.ChangedCell.TheVariants.{Same}
+use Rattle.tabled_records.proofs.Names.{Same, ap, changed_rows, refl, text_of, ◌∙◌}
 use Rattle.tabled_records.proofs.ChangedRows.{rows-same}
 use Rattle.tabled_records.proofs.changed_records.ChangedRecords.new.Goals as goal
 

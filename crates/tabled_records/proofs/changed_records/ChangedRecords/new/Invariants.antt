@@ -1,5 +1,4 @@
-use Rattle.std.proofs.Common.{◌≡◌, replicate}
-use Rattle.tabled_records.specs.declared.changed_cell.ChangedCell.TheVariants.{Same}
+use Rattle.tabled_records.proofs.Names.{Same, replicate, ◌≡◌}
 use Rattle.tabled_records.proofs.changed_records.ChangedRecords.new.Given as goal
 
 abbrev pub invariant-cells : goal.invariant-cells

@@ -1,6 +1,4 @@
-use Rattle.std.proofs.Common.{subst, sym, ap, ◌∙◌}
-use Rattle.tabled_base.specs.Cells.{IsRectangular, columns}
-use Rattle.tabled_records.specs.Changed.{text_of}
+use Rattle.tabled_records.proofs.Names.{IsRectangular, ap, columns, subst, sym, text_of, ◌∙◌}
 use Rattle.tabled_records.proofs.ChangedRows.{rows-columns, rows-rectangular}
 use Rattle.tabled_records.proofs.changed_records.ChangedRecordsExactRecords.count_columns.Goals as goal
 

@@ -1,5 +1,4 @@
-use Rattle.std.proofs.Common.{length, sym, ap, ◌∙◌}
-use Rattle.tabled_records.specs.Changed.{text_of}
+use Rattle.tabled_records.proofs.Names.{ap, length, sym, text_of, ◌∙◌}
 use Rattle.tabled_records.proofs.ChangedRows.{rows-length}
 use Rattle.tabled_records.proofs.changed_records.ChangedRecordsExactRecords.count_rows.Goals as goal
 

@@ -1,5 +1,4 @@
-use Rattle.std.proofs.Common.{◌∙◌, ap, length, map}
-use Rattle.tabled_text.specs.Measure.{greatest}
+use Rattle.tabled_records.proofs.Names.{ap, greatest, length, map, ◌∙◌}
 use Rattle.tabled_records.proofs.Rows.{longest-parts}
 use Rattle.tabled_records.proofs.flat_rows.FlatRows.columns.Goals as goal
 

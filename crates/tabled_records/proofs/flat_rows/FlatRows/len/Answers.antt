@@ -1,6 +1,4 @@
-use Rattle.std.proofs.Common.{◌∙◌, ap, length, sym}
-use Rattle.std.proofs.lemmas.List.{length-map}
-use Rattle.tabled_records.specs.JoinedRows.{part}
+use Rattle.tabled_records.proofs.Names.{ap, length, length-map, part, sym, ◌∙◌}
 use Rattle.tabled_records.proofs.flat_rows.FlatRows.len.Goals as goal
 
 pub returns : goal.returns

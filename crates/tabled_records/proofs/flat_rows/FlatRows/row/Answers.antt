@@ -1,6 +1,4 @@
-use Rattle.std.proofs.Common.{ap, arith, length}
-use Rattle.std.proofs.lemmas.List.{length-map}
-use Rattle.tabled_records.specs.JoinedRows.{part}
+use Rattle.tabled_records.proofs.Names.{ap, arith, length, length-map, part}
 use Rattle.tabled_records.proofs.flat_rows.FlatRows.row.Goals as goal
 
 pub at-start-requires : goal.at-start-requires

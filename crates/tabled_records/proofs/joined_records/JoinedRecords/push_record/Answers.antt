@@ -1,7 +1,5 @@
-use Rattle.std.proofs.Common.{◌≡◌, ◌-◌, length, map, sym, ap, subst, ◌∙◌, arith, length-append}
+use Rattle.tabled_records.proofs.Names.{AreRanges, ap, arith, length, length-append, map, rows_in, subst, sym, with_record, ◌-◌, ◌∙◌, ◌≡◌}
 use Rattle.std.proofs.lemmas.Result.{on_err_weaker, on_ok_weaker}
-use Rattle.tabled_base.specs.Cells.{with_record}
-use Rattle.tabled_records.specs.JoinedRows.{AreRanges, rows_in}
 use Rattle.tabled_records.proofs.Joining.{on-either, on-err}
 use Rattle.tabled_records.proofs.Rows.{ranges-added, ranges-kept, rows-added, rows-kept}
 use Rattle.tabled_records.proofs.joined_records.JoinedRecords.push_record.Goals as goal

@@ -1,7 +1,4 @@
-use Rattle.std.proofs.Common.{ap, subst, ◌∙◌}
-use Rattle.tabled_base.specs.Cells.{IsRectangular, columns}
-use Rattle.tabled_base.proofs.LengthenedRows.{lengthened_rows-rectangular}
-use Rattle.tabled_records.specs.JoinedRows.{parts}
+use Rattle.tabled_records.proofs.Names.{IsRectangular, ap, columns, lengthened_rows-rectangular, parts, subst, ◌∙◌}
 use Rattle.tabled_records.proofs.Rows.{rows-columns}
 use Rattle.tabled_records.proofs.joined_records.JoinedRecordsExactRecords.count_columns.Goals as goal
 

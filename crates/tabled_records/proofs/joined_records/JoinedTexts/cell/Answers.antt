@@ -1,8 +1,6 @@
-use Rattle.std.proofs.Common.{◌≡◌, [], length, get_or, sym, ap, subst, ◌∙◌, arith, string_bytes}
-use Rattle.tabled_text.specs.Measure.{lines_of}
-use Rattle.tabled_base.specs.Cells.{cell_at}
-use Rattle.tabled_records.specs.Joined.{AreLines, texts_from}
-use Rattle.tabled_records.specs.JoinedRows.{IsCell, rows_in}
+use Rattle.tabled_records.proofs.Names.{AreLines, [], ap, arith, cell_at, get_or, length, lines_of, rows_in, string_bytes, subst, sym}
+use Rattle.tabled_records.proofs.Names.{texts_from, ◌∙◌, ◌≡◌}
+use Rattle.tabled_records.specs.JoinedRows.{IsCell}
 use Rattle.tabled_records.proofs.Joining.{length-texts, told_empty}
 use Rattle.tabled_records.proofs.Rows.{ranges-grown}
 use Rattle.tabled_records.proofs.joined_records.JoinedTexts.cell.Goals as goal

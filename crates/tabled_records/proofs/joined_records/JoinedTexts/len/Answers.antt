@@ -1,4 +1,4 @@
-use Rattle.std.proofs.Common.{length, sym, ap, ◌∙◌, string_bytes}
+use Rattle.tabled_records.proofs.Names.{ap, length, string_bytes, sym, ◌∙◌}
 use Rattle.tabled_records.proofs.Joining.{length-texts}
 use Rattle.tabled_records.proofs.joined_records.JoinedTexts.len.Goals as goal
 

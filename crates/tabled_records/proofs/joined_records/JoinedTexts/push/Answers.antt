@@ -1,9 +1,6 @@
-use Rattle.std.proofs.Common.{◌≡◌, ◌++◌, [], ◌∷◌, drop, length, sym, ap, subst, ◌∙◌, string_bytes}
+use Rattle.tabled_records.proofs.Names.{IsCharBoundary-at_seam, [], ap, drop, drop-append_seam, length, lines_of, string_bytes, subst, sym}
+use Rattle.tabled_records.proofs.Names.{text_columns, texts_from, ◌++◌, ◌∙◌, ◌∷◌, ◌≡◌}
 use Rattle.std.specs.Prelude.{IsCharBoundary}
-use Rattle.std.proofs.Math.Seq.{drop-append_seam}
-use Rattle.std.proofs.lemmas.Str.{IsCharBoundary-at_seam}
-use Rattle.tabled_text.specs.Measure.{lines_of, text_columns}
-use Rattle.tabled_records.specs.Joined.{texts_from}
 use Rattle.tabled_records.proofs.Joining.{filled-next, texts-added}
 use Rattle.tabled_records.proofs.joined_records.JoinedTexts.push.Goals as goal
 

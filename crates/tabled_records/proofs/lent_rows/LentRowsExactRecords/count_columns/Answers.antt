@@ -1,8 +1,5 @@
-use Rattle.std.proofs.Common.{sym, ap, subst, ◌∙◌}
-use Rattle.tabled_base.specs.Cells.{IsRectangular, columns}
-use Rattle.tabled_base.proofs.LengthenedRows.{lengthened_rows-rectangular}
-use Rattle.tabled_records.specs.Joined.{texts_from}
-use Rattle.tabled_records.specs.JoinedRows.{AreRanges, parts}
+use Rattle.tabled_records.proofs.Names.{AreRanges, IsRectangular, ap, columns, lengthened_rows-rectangular, parts, subst, sym, texts_from}
+use Rattle.tabled_records.proofs.Names.{◌∙◌}
 use Rattle.tabled_records.proofs.Joining.{length-texts}
 use Rattle.tabled_records.proofs.Rows.{rows-columns}
 use Rattle.tabled_records.proofs.lent_rows.LentRowsExactRecords.count_columns.Goals as goal

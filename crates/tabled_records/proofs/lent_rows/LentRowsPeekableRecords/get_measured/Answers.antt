@@ -1,5 +1,4 @@
-use Rattle.std.proofs.Common.{◌≡◌, [], sym, ap, ◌∙◌}
-use Rattle.tabled_base.specs.Cells.{cell_at}
+use Rattle.tabled_records.proofs.Names.{[], ap, cell_at, sym, ◌∙◌, ◌≡◌}
 use Rattle.tabled_records.proofs.Joining.{told_empty}
 use Rattle.tabled_records.proofs.lent_rows.LentRowsPeekableRecords.get_measured.Goals as goal
 

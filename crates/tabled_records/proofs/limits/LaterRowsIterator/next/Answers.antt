@@ -1,4 +1,4 @@
-use Rattle.std.proofs.Common.{arith, ◌-◌}
+use Rattle.tabled_records.proofs.Names.{arith, ◌-◌}
 use Rattle.tabled_records.proofs.PassRuns.{may_more, none_passed, one_passed, passed_goes}
 use Rattle.tabled_records.proofs.limits.LaterRowsIterator.next.Goals as goal
 

@@ -1,8 +1,5 @@
-use Rattle.std.proofs.Common.{true, ◌≡◌, take, subst, sym, ap, ◌∙◌}
-use Rattle.std.specs.Iterator.{Drains, IsFinite}
-use Rattle.tabled_records.specs.FirstCells.{first_cells_steps}
+use Rattle.tabled_records.proofs.Names.{Drains, IsFinite, ap, changed_of, first_cells_steps, subst, sym, take, true, ◌∙◌, ◌≡◌}
 use Rattle.tabled_records.proofs.FirstRuns.{first_drained}
-use Rattle.tabled_records.specs.RowByRow.{changed_of}
 use Rattle.tabled_records.proofs.Runs.{given_whole, made_begin, made_end}
 use Rattle.tabled_records.proofs.limits.LimitColumnsIntoRecords.iter_rows.Goals as goal
 

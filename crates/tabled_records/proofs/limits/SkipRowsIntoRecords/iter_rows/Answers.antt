@@ -1,6 +1,5 @@
-use Rattle.std.proofs.Common.{true}
+use Rattle.tabled_records.proofs.Names.{changed_of, true}
 use Rattle.tabled_records.proofs.LaterRuns.{later_end, later_rows}
-use Rattle.tabled_records.specs.RowByRow.{changed_of}
 use Rattle.tabled_records.proofs.Runs.{given_whole}
 use Rattle.tabled_records.proofs.limits.SkipRowsIntoRecords.iter_rows.Goals as goal
 

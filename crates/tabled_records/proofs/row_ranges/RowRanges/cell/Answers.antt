@@ -1,9 +1,5 @@
-use Rattle.std.proofs.Common.{◌+◌, ◌<◌, ◌≤◌, [], length, get_or, sym, ap, subst, ◌∙◌, arith}
-use Rattle.tabled_text.specs.Measure.{text_columns}
-use Rattle.std.specs.List.{slice_range}
-use Rattle.std.specs.Str.{IsCharBoundary}
-use Rattle.tabled_records.specs.Joined.{IsJoined, begin, texts_from}
-use Rattle.tabled_records.specs.JoinedRows.{AreRanges}
+use Rattle.tabled_records.proofs.Names.{AreRanges, IsCharBoundary, IsJoined, [], ap, arith, begin, get_or, length, slice_range, subst, sym}
+use Rattle.tabled_records.proofs.Names.{text_columns, texts_from, ◌+◌, ◌<◌, ◌∙◌, ◌≤◌}
 use Rattle.tabled_records.proofs.Joining.{joined-at, length-texts, text-at}
 use Rattle.tabled_records.proofs.Rows.{cell-behind, cell-there, length-rows}
 use Rattle.tabled_records.proofs.row_ranges.RowRanges.cell.Goals as goal

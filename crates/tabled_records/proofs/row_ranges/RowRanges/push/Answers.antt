@@ -1,5 +1,4 @@
-use Rattle.std.proofs.Common.{ap, arith}
-use Rattle.tabled_records.specs.JoinedRows.{longest_range}
+use Rattle.tabled_records.proofs.Names.{ap, arith, longest_range}
 use Rattle.tabled_records.proofs.Rows.{longest-next}
 use Rattle.tabled_records.proofs.row_ranges.RowRanges.push.Goals as goal
 

@@ -1,8 +1,5 @@
-use Rattle.std.proofs.Common.{true, ◌≡◌, subst, sym, ap, ◌∙◌}
-use Rattle.std.specs.Iterator.{Drains, IsFinite}
-use Rattle.tabled_records.specs.CutRows.{cut_cells_steps, with_widths}
+use Rattle.tabled_records.proofs.Names.{Drains, IsFinite, ap, changed_of, cut_cells_steps, subst, sym, true, with_widths, ◌∙◌, ◌≡◌}
 use Rattle.tabled_records.proofs.CutRuns.{cut_drained}
-use Rattle.tabled_records.specs.RowByRow.{changed_of}
 use Rattle.tabled_records.proofs.Runs.{given_whole, made_begin, made_end}
 use Rattle.tabled_records.proofs.truncate.TruncateContentIntoRecords.iter_rows.Goals as goal
 

@@ -1,4 +1,4 @@
-use Rattle.std.proofs.Common.{ℕ, ◌++◌, ◌-◌, ◌∙◌, ap, encode_utf8_all, replicate}
+use Rattle.tabled_set.proofs.Names.{ap, encode_utf8_all, replicate, ℕ, ◌++◌, ◌-◌, ◌∙◌}
 use Rattle.tabled_set.proofs.JoinedLines.{copied_feeds}
 use Rattle.tabled_set.proofs.heights.LengtheningTextTransform.apply.Goals as goal
 

@@ -1,8 +1,5 @@
-use Rattle.std.proofs.Common.{◌≡◌, ◌++◌, ◌∙◌, ◌∷◌, [], ap, arith, cond, false, lit<, sym, string_bytes, take, nat_lt, true, ℕ, suc, zero, List, append-nil, ◌<◌, ◌-◌}
-use Rattle.std.proofs.lemmas.Bool.Decides.{nat_tests}
-use Rattle.std.proofs.lemmas.Str.{encode_ascii}
-use Rattle.std.specs.List.{join_with_byte}
-use Rattle.tabled_text.specs.Lines.{lines_left}
+use Rattle.tabled_set.proofs.Names.{List, [], ap, append-nil, arith, cond, encode_ascii, false, join_with_byte, lines_left, lit<, nat_lt}
+use Rattle.tabled_set.proofs.Names.{nat_tests, string_bytes, suc, sym, take, true, zero, ℕ, ◌++◌, ◌-◌, ◌<◌, ◌∙◌, ◌∷◌, ◌≡◌}
 use Rattle.tabled_set.proofs.JoinedLines.{appended, appended-all, appended-more}
 use Rattle.tabled_set.proofs.heights.LimitingTextTransform.apply.Goals.{then-left-content_size+in_ok-push, else-left-content_size}
 use Rattle.tabled_set.proofs.heights.LimitingTextTransform.apply.Goals as goal

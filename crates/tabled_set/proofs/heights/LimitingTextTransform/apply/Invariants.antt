@@ -1,5 +1,4 @@
-use Rattle.std.proofs.Common.{◌≡◌, ◌++◌, ◌≤◌, nat_lt, string_bytes, take}
-use Rattle.tabled_text.specs.Lines.{lines_left}
+use Rattle.tabled_set.proofs.Names.{lines_left, nat_lt, string_bytes, take, ◌++◌, ◌≡◌, ◌≤◌}
 use Rattle.tabled_set.specs.TextLines.{limited}
 use Rattle.tabled_set.proofs.JoinedLines.{appended}
 use Rattle.tabled_set.proofs.heights.LimitingTextTransform.apply.Given as goal

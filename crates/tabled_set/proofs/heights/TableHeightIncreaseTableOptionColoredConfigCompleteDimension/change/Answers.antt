@@ -1,5 +1,5 @@
-use Rattle.std.proofs.Common.{◌≡◌, ℕ, ◌+◌, ◌-◌, ◌<◌, ◌∙◌, List, ap, arith, false, rules, subst, sum, sym}
-use Rattle.tabled_set.specs.Common.{estimated, estimated_heights, is_empty, SpannedConfig, total_height}
+use Rattle.tabled_set.proofs.Names.{List, SpannedConfig, ap, arith, estimated, estimated_heights, false, is_empty, rules, subst, sum, sym}
+use Rattle.tabled_set.proofs.Names.{total_height, ℕ, ◌+◌, ◌-◌, ◌<◌, ◌∙◌, ◌≡◌}
 use Rattle.tabled_set.proofs.PromisedSizes.{heights-fit, heightened, heightens}
 use Rattle.tabled_set.proofs.heights.TableHeightIncreaseTableOptionColoredConfigCompleteDimension.change.Goals as goal
 

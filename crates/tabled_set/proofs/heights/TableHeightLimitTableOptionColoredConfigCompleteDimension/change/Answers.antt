@@ -1,5 +1,4 @@
-use Rattle.std.proofs.Common.{◌≡◌, ◌∙◌, ap, arith, false, rules}
-use Rattle.tabled_set.specs.Common.{is_empty, SpannedConfig}
+use Rattle.tabled_set.proofs.Names.{SpannedConfig, ap, arith, false, is_empty, rules, ◌∙◌, ◌≡◌}
 use Rattle.tabled_set.proofs.PromisedSizes.{limits, lowered}
 use Rattle.tabled_set.proofs.heights.TableHeightLimitTableOptionColoredConfigCompleteDimension.change.Goals as goal
 

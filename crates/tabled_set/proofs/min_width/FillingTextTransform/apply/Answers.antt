@@ -1,7 +1,4 @@
-use Rattle.std.proofs.Common.{◌++◌, ◌∙◌, ap, false, map}
-use Rattle.std.specs.List.{join_with_byte}
-use Rattle.tabled_text.specs.Lines.{lines_left}
-use Rattle.tabled_set.specs.TextLines.{filled_line}
+use Rattle.tabled_set.proofs.Names.{ap, false, filled_line, join_with_byte, lines_left, map, ◌++◌, ◌∙◌}
 use Rattle.tabled_set.proofs.JoinedLines.{appended, appended-all}
 use Rattle.tabled_set.proofs.min_width.FillingTextTransform.apply.Goals as goal
 

@@ -1,6 +1,5 @@
-use Rattle.std.proofs.Common.{◌≡◌, ◌++◌, map, string_bytes}
-use Rattle.tabled_text.specs.Lines.{lines_left}
-use Rattle.tabled_set.specs.TextLines.{filled, filled_line}
+use Rattle.tabled_set.proofs.Names.{filled_line, lines_left, map, string_bytes, ◌++◌, ◌≡◌}
+use Rattle.tabled_set.specs.TextLines.{filled}
 use Rattle.tabled_set.proofs.JoinedLines.{appended}
 use Rattle.tabled_set.proofs.min_width.FillingTextTransform.apply.Given as goal
 

@@ -1,5 +1,4 @@
-use Rattle.std.proofs.Common.{refl}
-use Rattle.std.proofs.lemmas.Result.{IfErr-weaker}
+use Rattle.tabled_set.proofs.Names.{IfErr-weaker, refl}
 use Rattle.tabled_set.proofs.Stopping.{stops-before}
 use Rattle.tabled_set.proofs.resize.ResizeCellOptionColoredConfig.change.Goals as goal
 

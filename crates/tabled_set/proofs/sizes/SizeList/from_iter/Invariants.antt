@@ -1,4 +1,4 @@
-use Rattle.std.proofs.Common.{◌≡◌}
+use Rattle.tabled_set.proofs.Names.{◌≡◌}
 use Rattle.tabled_set.proofs.sizes.SizeList.from_iter.Given as goal
 
 abbrev pub invariant-sizes : goal.invariant-sizes

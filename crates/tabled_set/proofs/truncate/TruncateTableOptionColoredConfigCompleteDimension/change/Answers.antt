@@ -1,5 +1,4 @@
-use Rattle.std.proofs.Common.{refl}
-use Rattle.std.proofs.lemmas.Result.{IfErr-weaker, on_ok_weaker}
+use Rattle.tabled_set.proofs.Names.{IfErr-weaker, on_ok_weaker, refl}
 use Rattle.tabled_set.proofs.WrappedAndTruncated.{truncates}
 use Rattle.tabled_set.proofs.truncate.TruncateTableOptionColoredConfigCompleteDimension.change.Goals as goal
 

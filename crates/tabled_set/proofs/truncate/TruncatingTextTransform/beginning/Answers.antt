@@ -1,10 +1,8 @@
-use Rattle.std.proofs.Common.{◌≡◌, ◌==◌, true, ◌∷◌, [], List, ℕ, length, ◌≤◌, arith}
-use Rattle.std.proofs.lemmas.List.Splits.{length-slice_split}
-use Rattle.tabled_set.specs.Common.{lines_of}
+use Rattle.tabled_set.proofs.Names.{IsCutAt, List, [], arith, length, length-slice_split, lines_of, true, ℕ, ◌==◌, ◌∷◌, ◌≡◌, ◌≤◌}
 use Rattle.tabled_text.proofs.Bridge.{lines_of-one}
-use Rattle.tabled_set.specs.Truncated.{IsCutAt}
 use Rattle.tabled_set.proofs.Beginnings.{in_place-fits, truncated-in_place}
-use Rattle.tabled_set.proofs.truncate.TruncatingTextTransform.beginning.Goals.{else-self-via-then-self+else-count_lines-gt1, else-self-via-else-self}
+use Rattle.tabled_set.proofs.truncate.TruncatingTextTransform.beginning.Goals.{else-self-via-then-self+else-count_lines-gt1}
+use Rattle.tabled_set.proofs.truncate.TruncatingTextTransform.beginning.Goals.{else-self-via-else-self}
 use Rattle.tabled_set.proofs.truncate.TruncatingTextTransform.beginning.Goals as goal
 
 only_line : (text : List ℕ) → length (lines_of text) ≤ 1 → lines_of text ≡ text ∷ []

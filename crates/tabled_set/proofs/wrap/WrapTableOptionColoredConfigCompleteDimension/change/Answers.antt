@@ -1,5 +1,4 @@
-use Rattle.std.proofs.Common.{refl}
-use Rattle.std.proofs.lemmas.Result.{IfErr-weaker, on_ok_weaker}
+use Rattle.tabled_set.proofs.Names.{IfErr-weaker, on_ok_weaker, refl}
 use Rattle.tabled_set.proofs.WrappedAndTruncated.{wraps}
 use Rattle.tabled_set.proofs.wrap.WrapTableOptionColoredConfigCompleteDimension.change.Goals as goal
 

@@ -1,6 +1,4 @@
-use Rattle.std.proofs.Common.{◌∷◌, ◌≡◌, refl}
-use Rattle.tabled_table.specs.Batches.{batches_left}
-use Rattle.tabled_table.specs.declared.batches.LayoutIterator.{LayoutIterator}
+use Rattle.tabled_table.proofs.Names.{LayoutIterator, batches_left, refl, ◌∷◌, ◌≡◌}
 use Rattle.tabled_table.proofs.Progressions.{next_left, shorter}
 use Rattle.tabled_table.proofs.batches.LayoutIteratorIterator.next.Goals as goal
 

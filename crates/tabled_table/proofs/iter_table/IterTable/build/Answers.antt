@@ -1,4 +1,4 @@
-use Rattle.std.proofs.Common.{◌∙◌, ap, rules}
+use Rattle.tabled_table.proofs.Names.{ap, rules, ◌∙◌}
 use Rattle.tabled_table.proofs.Stream.ToWriters.{prints-written}
 use Rattle.tabled_table.proofs.iter_table.IterTable.build.Goals as goal
 

@@ -1,7 +1,5 @@
-use Rattle.std.proofs.Common.{◌≡◌, ℕ, ◌+◌, ◌<◌, [], ◌∷◌, List, length, map, subst, sym, ◌∙◌, ap, arith, get_or, length-append}
-use Rattle.std.proofs.lemmas.List.{get_or-map}
-use Rattle.tabled_text.specs.Cut.{IsCut}
-use Rattle.tabled_table.specs.Stream.Row.{content_at}
+use Rattle.tabled_table.proofs.Names.{IsCut, List, [], ap, arith, content_at, get_or, get_or-map, length, length-append, map, subst, sym, ℕ}
+use Rattle.tabled_table.proofs.Names.{◌+◌, ◌<◌, ◌∙◌, ◌∷◌, ◌≡◌}
 use Rattle.tabled_table.proofs.Stream.Steps.{each-pushed}
 use Rattle.tabled_table.proofs.iter_table.cuts.cut_cells.Goals as goal
 

@@ -1,7 +1,4 @@
-use Rattle.std.proofs.Common.{◌≡◌, ℕ, ◌<◌, [], length, map}
-use Rattle.std.specs.List.{slice_index_or}
-use Rattle.tabled_text.specs.Cut.{IsCut}
-use Rattle.tabled_table.specs.Stream.Row.{content_at}
+use Rattle.tabled_table.proofs.Names.{IsCut, [], content_at, length, map, slice_index_or, ℕ, ◌<◌, ◌≡◌}
 use Rattle.tabled_table.proofs.iter_table.cuts.cut_cells.Given as goal
 
 abbrev pub invariant-cells : goal.invariant-cells

@@ -1,8 +1,5 @@
-use Rattle.std.proofs.Common.{◌≡◌, ℕ, ◌+◌, ◌<◌, [], ◌∷◌, List, length, map, subst, sym, ◌∙◌, ap, arith, get_or, length-append}
-use Rattle.std.proofs.lemmas.List.{get_or-map}
-use Rattle.tabled_table.specs.declared.iter_table.cuts.TextCut.{TextCut}
-use Rattle.tabled_table.specs.Stream.Cuts.{IsTextCut, no_cut}
-use Rattle.tabled_table.specs.Stream.Row.{content_at}
+use Rattle.tabled_table.proofs.Names.{IsTextCut, List, TextCut, [], ap, arith, content_at, get_or, get_or-map, length, length-append, map}
+use Rattle.tabled_table.proofs.Names.{no_cut, subst, sym, ℕ, ◌+◌, ◌<◌, ◌∙◌, ◌∷◌, ◌≡◌}
 use Rattle.tabled_table.proofs.Stream.Steps.{each-pushed}
 use Rattle.tabled_table.proofs.iter_table.cuts.find_cuts.Goals as goal
 

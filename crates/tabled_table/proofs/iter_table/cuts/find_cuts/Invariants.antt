@@ -1,7 +1,4 @@
-use Rattle.std.proofs.Common.{◌≡◌, ℕ, ◌<◌, [], length, map}
-use Rattle.std.specs.List.{slice_index_or}
-use Rattle.tabled_table.specs.Stream.Cuts.{IsTextCut, no_cut}
-use Rattle.tabled_table.specs.Stream.Row.{content_at}
+use Rattle.tabled_table.proofs.Names.{IsTextCut, [], content_at, length, map, no_cut, slice_index_or, ℕ, ◌<◌, ◌≡◌}
 use Rattle.tabled_table.proofs.iter_table.cuts.find_cuts.Given as goal
 
 abbrev pub invariant-cells : goal.invariant-cells

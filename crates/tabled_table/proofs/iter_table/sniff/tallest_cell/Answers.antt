@@ -1,4 +1,4 @@
-use Rattle.std.proofs.Common.{◌≡◌, ◌<◌, min, ◌∙◌, length, arith}
+use Rattle.tabled_table.proofs.Names.{arith, length, min, ◌<◌, ◌∙◌, ◌≡◌}
 use Rattle.tabled_table.proofs.Stream.Measures.{tallest-all, tallest-next}
 use Rattle.tabled_table.proofs.iter_table.sniff.tallest_cell.Goals as goal
 

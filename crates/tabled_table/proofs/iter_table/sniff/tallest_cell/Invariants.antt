@@ -1,5 +1,4 @@
-use Rattle.std.proofs.Common.{◌≡◌, length, map, max, take}
-use Rattle.tabled_text.specs.Measure.{greatest, lines_of}
+use Rattle.tabled_table.proofs.Names.{greatest, length, lines_of, map, max, take, ◌≡◌}
 use Rattle.tabled_table.proofs.iter_table.sniff.tallest_cell.Given as goal
 
 abbrev pub invariant-cells : goal.invariant-cells

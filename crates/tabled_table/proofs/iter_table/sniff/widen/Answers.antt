@@ -1,6 +1,4 @@
-use Rattle.std.proofs.Common.{◌≡◌, ◌<◌, [], get_or, length, map, ap, sym, ◌∙◌, arith}
-use Rattle.std.proofs.lemmas.List.{get_or-map, length-map}
-use Rattle.tabled_text.specs.Measure.{text_columns}
+use Rattle.tabled_table.proofs.Names.{[], ap, arith, get_or, get_or-map, length, length-map, map, sym, text_columns, ◌<◌, ◌∙◌, ◌≡◌}
 use Rattle.tabled_table.proofs.Stream.Measures.{widen-all, widen-done}
 use Rattle.tabled_table.proofs.iter_table.sniff.widen.Goals as goal
 

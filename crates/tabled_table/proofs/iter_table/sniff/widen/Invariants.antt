@@ -1,5 +1,4 @@
-use Rattle.std.proofs.Common.{◌≡◌, ℕ, ◌<◌, ◌≤◌, [], get_or, length, map, max}
-use Rattle.tabled_text.specs.Measure.{text_columns}
+use Rattle.tabled_table.proofs.Names.{[], get_or, length, map, max, text_columns, ℕ, ◌<◌, ◌≡◌, ◌≤◌}
 use Rattle.tabled_table.proofs.iter_table.sniff.widen.Given as goal
 
 abbrev pub invariant-cells : goal.invariant-cells

@@ -1,5 +1,4 @@
-use Rattle.std.proofs.Common.{◌≡◌, ◌<◌, ◌∙◌, ap, arith, get_or, length, min}
-use Rattle.tabled_table.specs.Stream.Streamed.{widest}
+use Rattle.tabled_table.proofs.Names.{ap, arith, get_or, length, min, widest, ◌<◌, ◌∙◌, ◌≡◌}
 use Rattle.tabled_table.proofs.Stream.Measures.{fewer-texts, widest-next}
 use Rattle.tabled_table.proofs.iter_table.sniff.widest_cells.Goals as goal
 

@@ -1,5 +1,4 @@
-use Rattle.std.proofs.Common.{◌≡◌, ℕ, ◌<◌, get_or, map, take}
-use Rattle.tabled_table.specs.Stream.Streamed.{widest}
+use Rattle.tabled_table.proofs.Names.{get_or, map, take, widest, ℕ, ◌<◌, ◌≡◌}
 use Rattle.tabled_table.proofs.iter_table.sniff.widest_cells.Given as goal
 
 abbrev pub invariant-rows : goal.invariant-rows

@@ -1,4 +1,5 @@
 -- `modify` by hand: the table is lent again to `apply_own`, comes back as that left it, and is handed on or given up.
+use Rattle.tabled_table.proofs.Names.{cells_of}
 use Rattle.tabled_table.proofs.Walks.{[], !, a_type, accepted, addr, after, agg, alloc_all, and_then, apart, Args, at_ret, await, bounded}
 use Rattle.tabled_table.proofs.Walks.{by_done, calls_at, cause, cause_made, columns, comes_back, dcons, Dict, dnil, done, Done, emp}
 use Rattle.tabled_table.proofs.Walks.{ends_at, enter, env, Err, err_of, exec, fact, fact_i, first, fjoin, fld, flft, Fn, framed, free_all}
@@ -12,7 +13,6 @@ use Rattle.tabled_table.proofs.Walks.{split, spot_of, SProp, stay_dropped, Stays
 use Rattle.tabled_table.proofs.Walks.{tables, TE, through, told_err, told_ok, triple_of, Typed, types_at, unit, Ura, use0, use1, use2, use3}
 use Rattle.tabled_table.proofs.Walks.{Val, vptr, vrt, walk_of, whole, WpFn, WT, ‵, ℕ, ⊤, ◌$◌, ◌++◌, ◌∵◌, ◌∷◌, ◌≡◌, ◌⊑◌, ◌⊛◌}
 use Rattle.tabled_table.specs.Applied.{IsModified, ModifyingFails}
-use Rattle.tabled_table.specs.TableSheet.{cells_of}
 use Rattle.tabled_table.specs.contracts.table.Table.{the_row as R}
 use Rattle.tabled_table.proofs.table.Table.modify.Statement.{statement}
 use Rattle.tabled_table.proofs.table.Table.apply_own.Met.{met}

@@ -1,6 +1,5 @@
-use Rattle.std.proofs.Common.{◌∙◌, ◌||◌, ap, is_some, nat_lt, not, sym}
+use Rattle.tabled_table.proofs.Names.{ap, is_some, nat_lt, not, shown, shown_config, sym, ◌||◌, ◌∙◌}
 use Rattle.tabled_grid.proofs.Printing.{prints_nothing}
-use Rattle.tabled_table.specs.PrintedWith.{shown, shown_config}
 use Rattle.tabled_table.proofs.Shown.{prints_changed, prints_unchanged, refused_missing}
 use Rattle.tabled_table.proofs.table.Table.print_with.Goals as goal
 

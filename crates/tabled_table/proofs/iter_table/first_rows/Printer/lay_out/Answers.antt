@@ -1,6 +1,4 @@
-use Rattle.std.proofs.Common.{◌+◌, ◌<◌, ◌≤◌, ◌^◌, ℕ, inl, map, refl, subst, arith, rules}
-use Rattle.std.proofs.lemmas.Grind.{common_steps}
-use Rattle.tabled_table.specs.Stream.Streamed.{sniffed}
+use Rattle.tabled_table.proofs.Names.{arith, common_steps, inl, map, refl, rules, sniffed, subst, ℕ, ◌+◌, ◌<◌, ◌^◌, ◌≤◌}
 use Rattle.tabled_table.proofs.Stream.Widths.{side-in-total}
 use Rattle.tabled_table.proofs.iter_table.first_rows.Printer.lay_out.Goals as goal
 

@@ -1,16 +1,13 @@
-use Rattle.std.proofs.Common.{◌≡◌, ◌⊎◌, ◌∙◌, ℕ, List, [], false, length, map, sym, subst, arith, inl, inr, append-nil, refl, Ok, Err}
-use Rattle.std.proofs.lemmas.List.{length-map}
-use Rattle.tabled_base.specs.declared.error.TableError.TheVariants.{Range}
-use Rattle.tabled_table.specs.Stream.Progress.{AreFirst, AreFurther}
-use Rattle.tabled_table.specs.Stream.Streamed.{column_count, limited, sniffed}
-use Rattle.tabled_table.specs.Stream.Streams.{ArePermitted, StreamSends}
+use Rattle.tabled_table.proofs.Names.{AreFirst, AreFurther, ArePermitted, Err, List, Ok, Range, StreamSends, [], append-nil, arith}
+use Rattle.tabled_table.proofs.Names.{column_count, false, inl, inr, length, length-map, limited, map, reads-open, refl, sniffed, subst}
+use Rattle.tabled_table.proofs.Names.{sym, ℕ, ◌∙◌, ◌≡◌, ◌⊎◌}
 use Rattle.tabled_table.proofs.Stream.Finished.{unplanned, unread}
 use Rattle.tabled_table.proofs.Stream.FirstRows.{permitted-ahead, permitted-first, permitted-more, taken-first, unshown, unshown-enough}
 use Rattle.tabled_table.proofs.Stream.Going.{all-read, reads-no-more}
 use Rattle.tabled_table.proofs.Stream.Measures.{columns-first, shown-long, texts-long}
 use Rattle.tabled_table.proofs.Stream.Widths.{total-laid, width-in-total}
-use Rattle.tabled_records.proofs.RowsRead.{reads-open}
-use Rattle.tabled_table.proofs.iter_table.first_rows.Printer.print_stream.Goals.{then-count-eq0-via-then-count-eq0, then-count-eq0-via-else-count-eq0+then-up_to-eq0}
+use Rattle.tabled_table.proofs.iter_table.first_rows.Printer.print_stream.Goals.{then-count-eq0-via-then-count-eq0}
+use Rattle.tabled_table.proofs.iter_table.first_rows.Printer.print_stream.Goals.{then-count-eq0-via-else-count-eq0+then-up_to-eq0}
 use Rattle.tabled_table.proofs.iter_table.first_rows.Printer.print_stream.Goals as goal
 
 pub returns-in_err-taken : goal.returns-in_err-taken

@@ -1,4 +1,4 @@
-use Rattle.std.proofs.Common.{◌≡◌, ◌≤◌, ◌∙◌, ℕ, ◌+◌, ◌-◌, ◌*◌, MatchOption, min, length, ap, arith, subst, sym}
+use Rattle.tabled_table.proofs.Names.{MatchOption, ap, arith, length, min, subst, sym, ℕ, ◌*◌, ◌+◌, ◌-◌, ◌∙◌, ◌≡◌, ◌≤◌}
 use Rattle.tabled_table.proofs.Stream.Widths.{none-of, sum-widths}
 use Rattle.tabled_table.proofs.iter_table.layout.Layout.sum_widths.Goals as goal
 

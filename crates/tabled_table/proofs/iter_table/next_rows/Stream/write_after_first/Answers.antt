@@ -1,11 +1,10 @@
-use Rattle.std.proofs.Common.{◌≡◌, ◌⊎◌, Some, false, true, [], length, map, inl, inr, ap, ◌∙◌, subst, sym}
-use Rattle.std.proofs.lemmas.List.{length-map}
+use Rattle.tabled_table.proofs.Names.{IsLimited, Some, [], ap, false, inl, inr, left_of, length, length-map, map, reads-open, subst, sym}
+use Rattle.tabled_table.proofs.Names.{true, ◌∙◌, ◌≡◌, ◌⊎◌}
 use Rattle.std.specs.Prelude.{unwrap_or}
-use Rattle.tabled_records.proofs.RowsRead.{reads-open}
-use Rattle.tabled_table.specs.Stream.Progress.{IsLimited, left_of}
-use Rattle.tabled_table.proofs.Stream.Going.{finishes-ending, finishes-halting, limited-permitted}
-use Rattle.tabled_table.proofs.Stream.Going.{behind-ending, none-further, reads-more, reads-no-more, some-further}
-use Rattle.tabled_table.proofs.iter_table.next_rows.Stream.write_after_first.Goals.{then-taken-via-then-taken, then-taken-via-else-taken+then-is_none_left}
+use Rattle.tabled_table.proofs.Stream.Going.{finishes-ending, finishes-halting, limited-permitted, behind-ending, none-further, reads-more}
+use Rattle.tabled_table.proofs.Stream.Going.{reads-no-more, some-further}
+use Rattle.tabled_table.proofs.iter_table.next_rows.Stream.write_after_first.Goals.{then-taken-via-then-taken}
+use Rattle.tabled_table.proofs.iter_table.next_rows.Stream.write_after_first.Goals.{then-taken-via-else-taken+then-is_none_left}
 use Rattle.tabled_table.proofs.iter_table.next_rows.Stream.write_after_first.Goals as goal
 
 pub returns-then-taken : goal.returns-then-taken

@@ -1,8 +1,5 @@
-use Rattle.std.proofs.Common.{◌∙◌, [], Result, Ok, Err, length, map, take, refl, sym, ap}
-use Rattle.std.proofs.lemmas.List.{length-map}
-use Rattle.tabled_base.specs.declared.error.TableError.{TableError}
-use Rattle.tabled_table.specs.Stream.Progress.{left_of}
-use Rattle.tabled_table.specs.Stream.Streamed.{limited, sniffed}
+use Rattle.tabled_table.proofs.Names.{Err, Ok, Result, TableError, [], ap, left_of, length, length-map, limited, map, refl, sniffed, sym}
+use Rattle.tabled_table.proofs.Names.{take, ◌∙◌}
 use Rattle.tabled_table.proofs.Stream.Going.{halts-top, none-further, reads-no-more}
 use Rattle.tabled_table.proofs.Stream.Finished.{put-finished, put-halted, top-put}
 use Rattle.tabled_table.proofs.Stream.FirstRows.{sniffed-shown}

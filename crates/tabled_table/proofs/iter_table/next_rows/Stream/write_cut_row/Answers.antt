@@ -1,6 +1,4 @@
-use Rattle.std.proofs.Common.{map, sym}
-use Rattle.tabled_table.specs.Stream.Cuts.{cut_texts}
-use Rattle.tabled_table.specs.Stream.Row.{rule_of}
+use Rattle.tabled_table.proofs.Names.{cut_texts, map, rule_of, sym}
 use Rattle.tabled_table.proofs.Stream.Steps.{cut-finished, cut-stopped}
 use Rattle.tabled_table.proofs.iter_table.next_rows.Stream.write_cut_row.Goals as goal
 

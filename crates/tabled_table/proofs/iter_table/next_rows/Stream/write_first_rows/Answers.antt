@@ -1,5 +1,5 @@
-use Rattle.std.proofs.Common.{◌≡◌, ◌<◌, ◌+◌, Ok, Err, nat_lt, length, map, sym, ap, ◌∙◌, take, get_or, [], arith}
-use Rattle.std.proofs.lemmas.List.{get_or-take, length-map, length-take, take_all}
+use Rattle.tabled_table.proofs.Names.{Err, Ok, [], ap, arith, get_or, get_or-take, length, length-map, length-take, map, nat_lt, sym, take}
+use Rattle.tabled_table.proofs.Names.{take_all, ◌+◌, ◌<◌, ◌∙◌, ◌≡◌}
 use Rattle.tabled_table.proofs.Stream.Measures.{row-at}
 use Rattle.tabled_table.proofs.Stream.Going.{kept-next, match-err}
 use Rattle.tabled_table.proofs.iter_table.next_rows.Stream.write_first_rows.Goals as goal

@@ -1,7 +1,4 @@
-use Rattle.std.proofs.Common.{◌≡◌, ℕ, List, [], length, map, take}
-use Rattle.tabled_config.specs.declared.compact.CompactConfig.{CompactConfig}
-use Rattle.tabled_line.specs.Sent.{Sent}
-use Rattle.tabled_table.specs.Stream.Progress.{HasPut}
+use Rattle.tabled_table.proofs.Names.{CompactConfig, HasPut, List, Sent, [], length, map, take, ℕ, ◌≡◌}
 use Rattle.tabled_table.proofs.iter_table.next_rows.Stream.write_first_rows.Given as goal
 
 abbrev pub invariant-rows : goal.invariant-rows

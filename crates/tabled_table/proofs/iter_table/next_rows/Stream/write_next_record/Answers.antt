@@ -1,8 +1,5 @@
-use Rattle.std.proofs.Common.{◌<◌, ◌^◌, arith, map, refl}
+use Rattle.tabled_table.proofs.Names.{Memory, arith, content_at, cut_texts, map, refl, ◌<◌, ◌^◌}
 use Rattle.std.proofs.lemmas.List.{map-id}
-use Rattle.tabled_base.specs.declared.error.TableError.TheVariants.{Memory}
-use Rattle.tabled_table.specs.Stream.Cuts.{cut_texts}
-use Rattle.tabled_table.specs.Stream.Row.{content_at}
 use Rattle.tabled_table.proofs.Stream.Cuts.{cut_first, cuts_first}
 use Rattle.tabled_table.proofs.Stream.Steps.{cut-put, next-put, next-refused}
 use Rattle.tabled_table.proofs.iter_table.next_rows.Stream.write_next_record.Goals as goal

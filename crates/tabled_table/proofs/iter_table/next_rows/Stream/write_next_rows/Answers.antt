@@ -1,7 +1,6 @@
-use Rattle.std.proofs.Common.{◌≡◌, ◌+◌, ◌++◌, ◌∷◌, [], true, length, map, refl, sym, ap, ◌∙◌, arith, length-append, rules}
-use Rattle.std.proofs.lemmas.Grind.{common_steps}
-use Rattle.std.proofs.lemmas.List.{map-append}
-use Rattle.tabled_records.proofs.RowsRead.{reads-both, reads-none}
+use Rattle.tabled_table.proofs.Names.{[], ap, arith, common_steps, length, length-append, map, map-append, reads-both, refl, rules, sym}
+use Rattle.tabled_table.proofs.Names.{true, ◌++◌, ◌+◌, ◌∙◌, ◌∷◌, ◌≡◌}
+use Rattle.tabled_records.proofs.RowsRead.{reads-none}
 use Rattle.tabled_table.proofs.Stream.Going.{err-as, left-first, left-next, more-halts, more-next, more-none, more-refused, permitted-next}
 use Rattle.tabled_table.proofs.iter_table.next_rows.Stream.write_next_rows.Goals as goal
 

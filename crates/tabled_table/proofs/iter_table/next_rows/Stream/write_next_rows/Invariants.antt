@@ -1,7 +1,4 @@
-use Rattle.std.proofs.Common.{◌≡◌, ◌-◌, ◌≤◌, List, length, map, MatchOption, Some, None}
-use Rattle.std.specs.Iterator.{size}
-use Rattle.tabled_table.specs.Stream.Progress.{HasPutMore}
-use Rattle.tabled_records.specs.Reading.{MayGive, Reads}
+use Rattle.tabled_table.proofs.Names.{HasPutMore, List, MatchOption, MayGive, None, Reads, Some, length, map, size, ◌-◌, ◌≡◌, ◌≤◌}
 use Rattle.tabled_table.proofs.iter_table.next_rows.Stream.write_next_rows.Given as goal
 
 abbrev pub invariant-rows : goal.invariant-rows

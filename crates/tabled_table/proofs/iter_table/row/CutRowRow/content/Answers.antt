@@ -1,5 +1,4 @@
-use Rattle.std.proofs.Common.{◌∙◌, arith, map}
-use Rattle.std.proofs.lemmas.List.{length-map}
+use Rattle.tabled_table.proofs.Names.{arith, length-map, map, ◌∙◌}
 use Rattle.tabled_table.proofs.Stream.Cuts.{cut_measured, cut_shown, none_shown, whole_shown}
 use Rattle.tabled_table.proofs.iter_table.row.CutRowRow.content.Goals as goal
 

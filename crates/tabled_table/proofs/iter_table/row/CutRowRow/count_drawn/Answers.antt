@@ -1,6 +1,4 @@
-use Rattle.std.proofs.Common.{◌≡◌, ◌∙◌, arith, length, map}
-use Rattle.std.proofs.lemmas.List.{length-map}
-use Rattle.tabled_table.specs.Stream.Cuts.{cut_texts}
+use Rattle.tabled_table.proofs.Names.{arith, cut_texts, length, length-map, map, ◌∙◌, ◌≡◌}
 use Rattle.tabled_table.proofs.Stream.Cuts.{length_cut_texts}
 use Rattle.tabled_table.proofs.Stream.Drawn.{nothing-further}
 use Rattle.tabled_table.proofs.iter_table.row.CutRowRow.count_drawn.Goals as goal

@@ -1,5 +1,4 @@
-use Rattle.std.proofs.Common.{◌+◌, ap, sym, ◌∙◌}
-use Rattle.tabled_table.specs.Stream.Row.{width_at}
+use Rattle.tabled_table.proofs.Names.{ap, sym, width_at, ◌+◌, ◌∙◌}
 use Rattle.tabled_table.proofs.Stream.Widths.{listed}
 use Rattle.tabled_table.proofs.iter_table.row.CutRowRow.width.Goals as goal
 

@@ -1,5 +1,4 @@
-use Rattle.std.proofs.Common.{◌≡◌, ℕ, ◌+◌, ◌≤◌, length, ap, sym, ◌∙◌, arith}
-use Rattle.tabled_table.specs.Stream.Row.{width_at}
+use Rattle.tabled_table.proofs.Names.{ap, arith, length, sym, width_at, ℕ, ◌+◌, ◌∙◌, ◌≡◌, ◌≤◌}
 use Rattle.tabled_table.proofs.Stream.Widths.{listed, past-list}
 use Rattle.tabled_table.proofs.iter_table.row.StreamColumnsTableColumns.alike_from.Goals as goal
 

@@ -1,6 +1,4 @@
-use Rattle.std.proofs.Common.{rules}
-use Rattle.std.specs.Cow.{cow_str_bytes}
-use Rattle.tabled_value.specs.Fields.{Says}
+use Rattle.tabled_value.proofs.Names.{Says, cow_str_bytes, rules}
 use Rattle.tabled_value.proofs.Joining.{next_item}
 use Rattle.tabled_value.proofs.value.tuples.ArrayTabled.fields.Goals as goal
 

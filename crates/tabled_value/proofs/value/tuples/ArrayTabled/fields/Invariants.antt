@@ -1,7 +1,4 @@
-use Rattle.std.proofs.Common.{◌≡◌, map, take, vec_len}
-use Rattle.std.specs.Cow.{cow_str_bytes}
-use Rattle.std.specs.List.{AllZip}
-use Rattle.tabled_value.specs.Fields.{Says}
+use Rattle.tabled_value.proofs.Names.{AllZip, Says, cow_str_bytes, map, take, vec_len, ◌≡◌}
 use Rattle.tabled_value.proofs.value.tuples.ArrayTabled.fields.Given as goal
 
 abbrev pub invariant-items : goal.invariant-items

@@ -1,7 +1,5 @@
-use Rattle.std.proofs.Common.{◌∷◌, ◌++◌, [], zero-add, ap, sym, ◌∙◌, map, decimal, rules}
-use Rattle.std.specs.List.{range_with_len}
-use Rattle.std.specs.Cow.{cow_str_bytes}
-use Rattle.std.proofs.lemmas.List.{map-append}
+use Rattle.tabled_value.proofs.Names.{[], ap, cow_str_bytes, map, map-append, range_with_len, rules, sym, ◌++◌, ◌∙◌, ◌∷◌}
+use Rattle.std.proofs.Common.{zero-add, decimal}
 use Rattle.std.proofs.lemmas.List.FromFn.{map-range_with_len_more}
 use Rattle.tabled_value.proofs.value.tuples.ArrayTabled.headers.Goals as goal
 

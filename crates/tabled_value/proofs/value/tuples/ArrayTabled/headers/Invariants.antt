@@ -1,7 +1,5 @@
-use Rattle.std.proofs.Common.{◌≡◌, map, vec_len}
+use Rattle.tabled_value.proofs.Names.{cow_str_bytes, map, range_with_len, vec_len, ◌≡◌}
 use Rattle.std.specs.Prelude.{decimal}
-use Rattle.std.specs.List.{range_with_len}
-use Rattle.std.specs.Cow.{cow_str_bytes}
 use Rattle.tabled_value.proofs.value.tuples.ArrayTabled.headers.Given as goal
 
 abbrev pub invariant-places : goal.invariant-places

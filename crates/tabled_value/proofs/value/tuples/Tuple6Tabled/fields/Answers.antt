@@ -1,5 +1,4 @@
-use Rattle.std.proofs.Common.{map}
-use Rattle.std.specs.Cow.{cow_str_bytes}
+use Rattle.tabled_value.proofs.Names.{cow_str_bytes, map}
 use Rattle.tabled_value.proofs.Joining.{joined_fields, joined_of}
 use Rattle.tabled_value.proofs.value.tuples.Tuple6Tabled.fields.Goals as goal
 

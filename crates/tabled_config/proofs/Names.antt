@@ -1,0 +1,2 @@
+-- The names of the crates below, and of the definitions of this one, that its proofs use. Declares
+-- nothing.
