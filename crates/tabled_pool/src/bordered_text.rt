@@ -8,9 +8,9 @@ ghost use Rattle.tabled_pool.specs.Boxes.{part_of};
 ghost use Rattle.tabled_pool.specs.Marks.{within_marks};
 ghost use Rattle.tabled_pool.specs.Colours.{mark_of};
 ghost use Rattle.tabled_pool.specs.Block.{leaf_line};
-ghost use Rattle.tabled_pool.specs.Inherited.{bordered_block, bottom_text, inner_text, is_left};
-ghost use Rattle.tabled_pool.specs.Inherited.{is_right, left_char, marked_text, outer_line};
-ghost use Rattle.tabled_pool.specs.Inherited.{run_char, run_text, text_block, top_text, written};
+ghost use Rattle.tabled_pool.specs.Inherited.{bordered_block, bottom_text, inner_text, run_char};
+ghost use Rattle.tabled_pool.specs.Inherited.{marked_text, outer_line, run_text, text_block};
+ghost use Rattle.tabled_pool.specs.Inherited.{top_text, written};
 ghost use Rattle.tabled_pool.specs.Inherited.{inherited_by, inheriting_box, plan_for};
 ghost use Rattle.tabled_pool.specs.DrawnBlocks.{block_sheet_of};
 ghost use Rattle.tabled_pool.specs.Plans.{around_of, plan_of};
@@ -18,7 +18,7 @@ ghost use Rattle.tabled_pool.specs.Plans.{around_of, plan_of};
 use crate::block::draw_block_line;
 use crate::draw::draw_marked;
 use crate::drawn_blocks::DrawnBlock;
-use crate::flags::{is_bottom, is_left, is_right, is_top, own_borders};
+use crate::flags::{own_borders, own_sides};
 use crate::inheriting_box::{InheritingBox, is_split};
 use crate::marks::{LineColors, Marks, alone, begun, ended, used_after};
 use crate::pieces::{Drawing, Rectangle};
@@ -154,8 +154,9 @@ impl BorderedText<'_, '_, '_> {
             main: drawing.colors.top,
             right: drawing.colors.top_right,
         };
-        let start = written(is_left(own), own.top_left);
-        let end = written(is_right(own), own.top_right);
+        let sides = own_sides(own);
+        let start = written(sides.left, own.top_left);
+        let end = written(sides.right, own.top_right);
         outer_line(drawing.alloc, colors, start, run.as_str(), end)
     }
 
@@ -172,20 +173,10 @@ impl BorderedText<'_, '_, '_> {
             main: drawing.colors.bottom,
             right: drawing.colors.bottom_right,
         };
-        let start = written(is_left(own), own.bottom_left);
-        let end = written(is_right(own), own.bottom_right);
+        let sides = own_sides(own);
+        let start = written(sides.left, own.bottom_left);
+        let end = written(sides.right, own.bottom_right);
         outer_line(drawing.alloc, colors, start, run.as_str(), end)
-    }
-
-    fn left_char(&self, y: usize) -> Option<char>
-        ensures { result ≡ left_char (plan_for self.now) self.now.own (inherited_by self.now) y }
-    {
-        let inherited = self.inherited;
-        if is_split(inherited.before.as_slice(), inherited.place.height, y) {
-            self.drawing.borders.right_intersection
-        } else {
-            self.own.left
-        }
     }
 
     fn inner_text(&self, y: usize) -> Result<String, AllocError>
@@ -195,12 +186,23 @@ impl BorderedText<'_, '_, '_> {
             self.now.text.now y) }
     {
         let drawing = self.drawing;
-        let left = written(is_left(&self.own), self.left_char(y));
-        let right = written(is_right(&self.own), self.own.right);
+        let own = &self.own;
+        let place = self.inherited.place;
+        let sides = own_sides(own);
+        let first = if is_split(self.inherited.before.as_slice(), place.height, y) {
+            drawing.borders.right_intersection
+        } else {
+            own.left
+        };
+        let colors = &drawing.colors;
         let mut line = String::new(drawing.alloc);
-        push_marked(&mut line, alone(drawing.colors.left), left)?;
-        push_block_line(&mut line, drawing, self.inherited.place, self.text, y)?;
-        push_marked(&mut line, alone(drawing.colors.right), right)?;
+        push_marked(&mut line, alone(colors.left), written(sides.left, first))?;
+        push_block_line(&mut line, drawing, place, self.text, y)?;
+        push_marked(
+            &mut line,
+            alone(colors.right),
+            written(sides.right, own.right),
+        )?;
         Ok(line)
     }
 
@@ -222,17 +224,18 @@ impl BorderedText<'_, '_, '_> {
             ≡ bordered_block (plan_for self.now) self.now.own (inherited_by self.now)
             self.now.text.now) }
     {
+        let sides = own_sides(&self.own);
         let mut lines = Vec::new(self.drawing.alloc);
-        if is_top(&self.own) {
+        if sides.top {
             lines.push(self.top_text()?)?;
         }
         self.push_inner_texts(&mut lines)?;
-        if is_bottom(&self.own) {
+        if sides.bottom {
             lines.push(self.bottom_text()?)?;
         }
-        let sides = one_if(is_left(&self.own)) + one_if(is_right(&self.own));
+        let borders = one_if(sides.left) + one_if(sides.right);
         let inner = self.inherited.place.width;
-        let width = inner.checked_add(sides).ok_or(AllocError)?;
+        let width = inner.checked_add(borders).ok_or(AllocError)?;
         Ok(DrawnBlock { width, lines })
     }
 }

@@ -1,10 +1,10 @@
 //! Where a box is in its tree, and which border characters it has there.
 ghost use Rattle.std.specs.Prelude.{◌≡◌, None, if◌then◌else◌};
 ghost use Rattle.tabled_pool.specs.Inherited.{first_flags, is_bottom, is_left, is_right, is_top};
-ghost use Rattle.tabled_pool.specs.Inherited.{later_flags, own_borders, top_left, whole_flags};
+ghost use Rattle.tabled_pool.specs.Inherited.{later_flags, own_borders, top_left};
 
 use crate::sizes::Direction;
-use tabled_config::Borders;
+use tabled_config::{Borders, Sides};
 
 /// Where a box is in its tree, and which borders meet at its top left corner.
 #[derive(Clone, Copy)]
@@ -26,20 +26,6 @@ pub(crate) struct Flags {
 }
 
 impl Flags {
-    pub fn whole() -> Flags
-        ensures { result ≡ whole_flags }
-    {
-        Flags {
-            first_column: true,
-            last_column: true,
-            first_row: true,
-            last_row: true,
-            leans: false,
-            side: false,
-            cross: false,
-        }
-    }
-
     /// The flags of the first of several boxes; `last` if no other follows.
     pub fn first(self, direction: Direction, last: bool) -> Flags
         ensures { result ≡ first_flags direction self last }
@@ -131,27 +117,21 @@ pub(crate) fn own_borders(borders: &Borders<char>, flags: Flags) -> Borders<char
     }
 }
 
-/// Whether a text has a top border: its character or that of a corner is set. Other sides likewise.
-pub(crate) fn is_top(own: &Borders<char>) -> bool
-    ensures { result ≡ is_top own.now }
+/// Which borders a text has: those whose character, or that of a corner, is set.
+pub(crate) fn own_sides(own: &Borders<char>) -> Sides<bool>
+    ensures left { result.left ≡ is_left own.now }
+    ensures right { result.right ≡ is_right own.now }
+    ensures top { result.top ≡ is_top own.now }
+    ensures bottom { result.bottom ≡ is_bottom own.now }
 {
-    own.top.is_some() || own.top_left.is_some() || own.top_right.is_some()
-}
-
-pub(crate) fn is_bottom(own: &Borders<char>) -> bool
-    ensures { result ≡ is_bottom own.now }
-{
-    own.bottom.is_some() || own.bottom_left.is_some() || own.bottom_right.is_some()
-}
-
-pub(crate) fn is_left(own: &Borders<char>) -> bool
-    ensures { result ≡ is_left own.now }
-{
-    own.left.is_some() || own.top_left.is_some() || own.bottom_left.is_some()
-}
-
-pub(crate) fn is_right(own: &Borders<char>) -> bool
-    ensures { result ≡ is_right own.now }
-{
-    own.right.is_some() || own.top_right.is_some() || own.bottom_right.is_some()
+    let top_left = own.top_left.is_some();
+    let top_right = own.top_right.is_some();
+    let bottom_left = own.bottom_left.is_some();
+    let bottom_right = own.bottom_right.is_some();
+    Sides {
+        left: own.left.is_some() || top_left || bottom_left,
+        right: own.right.is_some() || top_right || bottom_right,
+        top: own.top.is_some() || top_left || top_right,
+        bottom: own.bottom.is_some() || bottom_left || bottom_right,
+    }
 }

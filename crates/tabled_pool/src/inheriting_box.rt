@@ -127,7 +127,15 @@ impl InheritingBox {
     {
         InheritingBox {
             place,
-            flags: Flags::whole(),
+            flags: Flags {
+                first_column: true,
+                last_column: true,
+                first_row: true,
+                last_row: true,
+                leans: false,
+                side: false,
+                cross: false,
+            },
             above: Vec::new(alloc),
             before: Vec::new(alloc),
             block: DrawnBlock {
