@@ -17,17 +17,6 @@ pub struct DrawnBlock {
     pub lines: Vec<String>,
 }
 
-/// Appends line `y` of a block, or spaces below its last line.
-fn push_drawn_line(line: &mut String, block: &DrawnBlock, y: usize) -> Result<(), AllocError>
-    ensures { IfOk result (λ _. string_bytes line.new ≡ string_bytes line.old
-        ++ drawn_block_line y (block_sheet_of block.now)) }
-{
-    if y >= block.lines.len() {
-        return write_fill(line, ' ', block.width).map_err(|_| AllocError);
-    }
-    line.push_str(block.lines[y].as_str())
-}
-
 fn all_columns(blocks: &[DrawnBlock]) -> Option<usize>
     ensures { MatchOption result (2 ^ 64 ≤ all_columns (map block_sheet_of blocks.now))
         (λ n. n ≡ all_columns (map block_sheet_of blocks.now)) }
@@ -59,13 +48,18 @@ fn most_lines(blocks: &[DrawnBlock]) -> usize
     lines
 }
 
+/// Line `y` of blocks side by side. Below its last line a block is spaces.
 fn joined_line(alloc: Global, blocks: &[DrawnBlock], y: usize) -> Result<String, AllocError>
     ensures { IfOk result (λ line. string_bytes line
         ≡ flat_map (drawn_block_line y) (map block_sheet_of blocks.now)) }
 {
     let mut line = String::new(alloc);
     for block in blocks {
-        push_drawn_line(&mut line, block, y)?;
+        if y < block.lines.len() {
+            line.push_str(block.lines[y].as_str())?;
+        } else {
+            write_fill(&mut line, ' ', block.width).map_err(|_| AllocError)?;
+        }
     }
     Ok(line)
 }
