@@ -80,19 +80,6 @@ impl<'l, 'd, 'a> TableLines<'l, 'd, 'a> {
         }
     }
 
-    fn sweep(self) -> Sweep {
-        match self {
-            TableLines::Placed(d) => Sweep::new(d.alloc, d.pieces, d.width, d.height),
-            TableLines::Drawn(block) => Sweep::new(*block.lines.allocator(), &[], 0, 0),
-        }
-    }
-
-    fn advance(self, sweep: &mut Sweep, y: usize) {
-        if let TableLines::Placed(drawing) = self {
-            sweep.advance(drawing.pieces, y);
-        }
-    }
-
     /// Line `y`, which the sweep is at.
     fn line<'s>(self, sweep: &'s Sweep, y: usize) -> LineContent<'l, 's, 'd, 'a>
         requires inside { y < length (sheet_of self).lines }
@@ -159,10 +146,15 @@ fn draw_inner_lines<S: TextSink>(
         (map (within_margin margin.now.indent (marks_of margin.now.colors))
         (sheet_of lines.entry).lines) }
 {
-    let mut sweep = lines.sweep();
+    let mut sweep = match lines {
+        TableLines::Placed(d) => Sweep::new(d.alloc, d.pieces, d.width, d.height),
+        TableLines::Drawn(block) => Sweep::new(*block.lines.allocator(), &[], 0, 0),
+    };
     let height = lines.size().height;
     'lines: for y in 0..height {
-        lines.advance(&mut sweep, y);
+        if let TableLines::Placed(drawing) = lines {
+            sweep.advance(drawing.pieces, y);
+        }
         draw_next(sink, begun, margin, lines.line(&sweep, y))?;
     }
     Ok(())
