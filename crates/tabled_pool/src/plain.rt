@@ -10,7 +10,7 @@ ghost use Rattle.tabled_pool.specs.Apart.{HasSeparator, IsApartPool, IsStraightP
 ghost use Rattle.std.specs.Option.{option_map};
 ghost use Rattle.tabled_config.specs.Compact.{each_side};
 ghost use Rattle.tabled_pool.specs.Colours.{line_marks_of, mark_of, marks_of, no_mark};
-ghost use Rattle.tabled_pool.specs.Uncoloured.{AreNoMarks, IsNoMark, IsUncoloured};
+ghost use Rattle.tabled_pool.specs.Uncoloured.{AreNoMarks, IsNoMark};
 
 use crate::pool_table::PoolTable;
 use crate::tree::TableValue;
@@ -47,17 +47,6 @@ pub(crate) fn are_uncolored_sides(colors: &Sides<ANSIStr<'static>>) -> bool
         && colors.right.is_empty()
         && colors.top.is_empty()
         && colors.bottom.is_empty()
-}
-
-impl PoolTable {
-    /// Whether borders, padding and margin have no colours, or empty ones.
-    pub(crate) fn is_uncolored(&self) -> bool
-        ensures { IsTrue result ↔ IsUncoloured self.now }
-    {
-        are_uncolored_lines(self.config.get_borders_color())
-            && are_uncolored_sides(self.config.get_padding_color())
-            && are_uncolored_sides(self.config.get_margin_color())
-    }
 }
 
 /// Which characters are asked for. All take one column.
@@ -139,7 +128,9 @@ impl PoolTable {
         are_borders(kind, self.config.get_borders())
             && are_fills(kind, self.config.get_padding())
             && are_fills(kind, self.config.get_margin())
-            && self.is_uncolored()
+            && are_uncolored_lines(self.config.get_borders_color())
+            && are_uncolored_sides(self.config.get_padding_color())
+            && are_uncolored_sides(self.config.get_margin_color())
     }
 
     fn has_separator(&self) -> bool

@@ -16,10 +16,10 @@ ghost use Rattle.tabled_pool.specs.Drawn.{drawn};
 ghost use Rattle.tabled_pool.specs.Boxes.{box_of};
 ghost use Rattle.tabled_pool.specs.Pool.{HasColumns, IsInRange, IsOutOfRange, IsPadded, WritesPool};
 ghost use Rattle.tabled_pool.specs.Pool.{borders_of, frame_of, frame_place, framed_height};
-ghost use Rattle.tabled_pool.specs.Pool.{framed_width, spacing_of, has_margin, margin_around};
+ghost use Rattle.tabled_pool.specs.Pool.{framed_width, spacing_of, margin_around};
 ghost use Rattle.tabled_pool.specs.Pool.{marks_for, plan, pool_lines, pool_text, style_of};
 ghost use Rattle.tabled_pool.specs.Pool.{total_height, total_width};
-ghost use Rattle.tabled_pool.specs.NewPool.{IsNewConfig, IsNewPool};
+ghost use Rattle.tabled_pool.specs.NewPool.{IsNewPool};
 ghost use Rattle.tabled_pool.specs.Tiled.{Tiled};
 
 use crate::drawn_blocks::DrawnBlock;
@@ -73,25 +73,6 @@ fn style_of(config: &CompactMultilineConfig) -> CellStyle
     }
 }
 
-fn has_margin(margin: Sides<Indent>) -> bool
-    ensures { result ≡ has_margin margin }
-{
-    margin.left.size > 0 || margin.right.size > 0 || margin.top.size > 0 || margin.bottom.size > 0
-}
-
-/// The settings of a new table: ASCII borders, one column of padding on the left and right, no
-/// margin, texts at the left and the top.
-fn new_config() -> CompactMultilineConfig
-    ensures { IsNewConfig result }
-{
-    let one = Indent::spaced(1);
-    let none = Indent::zero();
-    let mut config = CompactMultilineConfig::new();
-    config.set_borders(Style::ascii().get_borders());
-    config.set_padding(Sides::new(one, one, none, none));
-    config
-}
-
 /// A table of nested boxes: each box holds a text, a row of boxes or a column of boxes. Its rows
 /// may have different numbers of cells.
 ///
@@ -117,9 +98,14 @@ impl PoolTable {
     pub fn from_value(value: TableValue) -> PoolTable
         ensures { IsNewPool value result }
     {
+        let one = Indent::spaced(1);
+        let none = Indent::zero();
+        let mut config = CompactMultilineConfig::new();
+        config.set_borders(Style::ascii().get_borders());
+        config.set_padding(Sides::new(one, one, none, none));
         PoolTable {
             value,
-            config: new_config(),
+            config,
             dimension: PoolTableDimension::new(DimensionPriority::List, DimensionPriority::List),
         }
     }
@@ -191,7 +177,13 @@ impl PoolTable {
         ensures indent { result.indent ≡ indent }
         ensures colors { marks_of result.colors ≡ marks_for self.now indent }
     {
-        let colors = if has_margin(indent) {
+        let Sides {
+            left,
+            right,
+            top,
+            bottom,
+        } = indent;
+        let colors = if left.size > 0 || right.size > 0 || top.size > 0 || bottom.size > 0 {
             *self.config.get_margin_color()
         } else {
             Sides::filled(ANSIStr::new("", ""))
