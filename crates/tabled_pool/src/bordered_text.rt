@@ -1,6 +1,6 @@
 //! The lines of one text in a tree with a zero-width text, with the borders that it draws.
 ghost use Rattle.std.specs.Prelude.{◌≡◌, ◌<◌, ◌+◌, ◌++◌, ◌∷◌, [], map, None, if◌then◌else◌};
-ghost use Rattle.std.specs.Prelude.{IfOk, string_bytes, encode_utf8, unwrap_or};
+ghost use Rattle.std.specs.Prelude.{IfOk, string_bytes, unwrap_or};
 ghost use Rattle.std.specs.List.{range_with_len};
 ghost use Rattle.std.specs.Option.{option_map};
 ghost use Rattle.tabled_pool.specs.declared.pieces.Kind.TheVariants.{Leaf};
@@ -8,7 +8,7 @@ ghost use Rattle.tabled_pool.specs.Boxes.{part_of};
 ghost use Rattle.tabled_pool.specs.Marks.{within_marks};
 ghost use Rattle.tabled_pool.specs.Colours.{mark_of};
 ghost use Rattle.tabled_pool.specs.Block.{leaf_line};
-ghost use Rattle.tabled_pool.specs.Inherited.{bordered_block, bottom_text, inner_text, run_char};
+ghost use Rattle.tabled_pool.specs.Inherited.{bordered_block, bottom_text, inner_text};
 ghost use Rattle.tabled_pool.specs.Inherited.{marked_text, outer_line, run_text, text_block};
 ghost use Rattle.tabled_pool.specs.Inherited.{top_text, written};
 ghost use Rattle.tabled_pool.specs.Inherited.{inherited_by, inheriting_box, plan_for};
@@ -44,23 +44,6 @@ fn push_marked(line: &mut String, marks: Marks, c: Option<char>) -> Result<(), A
     }
 }
 
-/// The character at column `x` of a horizontal border: `split` where a vertical one meets it.
-fn run_char(
-    sizes: &[usize],
-    width: usize,
-    split: Option<char>,
-    main: Option<char>,
-    x: usize,
-) -> char
-    ensures { encode_utf8 result ≡ run_char sizes.now width split main x }
-{
-    if is_split(sizes, width, x) {
-        split.unwrap_or(' ')
-    } else {
-        main.unwrap_or(' ')
-    }
-}
-
 /// A horizontal border of `width` columns, with `split` where vertical ones meet it.
 fn run_text(
     alloc: Global,
@@ -73,7 +56,12 @@ fn run_text(
 {
     let mut run = String::new(alloc);
     for x in 0..width {
-        run.push(run_char(sizes, width, split, main, x))?;
+        let c = if is_split(sizes, width, x) {
+            split
+        } else {
+            main
+        };
+        run.push(c.unwrap_or(' '))?;
     }
     Ok(run)
 }
