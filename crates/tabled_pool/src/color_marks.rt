@@ -7,7 +7,7 @@ ghost use Rattle.tabled_pool.specs.Colours.{mark_of};
 ghost use Rattle.tabled_pool.specs.Marks.{alone, begun, ended, used_after};
 ghost use Rattle.tabled_pool.specs.Plans.{around_of, plan_of};
 ghost use Rattle.tabled_pool.specs.Around.{across, around_at, around_part, beside, is_last_column};
-ghost use Rattle.tabled_pool.specs.Around.{is_last_row, main_around, right_around, run_side};
+ghost use Rattle.tabled_pool.specs.Around.{main_around, right_around, run_side};
 ghost use Rattle.tabled_pool.specs.Around.{written_corner};
 
 use crate::line::{Line, ends_at, has_bottom, has_top};
@@ -56,14 +56,6 @@ fn is_last_column(drawing: &Drawing<'_, '_>, place: Rectangle) -> bool
     drawing.borders.has_right()
         && drawing.width > 0
         && ends_at(place.x, place.width, drawing.width - 1)
-}
-
-fn is_last_row(drawing: &Drawing<'_, '_>, place: Rectangle) -> bool
-    ensures { result ≡ is_last_row (plan_of drawing.now) place }
-{
-    has_bottom(&drawing.borders)
-        && drawing.height > 0
-        && ends_at(place.y, place.height, drawing.height - 1)
 }
 
 fn written_corner(
@@ -165,7 +157,12 @@ fn around_piece(drawing: &Drawing<'_, '_>, piece: &Piece<'_>, x: usize, y: usize
     match run_side(place.y, place.height, y) {
         RunSide::Before if has_top(&drawing.borders) => across(drawing, top, place, x),
         RunSide::Inside => beside(drawing, place, x),
-        RunSide::Behind if is_last_row(drawing, place) => across(drawing, bottom, place, x),
+        RunSide::Behind
+            if has_bottom(&drawing.borders)
+                && drawing.height > 0
+                && ends_at(place.y, place.height, drawing.height - 1) => {
+            across(drawing, bottom, place, x)
+        }
         _ => None,
     }
 }
