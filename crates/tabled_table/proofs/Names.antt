@@ -55,7 +55,6 @@ unfoldable pub use Rattle.tabled_size.specs.Totals.{filled_width}
 pub use Rattle.tabled_table.specs.Applied.{ChangesEach}
 pub use Rattle.tabled_table.specs.Batches.{batches_left}
 pub use Rattle.tabled_table.specs.PrintedWith.{shown, shown_config}
-pub use Rattle.tabled_table.specs.Stream.Cuts.{IsTextCut, cut_texts, no_cut}
 pub use Rattle.tabled_table.specs.Stream.Printed.{StopsBelow, WritesBelow, lines_before}
 unfoldable pub use Rattle.tabled_table.specs.Stream.Printed.{lines_above}
 pub use Rattle.tabled_table.specs.Stream.Progress.{AreFirst, AreFurther, EndsSheet, Halts, HaltsWithin, HasPut, HasPutMore, IsInReach}
@@ -67,7 +66,6 @@ pub use Rattle.tabled_table.specs.Stream.Streams.{AreEnough, ArePermitted, AreSn
 pub use Rattle.tabled_table.specs.Stream.Streams.{reaches, stream_total}
 pub use Rattle.tabled_table.specs.TableSheet.{cells_of, sheet}
 pub use Rattle.tabled_table.specs.declared.batches.LayoutIterator.{LayoutIterator}
-pub use Rattle.tabled_table.specs.declared.iter_table.cuts.TextCut.{TextCut}
 pub use Rattle.tabled_table.specs.declared.iter_table.layout.Layout.{Layout}
 pub use Rattle.tabled_table.specs.declared.iter_table.settings.StreamSettings.{StreamSettings}
 pub use Rattle.tabled_table.specs.declared.table.Table.{Table}

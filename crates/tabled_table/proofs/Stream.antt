@@ -1,5 +1,4 @@
 -- The lemmas of streamed tables.
-pub mod Cuts
 pub mod Drawn
 pub mod Finished
 pub mod FirstRows

@@ -1,6 +1,5 @@
 -- The definitions of streamed tables.
 pub mod Applied
-pub mod Cuts
 pub mod GoesOn
 pub mod LikeTable
 pub mod NewTable

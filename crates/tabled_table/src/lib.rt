@@ -16,7 +16,7 @@
 //! - `iter_table/sniff`: measures of the rows that are read ahead
 //! - `iter_table/layout`: the columns of a stream, what is around its cells, and its total width
 //! - `iter_table/row`: the columns that lines are printed over, and a row that is cut to them
-//! - `iter_table/cuts`: where the cells of a row are cut, and cut texts with U+FFFD
+//! - `iter_table/cuts`: whether the cells of a row fit in their columns, and cut cells
 //! - `iter_table/next_rows`: writes the rows that were read first, and reads and writes the next
 //!
 //! `laws`: facts about tables and streamed tables.

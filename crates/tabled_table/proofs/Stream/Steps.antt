@@ -1,17 +1,19 @@
 -- A table that is printed, one row further.
-use Rattle.tabled_table.proofs.Names.{Bool, CompactConfig, Err, Halts, HaltsWithin, HasPut, HorizontalLine, IsCut, IsCutRow, IsErrAnd}
-use Rattle.tabled_table.proofs.Names.{IsInReach, IsLaidOut, IsStreamed, Layout, LineSends, LineStops, List, Memory, Ok, Option, PutsNext}
+use Rattle.tabled_table.proofs.Names.{Bool, CompactConfig, Err, Halts, HaltsWithin, HasPut, IsCut, IsCutRow, IsErrAnd}
+use Rattle.tabled_table.proofs.Names.{IsInReach, IsLaidOut, IsStreamed, Layout, LineSends, LineStops, List, Memory, Ok, PutsNext}
 use Rattle.tabled_table.proofs.Names.{Range, Result, Sends, Sent, Sheet, Stops, StopsBelow, StreamSettings, TableError, WritesBelow}
 use Rattle.tabled_table.proofs.Names.{WritesLines, [], ap, append-nil, append_assoc, arith, below_more, column_count, content_at}
 use Rattle.tabled_table.proofs.Names.{content_height, content_width, each-more, false, fill, filled_width, flat_map, frame, get_or}
-use Rattle.tabled_table.proofs.Names.{get_or-append_right, get_or_append_left, inl, inr, join_with_byte, layout_columns, layout_row, length}
-use Rattle.tabled_table.proofs.Names.{length-append, lengthened, lines-finished, lines-stopped-first, lines_above, lines_after}
+use Rattle.tabled_table.proofs.Names.{get_or-append_right, get_or_append_left, inl, inr, join_with_byte, length}
+use Rattle.tabled_table.proofs.Names.{get_or-take, length-append, length-map, length-take, lengthened, lines_above, lines_after, map, take}
 use Rattle.tabled_table.proofs.Names.{lines_after-append, lines_after-joined, lines_before, min, range_with_len, record_lines, refl}
-use Rattle.tabled_table.proofs.Names.{replicate, row_lines, row_part, rule_if, rule_of, sends-along, slice_index, stream_height, subst, sym}
+use Rattle.tabled_table.proofs.Names.{replicate, row_part, rule_of, sends-along, stream_height, subst, sym}
 use Rattle.tabled_table.proofs.Names.{ℕ, ⊎_elim, ◌++◌, ◌+◌, ◌-◌, ◌<◌, ◌==◌, ◌^◌, ◌∙◌, ◌∷◌, ◌≡◌, ◌≤◌, ◌⊎◌}
 use Rattle.std.proofs.Common.{add-one, OnOk}
+use Rattle.std.proofs.lemmas.List.{take-map}
 use Rattle.tabled_line.proofs.Leading.{lines-further}
-use Rattle.tabled_table.specs.Stream.Row.{IsPut, IsStoppedIn, Puts, PutsCut}
+use Rattle.tabled_table.specs.Stream.Row.{PutsCut}
+use Rattle.tabled_table.proofs.Stream.WholeTexts.{IsCutAs, above-kept, chosen-first, followed, followed-streamed, part-kept}
 use Rattle.tabled_table.proofs.Stream.Measures.{flat_map-same, not-zero, part-laid}
 use Rattle.tabled_line.proofs.Sending.{Appends-then, stops-then}
 
@@ -77,32 +79,25 @@ each-pushed P xs y d n e before here =
     below_more (λ k. P k (get_or (xs ++ y ∷ []) k d)) n
     (λ k h. subst (P k) (sym (pushed-before xs y d n k e h)) (before k h)) (subst (P n) (sym (pushed-at xs y d n e)) here)
 
-pub cut-stopped : {R : Type 0} (layout : Layout) (rule : Option HorizontalLine) (height : ℕ) (cut : List (List ℕ)) (old new : Sent)
-    (begun after : Bool) (r : Result R TableError) (e : TableError) → LineStops old begun e new (rule_if (layout_columns layout) rule)
-    → IsErrAnd r (λ d. d ≡ e) → PutsCut layout rule height cut old begun r new after
-cut-stopped layout rule height cut old new begun after (Ok x) e h i = absurd i
-cut-stopped layout rule height cut old new begun after (Err d) e h i =
-    inr (lines-stopped-first {T = Unit {0}} after (row_lines (layout_row layout height (lengthened layout.count cut))) _ (Err d) e h i refl)
-
-pub cut-finished : {R : Type 0} (layout : Layout) (rule : Option HorizontalLine) (height : ℕ) (cut : List (List ℕ)) (old mid new : Sent)
-    (begun between after : Bool) (r : Result R TableError) → LineSends old begun mid between (rule_if (layout_columns layout) rule)
-    → WritesLines mid between r new after (row_lines (layout_row layout height (lengthened layout.count cut)))
-    → PutsCut layout rule height cut old begun r new after
-cut-finished layout rule height cut old mid new begun between after (Ok x) h k = lines-finished {T = Unit {0}} new after _ _ (Ok tt) h k refl
-cut-finished layout rule height cut old mid new begun between after (Err d) h k = inr (lines-finished {T = Unit {0}} new after _ _ (Err d) h k refl)
-
-pub cut-put : {R : Type 0} (layout : Layout) (rule : Option HorizontalLine) (height : ℕ) (row cut : List (List ℕ)) (old new : Sent)
-    (begun after : Bool) (r : Result R TableError) → IsCutRow (content_at layout) layout.count row (lengthened layout.count cut)
-    → PutsCut layout rule height cut old begun r new after → Puts layout rule height row old begun r new after
-cut-put layout rule height row cut old new begun after (Ok x) c h = record { cells = _; cut = c; sends = h }
-cut-put layout rule height row cut old new begun after (Err d) c (inl m) = inl m
-cut-put layout rule height row cut old new begun after (Err d) c (inr h) = inr (record { cells = _; cut = c; stops = h })
+-- the first cells are cut, and the row is filled up
+pub cut_first : {A : Type 0} (text : A → List ℕ) (content : ℕ → ℕ) (count m : ℕ) (cells first : List A) (cut : List (List ℕ))
+    → first ≡ take m cells → m ≡ min count (length cells) → length cut ≡ length first
+    → ((k : ℕ) → k < length first → IsCut (content k) (get_or (map text first) k []) (get_or cut k []))
+    → IsCutRow content count (map text cells) (lengthened count cut)
+cut_first text content count m cells first cut e f g each =
+    let long : length first ≡ m = ap length e ∙ length-take m cells ∙ omega (arith, f) in
+    let same : map text first ≡ take m (map text cells) = ap (map text) e ∙ sym (take-map text m cells) in
+    record {
+      cut = cut;
+      as_many = g ∙ long ∙ f ∙ ap (min count) (sym (length-map cells text));
+      each = λ k b.
+          let within : k < m = omega (arith, b, g, long) in
+          subst (λ t. IsCut (content k) t (get_or cut k [])) (ap (λ ts. get_or ts k []) same ∙ get_or-take m (map text cells) k [] within)
+          (each k (omega (arith, b, g)));
+      whole = refl;
+    }
 
 -- ---- a table that is printed, one row further
-
--- the table with a row more
-pub extended : Sheet → List (List ℕ) → ℕ → Sheet
-extended t cells height = record t { cells = t.cells ++ cells ∷ []; heights = t.heights ++ height ∷ [] }
 
 length-pushed : {A : Type 0} (xs : List A) (y : A) (n : ℕ) → length xs ≡ n → length (xs ++ y ∷ []) ≡ n + 1
 length-pushed xs y n e = omega (arith, length-append xs (y ∷ []))
@@ -122,68 +117,28 @@ module _ {settings : StreamSettings} {config : CompactConfig} {ahead_rows : List
   streamed-more : {shown : List (List (List ℕ))} {t : Sheet} {row cells : List (List ℕ)} {height : ℕ}
       → IsLaidOut settings config ahead_rows layout → IsStreamed settings config ahead_rows shown t → IsCutRow (content_at layout) layout.count row cells
       → height ≡ stream_height settings config ahead_rows (length shown) row
-      → IsStreamed settings config ahead_rows (shown ++ row ∷ []) (extended t cells height)
-  unfolding extended
+      → IsStreamed settings config ahead_rows (shown ++ row ∷ []) (followed t (cells ∷ []) (height ∷ []))
   streamed-more {shown} {t} {row} {cells} {height} l s c h =
-      let n = length shown in
-      let longer = length-pushed shown row n refl in
-      let C : List (List ℕ) → List (List ℕ) → Type 0 = IsCutRow (content_width settings ahead_rows) (column_count settings ahead_rows) in
-      let H : ℕ → List (List ℕ) → Type 0 = λ k r. slice_index (t.heights ++ height ∷ []) k ≡ stream_height settings config ahead_rows k r in
-      record {
-        as_many = length-pushed t.cells cells n s.as_many ∙ sym longer;
-        cells = λ k b.
-            each-pushed (λ k r. C r (get_or (t.cells ++ cells ∷ []) k [])) shown row [] n refl
-            (λ k b. subst (C (get_or shown k [])) (sym (pushed-before t.cells cells [] n k s.as_many b)) (s.cells k b))
-            (subst (C row) (sym (pushed-at t.cells cells [] n s.as_many)) (cut-laid l c)) k (omega arith);
-        settings_of = s.settings_of;
-        widths = s.widths;
-        as_high = length-pushed t.heights height n s.as_high ∙ sym longer;
-        heights = λ k b.
-            each-pushed H shown row [] n refl
-            (λ k b. pushed-before t.heights height 0 n k s.as_high b ∙ s.heights k b)
-            (pushed-at t.heights height 0 n s.as_high ∙ h) k (omega arith);
-      }
-
-  -- a row before the last one stays
-  part-before : {shown : List (List (List ℕ))} {t : Sheet} (row cells : List (List ℕ)) (height : ℕ)
-      → IsLaidOut settings config ahead_rows layout → IsStreamed settings config ahead_rows shown t
-      → IsStreamed settings config ahead_rows (shown ++ row ∷ []) (extended t cells height)
-      → (k : ℕ) → k < length shown → row_part (extended t cells height) k ≡ row_part t k
-  unfolding extended
-  part-before {shown} {t} row cells height l s m k b =
-      let longer = length-pushed shown row (length shown) refl in
-      let L : ℕ → List (List ℕ) → ℕ → List (List ℕ) = λ k r h. record_lines layout (rule_of layout (k == 0)) h r in
-      part-laid l m k (omega arith)
-      ∙ ap (λ h. L k (get_or (t.cells ++ cells ∷ []) k []) h) (pushed-before t.heights height 0 (length shown) k s.as_high b)
-      ∙ ap (λ r. L k r (slice_index t.heights k)) (pushed-before t.cells cells [] (length shown) k s.as_many b)
-      ∙ sym (part-laid l s k b)
-
-  -- so do the lines above the last one
-  above-same : {shown : List (List (List ℕ))} {t : Sheet} (row cells : List (List ℕ)) (height : ℕ)
-      → IsLaidOut settings config ahead_rows layout → IsStreamed settings config ahead_rows shown t
-      → IsStreamed settings config ahead_rows (shown ++ row ∷ []) (extended t cells height)
-      → lines_above t layout.count (length shown) ≡ lines_above (extended t cells height) layout.count (length shown)
-  unfolding lines_above extended
-  above-same {shown} {t} row cells height l s m =
-      let margin = (frame t.config).margin in
-      let above = replicate margin.top.size (fill margin.top.fill (filled_width t.config layout.count t.widths)) in
-      ap (λ x. above ++ x)
-      (sym (flat_map-same (row_part (extended t cells height)) (row_part t) (length shown) (part-before row cells height l s m)))
+      let H : ℕ → List (List ℕ) → ℕ → Type 0 = λ k r x. x ≡ stream_height settings config ahead_rows (length shown + k) r in
+      let first : length shown ≡ length shown + 0 = omega arith in
+      followed-streamed (row ∷ []) (cells ∷ []) (height ∷ []) s
+      (record { as_many = refl; each = chosen-first (IsCutAs settings ahead_rows) [] [] row [] cells [] (cut-laid l c) (λ k b. absurd (omega arith)) }) refl
+      (chosen-first H [] 0 row [] height [] (h ∙ ap (λ n. stream_height settings config ahead_rows n row) first) (λ k b. absurd (omega arith)))
 
   lines-more : {shown : List (List (List ℕ))} {t : Sheet} (row cells : List (List ℕ)) (height : ℕ)
       → IsLaidOut settings config ahead_rows layout → IsStreamed settings config ahead_rows shown t
-      → IsStreamed settings config ahead_rows (shown ++ row ∷ []) (extended t cells height)
-      → lines_above (extended t cells height) layout.count (length shown + 1)
+      → IsStreamed settings config ahead_rows (shown ++ row ∷ []) (followed t (cells ∷ []) (height ∷ []))
+      → lines_above (followed t (cells ∷ []) (height ∷ [])) layout.count (length shown + 1)
       ≡ lines_above t layout.count (length shown) ++ record_lines layout (rule_of layout (length shown == 0)) height cells
-  unfolding lines_above extended
+  unfolding lines_above
   lines-more {shown} {t} row cells height l s m =
       let n = length shown in
-      let u = extended t cells height in
+      let u = followed t (cells ∷ []) (height ∷ []) in
       let longer = length-pushed shown row n refl in
       let margin = (frame t.config).margin in
       let above = replicate margin.top.size (fill margin.top.fill (filled_width t.config layout.count t.widths)) in
       let L : ℕ → List (List ℕ) → ℕ → List (List ℕ) = λ k r h. record_lines layout (rule_of layout (k == 0)) h r in
-      let old : (k : ℕ) → k < n → row_part u k ≡ row_part t k = part-before row cells height l s m in
+      let old : (k : ℕ) → k < n → row_part u k ≡ row_part t k = part-kept (cells ∷ []) (height ∷ []) s in
       let last : row_part u n ≡ L n cells height =
       part-laid l m n (omega arith)
       ∙ ap (λ h. L n (get_or (t.cells ++ cells ∷ []) n []) h) (pushed-at t.heights height 0 n s.as_high)
@@ -195,8 +150,7 @@ module _ {settings : StreamSettings} {config : CompactConfig} {ahead_rows : List
   reach-more : {shown : List (List (List ℕ))} {t : Sheet} {row cells : List (List ℕ)} {height : ℕ}
       → IsLaidOut settings config ahead_rows layout → IsInReach settings config ahead_rows shown t → IsCutRow (content_at layout) layout.count row cells
       → height ≡ stream_height settings config ahead_rows (length shown) row → height < 2 ^ 64
-      → IsInReach settings config ahead_rows (shown ++ row ∷ []) (extended t cells height)
-  unfolding extended
+      → IsInReach settings config ahead_rows (shown ++ row ∷ []) (followed t (cells ∷ []) (height ∷ []))
   reach-more {shown} {t} {row} {cells} {height} l r c h f =
       let n = length shown in
       let longer = length-pushed shown row n refl in
@@ -205,44 +159,44 @@ module _ {settings : StreamSettings} {config : CompactConfig} {ahead_rows : List
         heights = λ k b. each-pushed (λ _ x. x < 2 ^ 64) t.heights height 0 n r.streamed.as_high r.heights f k (omega arith);
       }
 
-  pub put-more : {shown : List (List (List ℕ))} {row : List (List ℕ)} {height : ℕ} {start old new : Sent} {first begun begun' : Bool}
-      → HasPut settings config ahead_rows shown start layout first old begun → IsPut layout (rule_of layout first) height row old begun new begun'
-      → height ≡ stream_height settings config ahead_rows (length shown) row → height < 2 ^ 64
+  pub put-more : {shown : List (List (List ℕ))} {row cells : List (List ℕ)} {height : ℕ} {start old new : Sent} {first begun begun' : Bool}
+      → HasPut settings config ahead_rows shown start layout first old begun → IsCutRow (content_at layout) layout.count row cells
+      → LineSends old begun new begun' (record_lines layout (rule_of layout first) height cells) → height ≡ stream_height settings config ahead_rows (length shown) row → height < 2 ^ 64
       → HasPut settings config ahead_rows (shown ++ row ∷ []) start layout false new begun'
-  put-more {shown} {row} {height} {start} {old} {new} {first} p q h f =
-      let more = reach-more p.laid p.in_reach q.cut h f in
+  put-more {shown} {row} {cells} {height} {start} {old} {new} {first} p cut sends h f =
+      let more = reach-more p.laid p.in_reach cut h f in
       let longer = length-pushed shown row (length shown) refl in
       record {
         laid = p.laid;
-        sheet = extended p.sheet q.cells height;
+        sheet = followed p.sheet (cells ∷ []) (height ∷ []);
         in_reach = more;
         is_first = sym (not-zero (length (shown ++ row ∷ [])) (omega arith));
-        sends = lines-further p.sends q.sends
-            (ap (λ n. lines_above (extended p.sheet q.cells height) layout.count n) longer
-            ∙ lines-more row q.cells height p.laid p.in_reach.streamed more.streamed
-            ∙ ap (λ b. lines_above p.sheet layout.count (length shown) ++ record_lines layout (rule_of layout b) height q.cells) (sym p.is_first));
+        sends = lines-further p.sends sends
+            (ap (λ n. lines_above (followed p.sheet (cells ∷ []) (height ∷ [])) layout.count n) longer
+            ∙ lines-more row cells height p.laid p.in_reach.streamed more.streamed
+            ∙ ap (λ b. lines_above p.sheet layout.count (length shown) ++ record_lines layout (rule_of layout b) height cells) (sym p.is_first));
       }
 
-  pub put-stopped : {shown : List (List (List ℕ))} {row : List (List ℕ)} {height : ℕ} {start old new : Sent} {first begun : Bool} {error : TableError}
-      → HasPut settings config ahead_rows shown start layout first old begun → IsStoppedIn layout (rule_of layout first) height row old begun error new
-      → height ≡ stream_height settings config ahead_rows (length shown) row → height < 2 ^ 64
+  pub put-stopped : {shown : List (List (List ℕ))} {row cells : List (List ℕ)} {height : ℕ} {start old new : Sent} {first begun : Bool} {error : TableError}
+      → HasPut settings config ahead_rows shown start layout first old begun → IsCutRow (content_at layout) layout.count row cells
+      → LineStops old begun error new (record_lines layout (rule_of layout first) height cells) → height ≡ stream_height settings config ahead_rows (length shown) row → height < 2 ^ 64
       → HaltsWithin settings config ahead_rows (shown ++ row ∷ []) start layout.count error new
-  put-stopped {shown} {row} {height} {start} {old} {new} {first} {begun} {error} p q h f =
-      let more = reach-more p.laid p.in_reach q.cut h f in
+  put-stopped {shown} {row} {cells} {height} {start} {old} {new} {first} {begun} {error} p cut stops h f =
+      let more = reach-more p.laid p.in_reach cut h f in
       let longer = length-pushed shown row (length shown) refl in
-      let t = extended p.sheet q.cells height in
+      let t = followed p.sheet (cells ∷ []) (height ∷ []) in
       let lines = lines_above t layout.count (length (shown ++ row ∷ [])) in
       let P : List (List ℕ) → Type 0 = λ above. StopsBelow (lines_after false above) start error new (lines_after false lines) in
       let above : lines_above p.sheet layout.count (length shown) ≡ lines_before t layout.count (length (shown ++ row ∷ [])) =
-      above-same row q.cells height p.laid p.in_reach.streamed more.streamed
+      sym (above-kept (cells ∷ []) (height ∷ []) layout.count p.in_reach.streamed)
       ∙ sym (ap (λ n. lines_before t layout.count n) (longer ∙ add-one (length shown))) in
       record {
         sheet = t;
         in_reach = more;
-        stops = subst P above (lines-below lines p.sends q.stops
+        stops = subst P above (lines-below lines p.sends stops
             (ap (λ n. lines_above t layout.count n) longer
-            ∙ lines-more row q.cells height p.laid p.in_reach.streamed more.streamed
-            ∙ ap (λ b. lines_above p.sheet layout.count (length shown) ++ record_lines layout (rule_of layout b) height q.cells) (sym p.is_first)));
+            ∙ lines-more row cells height p.laid p.in_reach.streamed more.streamed
+            ∙ ap (λ b. lines_above p.sheet layout.count (length shown) ++ record_lines layout (rule_of layout b) height cells) (sym p.is_first)));
       }
 
 -- ---- the next row of a stream is printed, or refused
@@ -281,20 +235,21 @@ module _ {settings : StreamSettings} {config : CompactConfig} {ahead_rows shown 
       }
 
 pub next-put : {R : Type 0} (r : Result R TableError) (layout : Layout) (first first' begun begun' : Bool) (old new : Sent) (height lines : ℕ)
-    (row : List (List ℕ))
-    → Puts layout (rule_of layout first) height row old begun r new begun' → OnOk r (first' ≡ false) → height ≡ padded layout lines → height < 2 ^ 64
-    → PutsNext lines row layout first old begun r first' new begun'
-next-put (Ok x) layout first first' begun begun' old new height lines row q f e b settings config ahead_rows shown start p h =
+    (row cut : List (List ℕ)) → IsCutRow (content_at layout) layout.count row (lengthened layout.count cut)
+    → PutsCut layout (rule_of layout first) height cut old begun r new begun' → OnOk r (first' ≡ false)
+    → height ≡ padded layout lines → height < 2 ^ 64 → PutsNext lines row layout first old begun r first' new begun'
+next-put (Ok x) layout first first' begun begun' old new height lines row cut c (inl m) f e b settings config ahead_rows shown start p h = absurd m.0
+next-put (Ok x) layout first first' begun begun' old new height lines row cut c (inr w) f e b settings config ahead_rows shown start p h =
     let P : Bool → Type 0 = λ v. HasPut settings config ahead_rows (shown ++ row ∷ []) start layout v new begun' in
-    subst P (sym f) (put-more p q (e ∙ padded-is row lines p h) b)
-next-put (Err d) layout first first' begun begun' old new height lines row (inl m) f e b settings config ahead_rows shown start p h =
+    subst P (sym f) (put-more p c w (e ∙ padded-is row lines p h) b)
+next-put (Err d) layout first first' begun begun' old new height lines row cut c (inl m) f e b settings config ahead_rows shown start p h =
     halts-before row d new p m.1 (inr m.0)
-next-put (Err d) layout first first' begun begun' old new height lines row (inr q) f e b settings config ahead_rows shown start p h =
+next-put (Err d) layout first first' begun begun' old new height lines row cut c (inr w) f e b settings config ahead_rows shown start p h =
     record {
       shown = shown ++ row ∷ [];
       rest = [];
       parts = sym (append-nil (shown ++ row ∷ []));
-      halts = inr (refl, put-stopped p q (e ∙ padded-is row lines p h) b);
+      halts = inr (refl, put-stopped p c w (e ∙ padded-is row lines p h) b);
     }
 
 pub next-refused : {R : Type 0} (r : Result R TableError) (e : TableError) (layout : Layout) (first begun : Bool) (old : Sent) (lines : ℕ) (row : List (List ℕ))

@@ -60,7 +60,7 @@ pub record AreChosen {A B : Type 0} (P : ℕ → A → B → Type 0) (d : A) (e 
   pub as_many : length ys ≡ length xs
   pub each : (k : ℕ) → k < length xs → P k (get_or xs k d) (get_or ys k e)
 
-chosen-first : {A B : Type 0} (P : ℕ → A → B → Type 0) (d : A) (e : B) (x : A) (xs : List A) (y : B) (ys : List B) → P 0 x y
+pub chosen-first : {A B : Type 0} (P : ℕ → A → B → Type 0) (d : A) (e : B) (x : A) (xs : List A) (y : B) (ys : List B) → P 0 x y
     → ((k : ℕ) → k < length xs → P (suc k) (get_or xs k d) (get_or ys k e)) → (k : ℕ) → k < length (x ∷ xs) → P k (get_or (x ∷ xs) k d) (get_or (y ∷ ys) k e)
 chosen-first P d e x xs y ys first others zero h = first
 chosen-first P d e x xs y ys first others (suc k) h = others k (omega arith)
@@ -135,15 +135,15 @@ joined-more xs ys =
 -- ---- the table of all rows
 
 -- a table with some rows more
-abbrev followed : Sheet → List (List (List ℕ)) → List ℕ → Sheet
+abbrev pub followed : Sheet → List (List (List ℕ)) → List ℕ → Sheet
 followed t cells heights = record t { cells = t.cells ++ cells; heights = t.heights ++ heights }
 
 -- a row is cut as the settings say, wherever it stands
-abbrev IsCutAs : StreamSettings → List (List (List ℕ)) → ℕ → List (List ℕ) → List (List ℕ) → Type 0
+abbrev pub IsCutAs : StreamSettings → List (List (List ℕ)) → ℕ → List (List ℕ) → List (List ℕ) → Type 0
 IsCutAs settings ahead_rows k row cells = IsCutRow (content_width settings ahead_rows) (column_count settings ahead_rows) row cells
 
 module _ {settings : StreamSettings} {config : CompactConfig} {ahead_rows : List (List (List ℕ))} where
-  followed-streamed : {shown : List (List (List ℕ))} {t : Sheet} (rest cells : List (List (List ℕ))) (heights : List ℕ)
+  pub followed-streamed : {shown : List (List (List ℕ))} {t : Sheet} (rest cells : List (List (List ℕ))) (heights : List ℕ)
       → IsStreamed settings config ahead_rows shown t → AreChosen (IsCutAs settings ahead_rows) [] [] rest cells → length heights ≡ length rest
       → ((k : ℕ) → k < length rest → slice_index heights k ≡ stream_height settings config ahead_rows (length shown + k) (get_or rest k []))
       → IsStreamed settings config ahead_rows (shown ++ rest) (followed t cells heights)
@@ -163,7 +163,7 @@ module _ {settings : StreamSettings} {config : CompactConfig} {ahead_rows : List
       }
 
   -- the first rows stay as they are
-  part-kept : {shown : List (List (List ℕ))} {t : Sheet} (cells : List (List (List ℕ))) (heights : List ℕ)
+  pub part-kept : {shown : List (List (List ℕ))} {t : Sheet} (cells : List (List (List ℕ))) (heights : List ℕ)
       → IsStreamed settings config ahead_rows shown t → (k : ℕ) → k < length shown → row_part (followed t cells heights) k ≡ row_part t k
   unfolding row_part rule
   part-kept {shown} {t} cells heights s k h =
@@ -187,7 +187,7 @@ module _ {settings : StreamSettings} {config : CompactConfig} {ahead_rows : List
       ∙ ap (λ r. part (columns_of t) (rule_at t.config n k) r (slice_index u.heights k)) row
       ∙ ap (λ x. part (columns_of t) (rule_at t.config n k) (get_or t.cells k []) x) height
 
-  above-kept : {shown : List (List (List ℕ))} {t : Sheet} (cells : List (List (List ℕ))) (heights : List ℕ) (count : ℕ)
+  pub above-kept : {shown : List (List (List ℕ))} {t : Sheet} (cells : List (List (List ℕ))) (heights : List ℕ) (count : ℕ)
       → IsStreamed settings config ahead_rows shown t
       → lines_above (followed t cells heights) count (length shown) ≡ lines_above t count (length shown)
   unfolding lines_above

@@ -1,5 +1,6 @@
 -- A row as it is printed.
-use Rattle.std.specs.Prelude.{◌≡◌, ℕ, ◌+◌, ◌-◌, ◌*◌, if◌then◌else◌, Bool, false, List, [], ◌++◌, ◌⊎◌, Option, map, Result, Ok, Err}
+use Rattle.std.specs.Prelude.{◌≡◌, ℕ, ◌+◌, ◌-◌, ◌*◌, if◌then◌else◌, Bool, false, List, [], ◌++◌, ◌⊎◌, Option, map, Result}
+use Rattle.std.specs.Result.{IsErrAnd}
 use Rattle.std.specs.List.{range_with_len, slice_index, slice_index_or}
 use Rattle.tabled_base.specs.declared.error.TableError.{TableError}
 use Rattle.tabled_base.specs.declared.error.TableError.TheVariants.{Memory}
@@ -9,11 +10,10 @@ use Rattle.tabled_config.specs.declared.compact.CompactConfig.{CompactConfig}
 use Rattle.tabled_config.specs.declared.spanned.CellStyle.{CellStyle}
 use Rattle.tabled_config.specs.declared.borders.HorizontalLine.{HorizontalLine}
 use Rattle.tabled_priority.specs.Sums.{one_if, sum_below}
-use Rattle.tabled_line.specs.Leading.{LineSends, LineStops}
+use Rattle.tabled_line.specs.Leading.{WritesLines}
 use Rattle.tabled_line.specs.Row.{ColumnSheet, RowSheet, row_lines, rule_if}
 use Rattle.tabled_line.specs.Sent.{Sent}
 use Rattle.tabled_table.specs.declared.iter_table.layout.Layout.{Layout}
-use Rattle.tabled_table.specs.Stream.Streamed.{IsCutRow}
 
 -- the content width of a column
 abbrev pub content_at : Layout → ℕ → ℕ
@@ -76,26 +76,6 @@ rule_of layout first = if first then layout.top else layout.inner
 -- a row of cut cells was written; or an allocation failed before its first byte, or the sink failed
 -- in its lines
 abbrev pub PutsCut : {R : Type 0} → Layout → Option HorizontalLine → ℕ → List (List ℕ) → Sent → Bool → Result R TableError → Sent → Bool → Type 0
-PutsCut layout rule height cut old begun (Ok _) new begun' =
-    LineSends old begun new begun' (record_lines layout rule height (lengthened layout.count cut))
-PutsCut layout rule height cut old begun (Err error) new begun' =
-    ((error ≡ Memory) × (new ≡ old) × (begun' ≡ begun))
-    ⊎ LineStops old begun error new (record_lines layout rule height (lengthened layout.count cut))
-
--- the cells of a row were cut, and its lines were written
-pub record IsPut (layout : Layout) (rule : Option HorizontalLine) (height : ℕ) (row : List (List ℕ)) (old : Sent) (begun : Bool)
-    (new : Sent) (begun' : Bool) : Type 0 where
-  pub cells : List (List ℕ)
-  pub cut : IsCutRow (content_at layout) layout.count row cells
-  pub sends : LineSends old begun new begun' (record_lines layout rule height cells)
-
-pub record IsStoppedIn (layout : Layout) (rule : Option HorizontalLine) (height : ℕ) (row : List (List ℕ)) (old : Sent) (begun : Bool)
-    (error : TableError) (new : Sent) : Type 0 where
-  pub cells : List (List ℕ)
-  pub cut : IsCutRow (content_at layout) layout.count row cells
-  pub stops : LineStops old begun error new (record_lines layout rule height cells)
-
-abbrev pub Puts : {R : Type 0} → Layout → Option HorizontalLine → ℕ → List (List ℕ) → Sent → Bool → Result R TableError → Sent → Bool → Type 0
-Puts layout rule height row old begun (Ok _) new begun' = IsPut layout rule height row old begun new begun'
-Puts layout rule height row old begun (Err error) new begun' =
-    ((error ≡ Memory) × (new ≡ old) × (begun' ≡ begun)) ⊎ IsStoppedIn layout rule height row old begun error new
+PutsCut layout rule height cut old begun r new begun' =
+    (IsErrAnd r (λ e. e ≡ Memory) × (new ≡ old) × (begun' ≡ begun))
+    ⊎ WritesLines old begun r new begun' (record_lines layout rule height (lengthened layout.count cut))

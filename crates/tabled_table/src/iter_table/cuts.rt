@@ -1,8 +1,6 @@
-//! Cuts the cells of a row to their columns: finds where each text ends, or, if one is filled up
-//! with U+FFFD, makes the cut texts.
-ghost use Rattle.std.specs.Prelude.{◌≡◌, ◌<◌, [], ℕ, IfOk, IfSome, length, map, true};
+//! Finds out whether the cells of a row fit in their columns, and cuts them to these.
+ghost use Rattle.std.specs.Prelude.{◌≡◌, ◌<◌, [], ℕ, IfOk, length, map, true};
 ghost use Rattle.std.specs.Prelude.{slice_index_or};
-ghost use Rattle.tabled_table.specs.Stream.Cuts.{AreCuts, IsTextCut};
 ghost use Rattle.tabled_table.specs.Stream.Row.{content_at};
 ghost use Rattle.tabled_text.specs.Cut.{IsCut};
 
@@ -10,51 +8,28 @@ use crate::iter_table::layout::Layout;
 use std::alloc::{AllocError, Global};
 use std::borrow::CowStr;
 use tabled_base::{CellText, Text};
-use tabled_text::{cut_length, cut_str, text_measures};
+use tabled_text::{cut_length, cut_str};
 
-/// The bytes of a text that are left when it is cut, and their width and number of lines.
-#[derive(Clone, Copy)]
-pub(crate) struct TextCut {
-    pub length: usize,
-    pub columns: usize,
-    pub lines: usize,
-}
-
-/// Cuts the text of a cell to n columns. `None` if the cut text is filled up with U+FFFD.
-fn cut_cell<C: CellText>(cell: &C, n: usize) -> Option<TextCut>
-    ensures { IfSome result (IsTextCut n (C.text cell.now)) }
+/// Returns whether the text of a cell is at most n columns wide.
+fn fits<C: CellText>(cell: &C, n: usize) -> bool
+    ensures { result ≡ true → IsCut n (C.text cell.now) (C.text cell.now) }
 {
     let text = cell.text();
-    let length = cut_length(text, n)?;
-    let (columns, lines) = if length == text.len() {
-        (cell.width(), cell.count_lines())
-    } else {
-        text_measures(&text[..length])
-    };
-    Some(TextCut {
-        length,
-        columns,
-        lines,
-    })
+    cut_length(text, n) == Some(text.len())
 }
 
-/// Finds where the cells of a row are cut. Returns `false` if a cut text is filled up with U+FFFD.
-pub(crate) fn find_cuts<C: CellText>(
-    cuts: &mut Vec<TextCut>,
-    layout: &Layout,
-    cells: &[C],
-) -> Result<bool, AllocError>
-    ensures { IfOk result (λ all. all ≡ true
-        → AreCuts (content_at layout.now) (map C.text cells.now) cuts.new.items) }
+/// Returns whether each cell of a row fits in its column.
+pub(crate) fn all_fit<C: CellText>(layout: &Layout, cells: &[C]) -> bool
+    ensures { result ≡ true → (column : ℕ) → column < length cells.now
+        → IsCut (content_at layout.now column) (slice_index_or (map C.text cells.now) column [])
+        (slice_index_or (map C.text cells.now) column []) }
 {
-    cuts.clear();
     'cells: for column in 0..cells.len() {
-        let Some(cut) = cut_cell(&cells[column], layout.content_width(column)) else {
-            return Ok(false);
-        };
-        cuts.push(cut)?;
+        if !fits(&cells[column], layout.content_width(column)) {
+            return false;
+        }
     }
-    Ok(true)
+    true
 }
 
 /// Cuts the cells of a row and measures them.

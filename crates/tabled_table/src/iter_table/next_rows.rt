@@ -4,7 +4,6 @@ ghost use Rattle.std.specs.Prelude.{length, map, take, true, unwrap_or};
 ghost use Rattle.std.proofs.Props.{props};
 ghost use Rattle.tabled_line.specs.LineCache.{IsCacheOf};
 ghost use Rattle.tabled_records.specs.Reading.{MayGive, Reads, ReadsTo};
-ghost use Rattle.tabled_table.specs.Stream.Cuts.{cut_texts};
 ghost use Rattle.tabled_table.specs.Stream.Progress.{AreFirst, AreFurther, FinishesBehind};
 ghost use Rattle.tabled_table.specs.Stream.Progress.{HaltsMore, HasPutMore, IsLimited, IsPermitted};
 ghost use Rattle.tabled_table.specs.Stream.Progress.{PutsBottom, PutsFirst, PutsNext};
@@ -12,13 +11,13 @@ ghost use Rattle.tabled_table.specs.Stream.Progress.{StreamsLaidOut, left_of, Re
 ghost use Rattle.tabled_table.specs.Stream.Row.{PutsCut, layout_columns, rule_of};
 ghost use Rattle.tabled_table.specs.Stream.Streamed.{limited};
 
-use crate::iter_table::cuts::{TextCut, cut_cells, find_cuts};
+use crate::iter_table::cuts::{all_fit, cut_cells};
 use crate::iter_table::row::{CutRow, StreamColumns};
 use crate::iter_table::settings::{ahead, fewer, is_none_left, up_to};
 use crate::iter_table::sniff::content_height;
 use std::alloc::Global;
 use tabled_base::{CellText, TableError};
-use tabled_line::{Cursor, FEW_CURSORS, LinePrinter, TextSink};
+use tabled_line::{Cursor, LinePrinter, TextSink};
 use tabled_records::flat_rows::FlatRows;
 use tabled_records::reading::{Taken, append_cells};
 
@@ -47,62 +46,36 @@ impl<'a> Stream<'a> {
         }
     }
 
-    /// Writes a row of cut cells below its horizontal line. The cursors are those of its first
-    /// columns.
+    /// Writes a row of cut cells below its horizontal line. Allocates if the row has several lines,
+    /// which may fail with `Memory` before the first byte.
     fn write_cut_row<'c, C: CellText, S: TextSink>(
         &mut self,
         sink: &mut S,
         row: &CutRow<'c, C>,
-        cursors: &mut [Cursor<'c>],
     ) -> Result<(), TableError>
         requires { row.now.layout.now ≡ self.old.lines.columns.layout.now }
         ensures printed { PutsCut row.now.layout.now
             (rule_of row.now.layout.now self.old.first) row.now.height
-            (cut_texts row.now.cuts.now (map C.text row.now.cells.now)) (S.sent sink.old)
+            (map C.text row.now.cells.now) (S.sent sink.old)
             self.old.lines.begun result (S.sent sink.new) self.new.lines.begun }
         ensures same { self.new.lines.columns ≡ self.old.lines.columns }
         ensures first { OnOk result (self.new.first ≡ false) }
     {
+        let count = if row.height > 1 { row.cells.len() } else { 0 };
+        let mut cursors = vec![in self.alloc; Cursor::nowhere(); count]?;
         self.lines.write_rule(sink, row.layout.rule(self.first))?;
         self.first = false;
-        self.lines.write_row(sink, row, cursors)
-    }
-
-    /// Writes a row of cut cells as `write_cut_row` does, with a cursor for each cell. Only a row
-    /// of several lines needs them. More than `FEW_CURSORS` are allocated, which may fail with
-    /// `Memory` before the first byte.
-    fn write_cut_cells<'c, C: CellText, S: TextSink>(
-        &mut self,
-        sink: &mut S,
-        row: &CutRow<'c, C>,
-    ) -> Result<(), TableError>
-        requires { row.now.layout.now ≡ self.old.lines.columns.layout.now }
-        ensures printed { PutsCut row.now.layout.now
-            (rule_of row.now.layout.now self.old.first) row.now.height
-            (cut_texts row.now.cuts.now (map C.text row.now.cells.now)) (S.sent sink.old)
-            self.old.lines.begun result (S.sent sink.new) self.new.lines.begun }
-        ensures same { self.new.lines.columns ≡ self.old.lines.columns }
-        ensures first { OnOk result (self.new.first ≡ false) }
-    {
-        if row.height <= 1 {
-            return self.write_cut_row(sink, row, &mut []);
-        }
-        if row.cells.len() <= FEW_CURSORS {
-            return self.write_cut_row(sink, row, &mut [Cursor::nowhere(); FEW_CURSORS]);
-        }
-        let mut cursors = vec![in self.alloc; Cursor::nowhere(); row.cells.len()]?;
-        self.write_cut_row(sink, row, &mut cursors)
+        self.lines.write_row(sink, row, &mut cursors)
     }
 
     /// Cuts the next row to its columns, and writes it with `lines` lines for text, below its
     /// horizontal line. Before its first byte it fails with `Range` if its height exceeds
-    /// `usize::MAX`, and with `Memory`. `cuts` is a buffer for the cuts of a row.
+    /// `usize::MAX`, and with `Memory` if an allocation fails.
     fn write_next_record<C: CellText, S: TextSink>(
         &mut self,
         sink: &mut S,
         lines: usize,
         cells: &[C],
-        cuts: &mut Vec<TextCut>,
     ) -> Result<(), TableError>
         ensures printed { PutsNext lines (map C.text cells.now) self.old.lines.columns.layout.now
             self.old.first (S.sent sink.old) self.old.lines.begun result
@@ -114,23 +87,21 @@ impl<'a> Stream<'a> {
             return Err(TableError::Range);
         };
         let (first, _) = cells.split_at(layout.count.min(cells.len()));
-        if find_cuts(cuts, layout, first)? {
+        if all_fit(layout, first) {
             let row = CutRow {
                 layout,
                 cells: first,
-                cuts: cuts.as_slice(),
                 height,
             };
-            return self.write_cut_cells(sink, &row);
+            return self.write_cut_row(sink, &row);
         }
-        let filled = cut_cells(self.alloc, layout, first)?;
+        let cut = cut_cells(self.alloc, layout, first)?;
         let row = CutRow {
             layout,
-            cells: filled.as_slice(),
-            cuts: &[],
+            cells: cut.as_slice(),
             height,
         };
-        self.write_cut_cells(sink, &row)
+        self.write_cut_row(sink, &row)
     }
 
     /// Writes the horizontal line below the last row, and the bottom margin.
@@ -162,12 +133,11 @@ impl<'a> Stream<'a> {
         ensures same { self.new.lines.columns ≡ self.old.lines.columns }
     {
         let settings = self.lines.columns.settings;
-        let mut cuts = Vec::new(self.alloc);
         'rows: for index in 0..shown {
             let cells = rows.row(index);
             let count = self.lines.columns.layout.count;
             let lines = content_height(settings, count, index < ahead, cells);
-            self.write_next_record(sink, lines, cells, &mut cuts)?;
+            self.write_next_record(sink, lines, cells)?;
         }
         Ok(())
     }
@@ -203,7 +173,6 @@ impl<'a> Stream<'a> {
         ensures same { self.new.lines.columns ≡ self.old.lines.columns }
     {
         let mut cells = Vec::new(self.alloc);
-        let mut cuts = Vec::new(self.alloc);
         let mut left = limit;
         'rows: loop {
             if is_none_left(left) {
@@ -213,7 +182,7 @@ impl<'a> Stream<'a> {
             if !append_cells(&mut cells, rows)? {
                 return Ok(true);
             }
-            self.write_next_record(sink, lines, cells.as_slice(), &mut cuts)?;
+            self.write_next_record(sink, lines, cells.as_slice())?;
             left = fewer(left, 1);
         }
     }

@@ -1,11 +1,8 @@
 //! The columns of a stream, and a row of it whose cells are cut to them.
-ghost use Rattle.std.specs.Prelude.{◌≡◌, ◌<◌, ◌^◌, ℕ, map, take};
-ghost use Rattle.std.proofs.Props.{props};
+ghost use Rattle.std.specs.Prelude.{◌≡◌, ◌<◌, ◌^◌, ℕ, map};
 ghost use Rattle.tabled_base.specs.Cells.{lengthened};
-ghost use Rattle.tabled_table.specs.Stream.Cuts.{AreMeasured, IsMeasured, cut_texts};
 ghost use Rattle.tabled_table.specs.Stream.Row.{layout_columns, layout_row, width_at};
 
-use crate::iter_table::cuts::TextCut;
 use crate::iter_table::layout::Layout;
 use crate::iter_table::settings::StreamSettings;
 use tabled_base::CellText;
@@ -45,25 +42,22 @@ impl<'a> TableColumns for StreamColumns<'a> {
     }
 }
 
-/// A row of a stream. Its cells are cut to their columns, and missing ones are empty.
+/// A row of a stream. Its cells fit in their columns, and missing ones are empty.
 #[derive(Drop)]
 pub(crate) struct CutRow<'a, C: CellText> {
     pub layout: &'a Layout,
     /// The first cells; those after them are empty.
     pub cells: &'a [C],
-    /// Where the first cells are cut; those after them are whole.
-    pub cuts: &'a [TextCut],
     /// The height in lines, padding included.
     pub height: usize,
     ghost in_range: { (column : ℕ) → column < layout.now.count
         → width_at layout.now column < 2 ^ 64 },
     ghost high: { height < 2 ^ 64 },
-    ghost measured: { AreMeasured (map C.text cells.now) cuts.now } by { Prim.hlevel props },
 }
 
 impl<'a, C: CellText> Row<'a> for CutRow<'a, C> {
     ghost sheet = { λ r. layout_row r.layout.now r.height
-        (lengthened r.layout.now.count (cut_texts r.cuts.now (map C.text r.cells.now))) };
+        (lengthened r.layout.now.count (map C.text r.cells.now)) };
 
     fn count_columns(&self) -> usize {
         self.layout.count
@@ -100,9 +94,10 @@ impl<'a, C: CellText> Row<'a> for CutRow<'a, C> {
         let Some(cell) = self.cells.get(column) else {
             return Content::new("");
         };
-        match self.cuts.get(column) {
-            Some(cut) => cut_content(cell, *cut),
-            None => whole_content(cell),
+        Content {
+            text: cell.text(),
+            columns: cell.width(),
+            lines: cell.count_lines(),
         }
     }
 
@@ -112,26 +107,5 @@ impl<'a, C: CellText> Row<'a> for CutRow<'a, C> {
         }
         let known = self.layout.contents.len().max(self.cells.len());
         known.min(self.layout.count)
-    }
-}
-
-fn whole_content<C: CellText>(cell: &C) -> Content<'_>
-    ensures { result.text.now ≡ C.text cell.now }
-{
-    Content {
-        text: cell.text(),
-        columns: cell.width(),
-        lines: cell.count_lines(),
-    }
-}
-
-fn cut_content<C: CellText>(cell: &C, cut: TextCut) -> Content<'_>
-    requires { IsMeasured (C.text cell.now) cut }
-    ensures { result.text.now ≡ take cut.length (C.text cell.now) }
-{
-    Content {
-        text: &cell.text()[..cut.length],
-        columns: cut.columns,
-        lines: cut.lines,
     }
 }
