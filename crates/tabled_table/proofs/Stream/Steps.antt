@@ -161,7 +161,8 @@ module _ {settings : StreamSettings} {config : CompactConfig} {ahead_rows : List
 
   pub put-more : {shown : List (List (List ℕ))} {row cells : List (List ℕ)} {height : ℕ} {start old new : Sent} {first begun begun' : Bool}
       → HasPut settings config ahead_rows shown start layout first old begun → IsCutRow (content_at layout) layout.count row cells
-      → LineSends old begun new begun' (record_lines layout (rule_of layout first) height cells) → height ≡ stream_height settings config ahead_rows (length shown) row → height < 2 ^ 64
+      → LineSends old begun new begun' (record_lines layout (rule_of layout first) height cells)
+      → height ≡ stream_height settings config ahead_rows (length shown) row → height < 2 ^ 64
       → HasPut settings config ahead_rows (shown ++ row ∷ []) start layout false new begun'
   put-more {shown} {row} {cells} {height} {start} {old} {new} {first} p cut sends h f =
       let more = reach-more p.laid p.in_reach cut h f in
@@ -179,7 +180,8 @@ module _ {settings : StreamSettings} {config : CompactConfig} {ahead_rows : List
 
   pub put-stopped : {shown : List (List (List ℕ))} {row cells : List (List ℕ)} {height : ℕ} {start old new : Sent} {first begun : Bool} {error : TableError}
       → HasPut settings config ahead_rows shown start layout first old begun → IsCutRow (content_at layout) layout.count row cells
-      → LineStops old begun error new (record_lines layout (rule_of layout first) height cells) → height ≡ stream_height settings config ahead_rows (length shown) row → height < 2 ^ 64
+      → LineStops old begun error new (record_lines layout (rule_of layout first) height cells)
+      → height ≡ stream_height settings config ahead_rows (length shown) row → height < 2 ^ 64
       → HaltsWithin settings config ahead_rows (shown ++ row ∷ []) start layout.count error new
   put-stopped {shown} {row} {cells} {height} {start} {old} {new} {first} {begun} {error} p cut stops h f =
       let more = reach-more p.laid p.in_reach cut h f in
