@@ -38,31 +38,25 @@ impl Peaker for PriorityLeft {
 
     ghost grows = { grows_by (λ (s : Self). Outermost false) };
 
-    fn peak(&mut self, mins: &[usize], values: &[usize]) -> Option<usize> {
-        Choice::Outermost(false).peak(mins, values)
+    fn peak(&mut self, mins: &[usize], sizes: &[usize]) -> Option<usize> {
+        Choice::Outermost(false).chosen(mins, sizes, &mut Steps::new())
     }
 
-    fn shrink(
-        &mut self,
-        mins: &[usize],
-        values: &mut [usize],
-        by: usize,
-        steps: &mut Steps,
-    ) -> usize
-        ensures shrinks { IsSideShrunk false values.old mins.now by values.new
+    fn shrink(&mut self, mins: &[usize], sizes: &mut [usize], by: usize, steps: &mut Steps) -> usize
+        ensures shrinks { IsSideShrunk false sizes.old mins.now by sizes.new
             × (self.new ≡ self.old) }
-        ensures between { HasOneBetween values.old mins.now values.new }
-        ensures shrinking { Shrinks values.old mins.now by values.new result steps.old steps.new }
+        ensures between { HasOneBetween sizes.old mins.now sizes.new }
+        ensures shrinking { Shrinks sizes.old mins.now by sizes.new result steps.old steps.new }
     {
-        shrink_from(false, mins, values, by, steps)
+        shrink_from(false, mins, sizes, by, steps)
     }
 
-    fn grow(&mut self, values: &mut [usize], by: usize, steps: &mut Steps) -> usize
-        requires { sum values.old + by < 2 ^ 64 }
-        ensures grows { IsSideGrown false values.old by values.new × (self.new ≡ self.old) }
-        ensures growing { Grows values.old by values.new result steps.old steps.new }
+    fn grow(&mut self, sizes: &mut [usize], by: usize, steps: &mut Steps) -> usize
+        requires { sum sizes.old + by < 2 ^ 64 }
+        ensures grows { IsSideGrown false sizes.old by sizes.new × (self.new ≡ self.old) }
+        ensures growing { Grows sizes.old by sizes.new result steps.old steps.new }
     {
-        Choice::Outermost(false).grow(values, by, steps)
+        Choice::Outermost(false).grow(sizes, by, steps)
     }
 
     ghost nothing = { shrinks_by-none (λ (s : Self). Outermost false) };
@@ -100,31 +94,25 @@ impl Peaker for PriorityRight {
 
     ghost grows = { grows_by (λ (s : Self). Outermost true) };
 
-    fn peak(&mut self, mins: &[usize], values: &[usize]) -> Option<usize> {
-        Choice::Outermost(true).peak(mins, values)
+    fn peak(&mut self, mins: &[usize], sizes: &[usize]) -> Option<usize> {
+        Choice::Outermost(true).chosen(mins, sizes, &mut Steps::new())
     }
 
-    fn shrink(
-        &mut self,
-        mins: &[usize],
-        values: &mut [usize],
-        by: usize,
-        steps: &mut Steps,
-    ) -> usize
-        ensures shrinks { IsSideShrunk true values.old mins.now by values.new
+    fn shrink(&mut self, mins: &[usize], sizes: &mut [usize], by: usize, steps: &mut Steps) -> usize
+        ensures shrinks { IsSideShrunk true sizes.old mins.now by sizes.new
             × (self.new ≡ self.old) }
-        ensures between { HasOneBetween values.old mins.now values.new }
-        ensures shrinking { Shrinks values.old mins.now by values.new result steps.old steps.new }
+        ensures between { HasOneBetween sizes.old mins.now sizes.new }
+        ensures shrinking { Shrinks sizes.old mins.now by sizes.new result steps.old steps.new }
     {
-        shrink_from(true, mins, values, by, steps)
+        shrink_from(true, mins, sizes, by, steps)
     }
 
-    fn grow(&mut self, values: &mut [usize], by: usize, steps: &mut Steps) -> usize
-        requires { sum values.old + by < 2 ^ 64 }
-        ensures grows { IsSideGrown true values.old by values.new × (self.new ≡ self.old) }
-        ensures growing { Grows values.old by values.new result steps.old steps.new }
+    fn grow(&mut self, sizes: &mut [usize], by: usize, steps: &mut Steps) -> usize
+        requires { sum sizes.old + by < 2 ^ 64 }
+        ensures grows { IsSideGrown true sizes.old by sizes.new × (self.new ≡ self.old) }
+        ensures growing { Grows sizes.old by sizes.new result steps.old steps.new }
     {
-        Choice::Outermost(true).grow(values, by, steps)
+        Choice::Outermost(true).grow(sizes, by, steps)
     }
 
     ghost nothing = { shrinks_by-none (λ (s : Self). Outermost true) };
@@ -180,32 +168,26 @@ impl Peaker for PriorityMax {
 
     ghost grows = { grows_by (λ (s : Self). Greatest s.right) };
 
-    fn peak(&mut self, mins: &[usize], values: &[usize]) -> Option<usize> {
-        Choice::Greatest(self.right).peak(mins, values)
+    fn peak(&mut self, mins: &[usize], sizes: &[usize]) -> Option<usize> {
+        Choice::Greatest(self.right).chosen(mins, sizes, &mut Steps::new())
     }
 
-    fn shrink(
-        &mut self,
-        mins: &[usize],
-        values: &mut [usize],
-        by: usize,
-        steps: &mut Steps,
-    ) -> usize
-        ensures shrinks { IsMaxShrunk self.old.right values.old mins.now by values.new
+    fn shrink(&mut self, mins: &[usize], sizes: &mut [usize], by: usize, steps: &mut Steps) -> usize
+        ensures shrinks { IsMaxShrunk self.old.right sizes.old mins.now by sizes.new
             × (self.new ≡ self.old) }
-        ensures shrinking { Shrinks values.old mins.now by values.new result steps.old steps.new }
-        ensures level { IsLevel values.old mins.now values.new }
-        ensures least { HasLeastGreatest values.old mins.now values.new }
+        ensures shrinking { Shrinks sizes.old mins.now by sizes.new result steps.old steps.new }
+        ensures level { IsLevel sizes.old mins.now sizes.new }
+        ensures least { HasLeastGreatest sizes.old mins.now sizes.new }
     {
-        change_columns(Schedule::Depths(self.right), mins, values, by, steps).amount
+        change_columns(Schedule::Depths(self.right), mins, sizes, by, steps).amount
     }
 
-    fn grow(&mut self, values: &mut [usize], by: usize, steps: &mut Steps) -> usize
-        requires { sum values.old + by < 2 ^ 64 }
-        ensures grows { IsMaxGrown self.old.right values.old by values.new × (self.new ≡ self.old) }
-        ensures growing { Grows values.old by values.new result steps.old steps.new }
+    fn grow(&mut self, sizes: &mut [usize], by: usize, steps: &mut Steps) -> usize
+        requires { sum sizes.old + by < 2 ^ 64 }
+        ensures grows { IsMaxGrown self.old.right sizes.old by sizes.new × (self.new ≡ self.old) }
+        ensures growing { Grows sizes.old by sizes.new result steps.old steps.new }
     {
-        Choice::Greatest(self.right).grow(values, by, steps)
+        Choice::Greatest(self.right).grow(sizes, by, steps)
     }
 
     ghost nothing = { shrinks_by-none (λ (s : Self). Greatest s.right) };
@@ -261,32 +243,26 @@ impl Peaker for PriorityMin {
 
     ghost grows = { grows_by (λ (s : Self). Least s.right) };
 
-    fn peak(&mut self, mins: &[usize], values: &[usize]) -> Option<usize> {
-        Choice::Least(self.right).peak(mins, values)
+    fn peak(&mut self, mins: &[usize], sizes: &[usize]) -> Option<usize> {
+        Choice::Least(self.right).chosen(mins, sizes, &mut Steps::new())
     }
 
-    fn shrink(
-        &mut self,
-        mins: &[usize],
-        values: &mut [usize],
-        by: usize,
-        steps: &mut Steps,
-    ) -> usize
-        ensures shrinks { IsMinShrunk self.old.right values.old mins.now by values.new
+    fn shrink(&mut self, mins: &[usize], sizes: &mut [usize], by: usize, steps: &mut Steps) -> usize
+        ensures shrinks { IsMinShrunk self.old.right sizes.old mins.now by sizes.new
             × (self.new ≡ self.old) }
-        ensures between { HasOneBetween values.old mins.now values.new }
-        ensures shrinking { Shrinks values.old mins.now by values.new result steps.old steps.new }
+        ensures between { HasOneBetween sizes.old mins.now sizes.new }
+        ensures shrinking { Shrinks sizes.old mins.now by sizes.new result steps.old steps.new }
     {
-        shrink_smallest(self.right, mins, values, by, steps)
+        shrink_smallest(self.right, mins, sizes, by, steps)
     }
 
-    fn grow(&mut self, values: &mut [usize], by: usize, steps: &mut Steps) -> usize
-        requires { sum values.old + by < 2 ^ 64 }
-        ensures grows { IsMinGrown self.old.right values.old by values.new × (self.new ≡ self.old) }
-        ensures growing { Grows values.old by values.new result steps.old steps.new }
-        ensures least { HasGreatestLeast values.old values.new }
+    fn grow(&mut self, sizes: &mut [usize], by: usize, steps: &mut Steps) -> usize
+        requires { sum sizes.old + by < 2 ^ 64 }
+        ensures grows { IsMinGrown self.old.right sizes.old by sizes.new × (self.new ≡ self.old) }
+        ensures growing { Grows sizes.old by sizes.new result steps.old steps.new }
+        ensures least { HasGreatestLeast sizes.old sizes.new }
     {
-        change_columns(Schedule::Heights(self.right), &[], values, by, steps).amount
+        change_columns(Schedule::Heights(self.right), &[], sizes, by, steps).amount
     }
 
     ghost nothing = { shrinks_by-none (λ (s : Self). Least s.right) };

@@ -1,10 +1,9 @@
 //! Changes of all columns by a schedule.
 ghost use Rattle.std.specs.Prelude.{◌≡◌, ℕ, ◌+◌, ◌*◌, ◌<◌, ◌≤◌, length};
-ghost use Rattle.tabled_priority.specs.Schedule.{CanChange, StaysInRange, IsChanged, IsScheduled};
-ghost use Rattle.tabled_priority.specs.Schedule.{IsSpan};
-ghost use Rattle.tabled_priority.specs.Schedule.{IsSpanBy, amount_by, columns_of, first_level};
-ghost use Rattle.tabled_priority.specs.Schedule.{first_of};
-ghost use Rattle.tabled_priority.specs.Schedule.{last_level, last_of, open_of, share};
+ghost use Rattle.tabled_priority.specs.Schedule.{CanChange, IsChanged, IsScheduled, IsSpan};
+ghost use Rattle.tabled_priority.specs.Schedule.{IsSpanBy, StaysInRange, amount_by, columns_of};
+ghost use Rattle.tabled_priority.specs.Schedule.{first_level, first_of, last_level, last_of};
+ghost use Rattle.tabled_priority.specs.Schedule.{open_of, share};
 ghost use Rattle.tabled_priority.specs.Permitted.{at};
 ghost use Rattle.tabled_priority.specs.Shrunk.{is_met, place_after, start};
 ghost use Rattle.tabled_priority.specs.Sums.{one_if};

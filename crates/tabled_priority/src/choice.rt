@@ -42,7 +42,7 @@ impl Choice {
     }
 
     /// Returns the index of the size above its minimum that comes first.
-    fn chosen(self, mins: &[usize], values: &[usize], steps: &mut Steps) -> Option<usize>
+    pub(crate) fn chosen(self, mins: &[usize], values: &[usize], steps: &mut Steps) -> Option<usize>
         ensures answer { MatchOption result (NoneAbove values.now mins.now)
             (IsChosen self values.now mins.now) }
         ensures inside { IfSome result (λ i. i < length values.now) }
@@ -59,14 +59,6 @@ impl Choice {
             }
         }
         best
-    }
-
-    /// Returns that index without a count of the columns that are read.
-    pub(crate) fn peak(self, mins: &[usize], values: &[usize]) -> Option<usize>
-        ensures { MatchOption result (NoneAbove values.now mins.now)
-            (IsChosen self values.now mins.now) }
-    {
-        self.chosen(mins, values, &mut Steps::new())
     }
 
     /// Adds the whole amount to the size that comes first. Returns 0 if all sizes are 0.

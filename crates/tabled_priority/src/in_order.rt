@@ -140,12 +140,8 @@ pub(crate) fn shrink_smallest(
     }
     let sizes = find_sizes(&Spares { mins, values }, wanted, steps);
     let ceiling = sizes.base;
-    let smaller = Bracket { base: 0, ceiling };
-    let taken = Pass {
-        right,
-        sizes: smaller,
-    }
-    .take(mins, values, wanted, steps);
+    let low = Bracket { base: 0, ceiling };
+    let taken = Pass { right, sizes: low }.take(mins, values, wanted, steps);
     Pass { right, sizes }.take(mins, values, wanted - taken, steps);
     wanted
 }

@@ -70,21 +70,21 @@ impl PriorityNone {
 }
 
 impl Peaker for PriorityNone {
-    ghost peaks = { λ s values mins answer t. MatchOption answer
-        (NoneAbove values mins × (t ≡ s))
-        (λ i. IsNext s.kept values mins i × (t.kept ≡ place_after (length values) i)) };
+    ghost peaks = { λ s sizes mins answer t. MatchOption answer
+        (NoneAbove sizes mins × (t ≡ s))
+        (λ i. IsNext s.kept sizes mins i × (t.kept ≡ place_after (length sizes) i)) };
 
     ghost shrinks = { λ s old mins by new t. IsRoundShrunk s.kept old mins by new t.kept };
 
     ghost grows = { λ s old by new t. IsRoundGrown s.kept old by new t.kept };
 
-    fn peak(&mut self, mins: &[usize], values: &[usize]) -> Option<usize> {
-        let count = values.len();
+    fn peak(&mut self, mins: &[usize], sizes: &[usize]) -> Option<usize> {
+        let count = sizes.len();
         let start = if self.kept < count { self.kept } else { 0 };
         let mut place = start;
         for _turn in 0..count {
             let next = place_after(count, place);
-            let column = visit(mins, values, place, &mut Steps::new());
+            let column = visit(mins, sizes, place, &mut Steps::new());
             if column.value > column.least {
                 self.kept = next;
                 return Some(place);
@@ -94,52 +94,46 @@ impl Peaker for PriorityNone {
         None
     }
 
-    fn shrink(
-        &mut self,
-        mins: &[usize],
-        values: &mut [usize],
-        by: usize,
-        steps: &mut Steps,
-    ) -> usize
-        ensures shrinks { IsRoundShrunk self.old.kept values.old mins.now by values.new
+    fn shrink(&mut self, mins: &[usize], sizes: &mut [usize], by: usize, steps: &mut Steps) -> usize
+        ensures shrinks { IsRoundShrunk self.old.kept sizes.old mins.now by sizes.new
             self.new.kept }
-        ensures even { HasEvenLosses values.old mins.now values.new }
-        ensures shrinking { Shrinks values.old mins.now by values.new result steps.old steps.new }
+        ensures even { HasEvenLosses sizes.old mins.now sizes.new }
+        ensures shrinking { Shrinks sizes.old mins.now by sizes.new result steps.old steps.new }
     {
-        let change = change_columns(Schedule::Rounds(self.kept), mins, values, by, steps);
+        let change = change_columns(Schedule::Rounds(self.kept), mins, sizes, by, steps);
         self.kept = change.kept;
         change.amount
     }
 
-    fn grow(&mut self, values: &mut [usize], by: usize, steps: &mut Steps) -> usize
-        requires { sum values.old + by < 2 ^ 64 }
-        ensures grows { IsRoundGrown self.old.kept values.old by values.new self.new.kept }
-        ensures growing { Grows values.old by values.new result steps.old steps.new }
+    fn grow(&mut self, sizes: &mut [usize], by: usize, steps: &mut Steps) -> usize
+        requires { sum sizes.old + by < 2 ^ 64 }
+        ensures grows { IsRoundGrown self.old.kept sizes.old by sizes.new self.new.kept }
+        ensures growing { Grows sizes.old by sizes.new result steps.old steps.new }
     {
-        let change = change_columns(Schedule::Gains(self.kept), &[], values, by, steps);
+        let change = change_columns(Schedule::Gains(self.kept), &[], sizes, by, steps);
         self.kept = change.kept;
         change.amount
     }
 
-    ghost nothing = { λ s values mins. IsRoundShrunk-none s.kept values mins };
+    ghost nothing = { λ s sizes mins. IsRoundShrunk-none s.kept sizes mins };
 
-    ghost ends = { λ s t values mins by fits named.
-        subst (λ k. IsRoundShrunk s.kept values mins by values k.kept) (sym named.1)
-        (IsRoundShrunk-done s.kept values mins by named.0) };
+    ghost ends = { λ s t sizes mins by fits named.
+        subst (λ k. IsRoundShrunk s.kept sizes mins by sizes k.kept) (sym named.1)
+        (IsRoundShrunk-done s.kept sizes mins by named.0) };
 
-    ghost goes_on = { λ s t u values mins new by i fits above named rest.
-        IsRoundShrunk-step s.kept values mins i by new u.kept named.0
-        (subst (λ k. IsRoundShrunk k (lowered values i) mins by new u.kept) named.1 rest) };
+    ghost goes_on = { λ s t u sizes mins new by i fits above named rest.
+        IsRoundShrunk-step s.kept sizes mins i by new u.kept named.0
+        (subst (λ k. IsRoundShrunk k (lowered sizes i) mins by new u.kept) named.1 rest) };
 
-    ghost grows_nothing = { λ s values. IsRoundGrown-nothing s.kept values };
+    ghost grows_nothing = { λ s sizes. IsRoundGrown-nothing s.kept sizes };
 
-    ghost growing_ends = { λ s t values by named.
-        subst (λ k. IsRoundGrown s.kept values by values k.kept) (sym named.1)
-        (IsRoundGrown-none s.kept values by named.0) };
+    ghost growing_ends = { λ s t sizes by named.
+        subst (λ k. IsRoundGrown s.kept sizes by sizes k.kept) (sym named.1)
+        (IsRoundGrown-none s.kept sizes by named.0) };
 
-    ghost growing_goes_on = { λ s t u values new by i above named rest.
-        IsRoundGrown-step s.kept values i by new u.kept named.0
-        (subst (λ k. IsRoundGrown k (raised values i) by new u.kept) named.1 rest) };
+    ghost growing_goes_on = { λ s t u sizes new by i above named rest.
+        IsRoundGrown-step s.kept sizes i by new u.kept named.0
+        (subst (λ k. IsRoundGrown k (raised sizes i) by new u.kept) named.1 rest) };
 }
 
 impl TakesAll for PriorityNone {

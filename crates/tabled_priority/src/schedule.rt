@@ -2,11 +2,10 @@
 ghost use Rattle.std.specs.Prelude.{◌≡◌, ℕ, ◌+◌, ◌-◌, ◌<◌, ◌≤◌, nat_le, nat_lt, ◌&&◌, length, min};
 ghost use Rattle.std.specs.Prelude.{true, ◌*◌};
 ghost use Rattle.tabled_priority.specs.Permitted.{at};
-ghost use Rattle.tabled_priority.specs.Schedule.{CanChange, IsChanged, columns_of, first_of};
-ghost use Rattle.tabled_priority.specs.Schedule.{is_from_right, is_open};
-ghost use Rattle.tabled_priority.specs.Schedule.{last_of, open_of, first_level, last_level};
-ghost use Rattle.tabled_priority.specs.Schedule.{start_of, total_amount};
-ghost use Rattle.tabled_priority.specs.Schedule.{StaysInRange, IsBase, IsReached, amount_by, total_of};
+ghost use Rattle.tabled_priority.specs.Schedule.{CanChange, IsBase, IsChanged, IsReached, last_of};
+ghost use Rattle.tabled_priority.specs.Schedule.{StaysInRange, amount_by, columns_of, first_level};
+ghost use Rattle.tabled_priority.specs.Schedule.{first_of, is_from_right, is_open, last_level};
+ghost use Rattle.tabled_priority.specs.Schedule.{open_of, start_of, total_amount, total_of};
 ghost use Rattle.tabled_priority.specs.Shrunk.{start};
 ghost use Rattle.tabled_priority.specs.Visits.{counted};
 

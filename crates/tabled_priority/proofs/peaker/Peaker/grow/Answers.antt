@@ -6,7 +6,7 @@ use Rattle.tabled_priority.proofs.peaker.Peaker.grow.Goals as goal
 
 pub loop-added-preserved : goal.loop-added-preserved
 loop-added-preserved g c =
-    let v = c.loop-added.values in
+    let v = c.loop-added.sizes in
     let p = c.in-Some.place in
     let above : IsAbove v [] p = c.in-Some.ensures.place in
     let l = IsRaised-raised v p 0 above.1 in
@@ -14,15 +14,15 @@ loop-added-preserved g c =
       onward = λ w u h. c.loop-added.invariant.onward w u
           (subst (λ (n : ℕ). g.Self.Peaker.grows c.loop-added.self v n w u) (omega arith)
           (g.met.Self.Peaker.growing_goes_on _ _ u v w (c.args.by - (c.loop-added.added + 1)) p above c.in-Some.ensures.peaks h));
-      kept = IsNoneSmaller-raised c.args.values.now v p above.1 c.loop-added.invariant.kept;
+      kept = IsNoneSmaller-raised c.args.sizes.now v p above.1 c.loop-added.invariant.kept;
       total = let s = l.total in omega (arith, c.loop-added.invariant.total);
-      visits = let less = changed-le c.args.values.now (raised v p) in omega arith;
+      visits = let less = changed-le c.args.sizes.now (raised v p) in omega arith;
     }
 
 pub loop-added-init : goal.loop-added-init
 loop-added-init g c = record {
-  onward = λ w u h. subst (λ (n : ℕ). g.Self.Peaker.grows c.args.self.now c.args.values.now n w u) (omega arith) h;
+  onward = λ w u h. subst (λ (n : ℕ). g.Self.Peaker.grows c.args.self.now c.args.sizes.now n w u) (omega arith) h;
   kept = search rules;
   total = omega arith;
-  visits = let none = changed-self c.args.values.now in omega arith;
+  visits = let none = changed-self c.args.sizes.now in omega arith;
 }

@@ -6,7 +6,7 @@ use Rattle.tabled_priority.proofs.peaker.Peaker.shrink.Goals as goal
 
 pub loop-taken-preserved : goal.loop-taken-preserved
 loop-taken-preserved g c =
-    let v = c.loop-taken.values in
+    let v = c.loop-taken.sizes in
     let p = c.in-Some.place in
     let above = c.in-Some.ensures.place in
     record {
@@ -14,15 +14,15 @@ loop-taken-preserved g c =
           (subst (λ (n : ℕ). g.Self.Peaker.shrinks c.loop-taken.self v c.args.mins.now n w u) (omega arith)
           (g.met.Self.Peaker.goes_on _ _ u v c.args.mins.now w (c.args.by - (c.loop-taken.taken + 1)) p (search rules)
           above c.in-Some.ensures.peaks h));
-      permitted = IsPermitted-lowered c.args.values.now c.args.mins.now v p above.1 c.loop-taken.invariant.permitted;
+      permitted = IsPermitted-lowered c.args.sizes.now c.args.mins.now v p above.1 c.loop-taken.invariant.permitted;
       total = omega (arith, sum-lowered v p (at c.args.mins.now p) above.1, c.loop-taken.invariant.total);
-      visits = let less = changed-le c.args.values.now (lowered v p) in omega arith;
+      visits = let less = changed-le c.args.sizes.now (lowered v p) in omega arith;
     }
 
 pub loop-taken-init : goal.loop-taken-init
 loop-taken-init g c = record {
-  onward = λ w u h. subst (λ (n : ℕ). g.Self.Peaker.shrinks c.args.self.now c.args.values.now c.args.mins.now n w u) (omega arith) h;
+  onward = λ w u h. subst (λ (n : ℕ). g.Self.Peaker.shrinks c.args.self.now c.args.sizes.now c.args.mins.now n w u) (omega arith) h;
   permitted = search rules;
   total = omega arith;
-  visits = let none = changed-self c.args.values.now in omega arith;
+  visits = let none = changed-self c.args.sizes.now in omega arith;
 }

@@ -3,9 +3,9 @@ use Rattle.tabled_priority.proofs.peaker.Peaker.shrink.Given as goal
 
 abbrev pub invariant-loop-taken : goal.invariant-loop-taken
 invariant-loop-taken g l = record {
-  onward : (w : List ℕ) (u : g.row.Self.Denot) → g.Self.Peaker.shrinks l.self l.values l.mins (l.by - l.taken) w u
-      → g.Self.Peaker.shrinks l.fn.self l.fn.values l.mins l.by w u;
-  permitted : IsPermitted l.fn.values l.mins l.values;
-  total : sum l.values + l.taken ≡ sum l.fn.values;
-  visits : counted l.fn.steps.count (changed l.fn.values l.values) ≤ l.steps.count;
+  onward : (w : List ℕ) (u : g.row.Self.Denot) → g.Self.Peaker.shrinks l.self l.sizes l.mins (l.by - l.taken) w u
+      → g.Self.Peaker.shrinks l.fn.self l.fn.sizes l.mins l.by w u;
+  permitted : IsPermitted l.fn.sizes l.mins l.sizes;
+  total : sum l.sizes + l.taken ≡ sum l.fn.sizes;
+  visits : counted l.fn.steps.count (changed l.fn.sizes l.sizes) ≤ l.steps.count;
 }
