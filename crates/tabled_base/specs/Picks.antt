@@ -8,7 +8,6 @@ use Rattle.tabled_base.specs.declared.objects.Place.{Place}
 use Rattle.tabled_base.specs.declared.objects.Place.TheVariants.{At, Last}
 use Rattle.tabled_base.specs.declared.position.Entity.{Entity}
 use Rattle.tabled_base.specs.declared.position.Entity.TheVariants.{Cell, Column, Global, Row}
-use Rattle.tabled_base.specs.declared.segment.Block.{Block}
 use Rattle.tabled_base.specs.declared.segment.Stretch.{Stretch}
 
 -- an entity inside a number of rows and columns
@@ -45,6 +44,6 @@ abbrev pub block : List ℕ → List ℕ → List Entity
 block rows columns = flat_map (λ row. map (Cell row) columns) rows
 
 -- the entire table, or the cells of a block
-abbrev pub segment : Option Block → ℕ → ℕ → List Entity
+abbrev pub segment : Option (Stretch × Stretch) → ℕ → ℕ → List Entity
 segment None rows columns = Global ∷ []
-segment (Some kept) rows columns = block (stretch kept.rows rows) (stretch kept.columns columns)
+segment (Some kept) rows columns = block (stretch kept.0 rows) (stretch kept.1 columns)

@@ -9,7 +9,6 @@ use Rattle.tabled_base.specs.Picks.{IsPart, block, picked, picked_cell, segment,
 use Rattle.tabled_base.specs.declared.objects.Place.{Place}
 use Rattle.tabled_base.specs.declared.objects.Place.TheVariants.{At, Last}
 use Rattle.tabled_base.specs.declared.position.Entity.TheVariants.{Cell, Column, Global, Row}
-use Rattle.tabled_base.specs.declared.segment.Block.{Block}
 use Rattle.tabled_base.specs.declared.segment.Stretch.{Stretch}
 
 one_if_below : (index count : ℕ) → All (λ i. i < count) (if nat_lt index count then index ∷ [] else [])
@@ -71,8 +70,8 @@ block-inside (row ∷ rows) columns m n r c =
     (All-map (IsPart m n) (Cell row) columns (All-weaker (λ i. i < n) (λ i. (row < m) × (i < n)) (λ i h. (here, h)) columns c))
     (block-inside rows columns m n (All-tail (λ i. i < m) row rows r) c)
 
-pub segment-inside : (kept : Option Block) (rows columns : ℕ) → All (IsPart rows columns) (segment kept rows columns)
+pub segment-inside : (kept : Option (Stretch × Stretch)) (rows columns : ℕ) → All (IsPart rows columns) (segment kept rows columns)
 segment-inside None rows columns = All-cons (IsPart rows columns) Global [] tt (All-nil (IsPart rows columns))
 segment-inside (Some kept) rows columns =
-    block-inside (stretch kept.rows rows) (stretch kept.columns columns) rows columns (stretch-below kept.rows rows)
-    (stretch-below kept.columns columns)
+    block-inside (stretch kept.0 rows) (stretch kept.1 columns) rows columns (stretch-below kept.0 rows)
+    (stretch-below kept.1 columns)

@@ -1,5 +1,5 @@
 //! `IntoRecords`, the sources of rows that are read once.
-ghost use Rattle.std.specs.Prelude.{◌≡◌, Bool, List, true};
+ghost use Rattle.std.specs.Prelude.{Bool, List, true};
 ghost use Rattle.tabled_base.specs.Laws.{whole_rows};
 ghost use Rattle.tabled_base.specs.RowsGiven.{RowsBegin, RowsEnd, RowsGiven};
 

@@ -3,9 +3,13 @@ ghost use Rattle.std.specs.Prelude.{◌≡◌, ◌<◌, ℕ, IfErr, IfOk, OnErr,
 ghost use Rattle.std.specs.Option.{option_to_list};
 ghost use Rattle.tabled_base.specs.Cells.{columns};
 ghost use Rattle.std.specs.List.{All};
-ghost use Rattle.tabled_base.specs.Picks.{IsPart, picked};
+ghost use Rattle.tabled_base.specs.Picks.{IsPart, picked, picked_cell};
+ghost use Rattle.tabled_base.specs.PicksLaws.{picked_cell-inside, picked_columns-inside};
+ghost use Rattle.tabled_base.specs.PicksLaws.{picked_rows-inside};
 ghost use Rattle.tabled_base.specs.declared.error.TableError.TheVariants.{Memory};
+ghost use Rattle.tabled_base.specs.declared.objects.Place.TheVariants.{At, Last};
 ghost use Rattle.tabled_base.specs.declared.position.Entity.{Entity};
+ghost use Rattle.tabled_base.specs.declared.position.Entity.TheVariants.{Column, Row};
 
 use crate::error::TableError;
 use crate::position::Entity;
@@ -47,8 +51,6 @@ pub struct Rows {
 }
 
 impl Rows {
-    ghost use Rattle.tabled_base.specs.declared.objects.Place.TheVariants.{At, Last};
-
     /// Selects the row at an index, from 0 at the top.
     pub fn one(index: usize) -> Rows
         ensures { result.place ≡ At index }
@@ -73,9 +75,6 @@ impl Rows {
 }
 
 impl<R: ExactRecords> Object<R> for Rows {
-    ghost use Rattle.tabled_base.specs.declared.position.Entity.TheVariants.{Row};
-    ghost use Rattle.tabled_base.specs.PicksLaws.{picked_rows-inside};
-
     ghost picks = { λ s rows columns. map Row (picked s.place rows) };
 
     ghost inside = { λ s. picked_rows-inside s.place };
@@ -96,8 +95,6 @@ pub struct Columns {
 }
 
 impl Columns {
-    ghost use Rattle.tabled_base.specs.declared.objects.Place.TheVariants.{At, Last};
-
     /// Selects the column at an index, from 0 at the left.
     pub fn one(index: usize) -> Columns
         ensures { result.place ≡ At index }
@@ -122,9 +119,6 @@ impl Columns {
 }
 
 impl<R: ExactRecords> Object<R> for Columns {
-    ghost use Rattle.tabled_base.specs.declared.position.Entity.TheVariants.{Column};
-    ghost use Rattle.tabled_base.specs.PicksLaws.{picked_columns-inside};
-
     ghost picks = { λ s rows columns. map Column (picked s.place columns) };
 
     ghost inside = { λ s. picked_columns-inside s.place };
@@ -155,9 +149,6 @@ impl Cell {
 }
 
 impl<R: ExactRecords> Object<R> for Cell {
-    ghost use Rattle.tabled_base.specs.Picks.{picked_cell};
-    ghost use Rattle.tabled_base.specs.PicksLaws.{picked_cell-inside};
-
     ghost picks = { λ s rows columns. picked_cell s.row s.column rows columns };
 
     ghost inside = { λ s. picked_cell-inside s.row s.column };
@@ -173,9 +164,6 @@ impl<R: ExactRecords> Object<R> for Cell {
 
 /// Selects the cell in a row and a column, both from 0.
 impl<R: ExactRecords> Object<R> for (usize, usize) {
-    ghost use Rattle.tabled_base.specs.Picks.{picked_cell};
-    ghost use Rattle.tabled_base.specs.PicksLaws.{picked_cell-inside};
-
     ghost picks = { λ s rows columns. picked_cell s.0 s.1 rows columns };
 
     ghost inside = { λ s. picked_cell-inside s.0 s.1 };

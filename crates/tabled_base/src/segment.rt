@@ -1,6 +1,7 @@
 //! `Segment`, a selection of a block of cells or of the entire table.
 ghost use Rattle.std.specs.Prelude.{◌≡◌, ◌++◌, ◌<◌, ◌^◌, ℕ, None, OnErr, OnOk, length, map};
 ghost use Rattle.tabled_base.specs.Picks.{between, block, segment, stretch, within};
+ghost use Rattle.tabled_base.specs.PicksLaws.{segment-inside};
 ghost use Rattle.tabled_base.specs.declared.position.Entity.TheVariants.{Cell, Global};
 
 use crate::error::TableError;
@@ -17,18 +18,11 @@ pub(crate) struct Stretch {
     pub end: Option<usize>,
 }
 
-/// A block of cells, as its rows and columns.
-#[derive(Clone, Copy, Debug)]
-pub(crate) struct Block {
-    pub rows: Stretch,
-    pub columns: Stretch,
-}
-
 /// A selection of the entire table, or of a block of its cells.
 #[derive(Debug, Drop)]
 pub struct Segment {
-    // `None` for the entire table.
-    block: Option<Block>,
+    // The rows and the columns of a block, `None` for the entire table.
+    block: Option<(Stretch, Stretch)>,
 }
 
 impl Segment {
@@ -46,9 +40,7 @@ impl Segment {
             → segment result.block m n ≡ block (within (R.start_bound rows) (R.end_bound rows) m)
             (within (C.start_bound columns) (C.end_bound columns) n) }
     {
-        let rows = Stretch::new(&rows);
-        let columns = Stretch::new(&columns);
-        let block = Some(Block { rows, columns });
+        let block = Some((Stretch::new(&rows), Stretch::new(&columns)));
         Segment { block }
     }
 }
@@ -82,8 +74,6 @@ impl Stretch {
 }
 
 impl<R: ExactRecords> Object<R> for Segment {
-    ghost use Rattle.tabled_base.specs.PicksLaws.{segment-inside};
-
     ghost picks = { λ s rows columns. segment s.block rows columns };
 
     ghost inside = { λ s. segment-inside s.block };
@@ -92,9 +82,9 @@ impl<R: ExactRecords> Object<R> for Segment {
         let mut all = Vec::new(alloc);
         match self.block {
             None => all.push(Entity::Global)?,
-            Some(block) => {
-                let rows = block.rows.ends(records.count_rows());
-                let columns = block.columns.ends(records.count_columns());
+            Some((rows, columns)) => {
+                let rows = rows.ends(records.count_rows());
+                let columns = columns.ends(records.count_columns());
                 push_block(&mut all, rows, columns)?;
             }
         }

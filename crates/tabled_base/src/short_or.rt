@@ -19,28 +19,6 @@ pub(crate) enum ShortOr<S> {
     Other(S),
 }
 
-/// A string that can be truncated without allocating.
-pub trait Shorten: AsStr {
-    /// Makes one from a `String`.
-    fn owned(text: String) -> Self
-        ensures { Self.AsStr.text result ≡ string_bytes text };
-
-    /// Truncates the string to `length` bytes. Never allocates.
-    fn shorten(&mut self, length: usize)
-        requires { IsCharBoundary (Self.AsStr.text self.old) length }
-        ensures { Self.AsStr.text self.new ≡ take length (Self.AsStr.text self.old) };
-}
-
-impl Shorten for String {
-    fn owned(text: String) -> String {
-        text
-    }
-
-    fn shorten(&mut self, length: usize) {
-        self.truncate(length);
-    }
-}
-
 impl<S: AsStr> ShortOr<S> {
     /// Returns the text.
     #[inline(always)]
@@ -50,19 +28,6 @@ impl<S: AsStr> ShortOr<S> {
         match self {
             ShortOr::Short(short) => short.as_str(),
             ShortOr::Other(other) => other.as_str(),
-        }
-    }
-}
-
-impl<S: Shorten> ShortOr<S> {
-    /// Truncates the text to `length` bytes.
-    pub fn shorten(&mut self, length: usize)
-        requires { IsCharBoundary (bytes_of S.AsStr.text self.old) length }
-        ensures { bytes_of S.AsStr.text self.new ≡ take length (bytes_of S.AsStr.text self.old) }
-    {
-        match self {
-            ShortOr::Short(short) => short.truncate(length),
-            ShortOr::Other(other) => other.shorten(length),
         }
     }
 }
@@ -93,6 +58,17 @@ impl<S: AsStr + Drop> ShortOr<S> {
 }
 
 impl ShortOr<String> {
+    /// Truncates the text to `length` bytes. Never allocates.
+    pub fn shorten(&mut self, length: usize)
+        requires { IsCharBoundary (bytes_of string_bytes self.old) length }
+        ensures { bytes_of string_bytes self.new ≡ take length (bytes_of string_bytes self.old) }
+    {
+        match self {
+            ShortOr::Short(short) => short.truncate(length),
+            ShortOr::Other(other) => other.truncate(length),
+        }
+    }
+
     /// Copies a text. Allocates only if it has more than 16 bytes, and may then fail with `Memory`.
     pub fn copied(alloc: Global, text: &str) -> Result<ShortOr<String>, AllocError>
         ensures ok { IfOk result (λ copy. bytes_of string_bytes copy ≡ text.now) }

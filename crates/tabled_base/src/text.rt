@@ -1,5 +1,7 @@
 //! `Text`, a string with its width and number of lines.
-ghost use Rattle.std.specs.Prelude.{◌≡◌, ◌++◌, ◌<◌, ℕ, List, length, take, IfErr, IfOk};
+ghost use Rattle.std.specs.Cmp.{partial_equiv_from_equiv};
+ghost use Rattle.std.specs.Cmp.Lexicographic.{nat_list_eq_equiv, pointwise};
+ghost use Rattle.std.specs.Prelude.{◌≡◌, ◌++◌, ◌<◌, ℕ, List, length, nat_eq, take, IfErr, IfOk};
 ghost use Rattle.std.specs.Str.{IsCharBoundary};
 ghost use Rattle.tabled_base.specs.ShortOr.{FitsBehind};
 ghost use Rattle.tabled_base.specs.declared.error.TableError.TheVariants.{Memory};
@@ -7,7 +9,7 @@ ghost use Rattle.tabled_text.specs.Measure.{lines_of, text_columns};
 
 use crate::error::TableError;
 use crate::records::CellText;
-use crate::short_or::{SHORT_TEXT, ShortOr, Shorten};
+use crate::short_or::{SHORT_TEXT, ShortOr};
 use std::alloc::Global;
 use std::convert::AsStr;
 use std::marker::Model;
@@ -59,25 +61,6 @@ impl<S: AsStr + Drop> Text<S> {
     }
 }
 
-impl<S: Shorten + Drop> Text<S> {
-    /// Truncates the text to `bytes` bytes and appends an ending. A nonempty ending must leave at
-    /// most 16 bytes in all.
-    pub(crate) fn shorten(&mut self, bytes: usize, ending: &str)
-        requires boundary { IsCharBoundary self.old bytes }
-        requires fits { FitsBehind bytes ending.now }
-        ensures { self.new ≡ take bytes self.old ++ ending.now }
-    {
-        if ending.is_empty() {
-            self.text.shorten(bytes);
-        } else {
-            self.text.end_with(bytes, ending);
-        }
-        let (columns, lines) = text_measures(self.text.as_str());
-        self.columns = columns;
-        self.lines = lines;
-    }
-}
-
 impl<S: AsStr> CellText for Text<S> {
     ghost text = { λ t. t };
 
@@ -95,6 +78,23 @@ impl<S: AsStr> CellText for Text<S> {
 }
 
 impl Text<String> {
+    /// Truncates the text to `bytes` bytes and appends an ending. A nonempty ending must leave at
+    /// most 16 bytes in all.
+    pub(crate) fn shorten(&mut self, bytes: usize, ending: &str)
+        requires boundary { IsCharBoundary self.old bytes }
+        requires fits { FitsBehind bytes ending.now }
+        ensures { self.new ≡ take bytes self.old ++ ending.now }
+    {
+        if ending.is_empty() {
+            self.text.shorten(bytes);
+        } else {
+            self.text.end_with(bytes, ending);
+        }
+        let (columns, lines) = text_measures(self.text.as_str());
+        self.columns = columns;
+        self.lines = lines;
+    }
+
     /// Copies and measures a text. Texts of at most 16 bytes are stored inline, so only a longer
     /// one may fail with `Memory`.
     pub fn copied(alloc: Global, text: &str) -> Result<Text<String>, TableError>
@@ -126,10 +126,6 @@ impl Text<String> {
 }
 
 impl<S: AsStr> PartialEq for Text<S> {
-    ghost use Rattle.std.specs.Prelude.{nat_eq};
-    ghost use Rattle.std.specs.Cmp.{partial_equiv_from_equiv};
-    ghost use Rattle.std.specs.Cmp.Lexicographic.{nat_list_eq_equiv, pointwise};
-
     ghost eq = { pointwise nat_eq };
 
     ghost laws = { partial_equiv_from_equiv nat_list_eq_equiv };
@@ -140,7 +136,5 @@ impl<S: AsStr> PartialEq for Text<S> {
 }
 
 impl<S: AsStr> Eq for Text<S> {
-    ghost use Rattle.std.specs.Cmp.Lexicographic.{nat_list_eq_equiv};
-
     ghost laws = { nat_list_eq_equiv };
 }

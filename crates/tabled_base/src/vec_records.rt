@@ -1,5 +1,8 @@
 //! `VecRecords`, rows of equal length in vectors.
-ghost use Rattle.std.specs.Prelude.{◌≡◌, ℕ, List, IfErr, IfOk, OnErr, OnOk, map, string_bytes, ⊤};
+ghost use Rattle.std.specs.Cmp.{partial_equiv_from_equiv};
+ghost use Rattle.std.specs.Cmp.Lexicographic.{lists_equiv, nat_list_eq_equiv, pointwise};
+ghost use Rattle.std.specs.Prelude.{◌≡◌, ℕ, List, IfErr, IfOk, OnErr, OnOk, map, nat_eq, ⊤};
+ghost use Rattle.std.specs.Prelude.{string_bytes};
 ghost use Rattle.tabled_base.specs.Cells.{IsInside, IsRectangular, cell_at, columns, texts_of};
 ghost use Rattle.tabled_base.specs.Cells.{with_cell};
 ghost use Rattle.tabled_base.specs.declared.error.TableError.TheVariants.{Memory};
@@ -7,7 +10,6 @@ ghost use Rattle.tabled_base.specs.declared.error.TableError.TheVariants.{Memory
 use crate::error::TableError;
 use crate::position::Position;
 use crate::records::{CellText, ExactRecords, PeekableRecords, Records, RecordsMut};
-use crate::short_or::Shorten;
 use crate::text::Text;
 use std::alloc::Global;
 use std::marker::Model;
@@ -83,10 +85,6 @@ impl VecRecords<Text<String>> {
 }
 
 impl PartialEq for VecRecords<Text<String>> {
-    ghost use Rattle.std.specs.Prelude.{nat_eq};
-    ghost use Rattle.std.specs.Cmp.{partial_equiv_from_equiv};
-    ghost use Rattle.std.specs.Cmp.Lexicographic.{lists_equiv, nat_list_eq_equiv, pointwise};
-
     ghost eq = { pointwise (pointwise (pointwise nat_eq)) };
 
     ghost laws = { partial_equiv_from_equiv (lists_equiv (lists_equiv nat_list_eq_equiv)) };
@@ -97,8 +95,6 @@ impl PartialEq for VecRecords<Text<String>> {
 }
 
 impl Eq for VecRecords<Text<String>> {
-    ghost use Rattle.std.specs.Cmp.Lexicographic.{lists_equiv, nat_list_eq_equiv};
-
     ghost laws = { lists_equiv (lists_equiv nat_list_eq_equiv) };
 }
 
@@ -148,16 +144,14 @@ impl<T: CellText> PeekableRecords for VecRecords<T> {
 }
 
 /// A cell that is set owns its new text. `set` doesn't allocate and never fails.
-impl<S: Shorten + Drop> RecordsMut for VecRecords<Text<S>> {
+impl RecordsMut for VecRecords<Text<String>> {
     fn set(&mut self, at: Position, text: String) -> Result<(), TableError>
         requires { IsInside self.old at.row at.column }
         ensures ok { OnOk result
             (self.new ≡ with_cell self.old at.row at.column (string_bytes text)) }
-        ensures err { OnErr result (self.new ≡ self.old) }
-        ensures only { IfErr result (λ e. e ≡ Memory) }
         ensures never { OnErr result ⊥ }
     {
-        let cell = Text::new(S::owned(text));
+        let cell = Text::new(text);
         let row = &mut self.rows[at.row];
         row[at.column] = cell;
         Ok(())
@@ -177,10 +171,7 @@ impl<S: Shorten + Drop> RecordsMut for VecRecords<Text<S>> {
 pub(crate) fn first_length<T: CellText>(rows: &[Vec<T>]) -> usize
     ensures { result ≡ columns (texts_of T.text rows.now) }
 {
-    match rows.first() {
-        None => 0,
-        Some(row) => row.len(),
-    }
+    rows.first().map_or(0, |row| row.len())
 }
 
 fn clone_row(alloc: Global, row: &[Text<String>]) -> Result<Vec<Text<String>>, TableError>

@@ -2,10 +2,10 @@ use Rattle.tabled_base.proofs.Names.{IsRectangular, ap, cell_at, length, length-
 use Rattle.tabled_base.proofs.Names.{◌≡◌}
 use Rattle.tabled_base.proofs.ChangedCells.{texts_after, with_cell-rectangular}
 use Rattle.tabled_base.proofs.RowLemmas.{cell_read, row_inside}
-use Rattle.tabled_base.proofs.vec_records.VecRecordsTextRecordsMut.shorten.Goals as goal
+use Rattle.tabled_base.proofs.vec_records.VecRecordsTextStringRecordsMut.shorten.Goals as goal
 
 pub invariant_of-self : goal.invariant_of-self
-invariant_of-self g c =
+invariant_of-self c =
     let rows = c.self.inside.rows.items in
     let at = c.args.at in
     let there = row_inside (λ t. t) rows c.args.self.now at.row at.column c.self.view_is c.requires.inside in
@@ -14,7 +14,7 @@ invariant_of-self g c =
     (with_cell-rectangular (texts_of (λ t. t) rows) at.row at.column c.shorten.new.self there_too c.self.invariant)
 
 pub returns : goal.returns
-returns g c =
+returns c =
     let rows = c.self.inside.rows.items in
     let at = c.args.at in
     let there = row_inside (λ t. t) rows c.args.self.now at.row at.column c.self.view_is c.requires.inside in
