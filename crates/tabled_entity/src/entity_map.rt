@@ -1,5 +1,9 @@
 //! `EntityMap`, one setting of a table.
-ghost use Rattle.std.specs.Prelude.{◌≡◌, ℕ, IfOk, IfSome, IsOk, OnErr, OnOk, reverse, true};
+ghost use Rattle.std.specs.Cmp.{and_equiv, and_per, on_equiv, on_per};
+ghost use Rattle.std.specs.Cmp.Lexicographic.{lists_equiv, lists_per, pointwise};
+ghost use Rattle.std.specs.Prelude.{◌≡◌, ◌&&◌, ℕ, IfOk, IfSome, IsOk, OnErr, OnOk, reverse, true};
+ghost use Rattle.tabled_base.specs.contracts.position.EntityEq.TheImpl.Laws.{laws-law as entity_eq};
+ghost use Rattle.tabled_base.specs.contracts.position.EntityPartialEq.TheImpl.Laws.{laws-law as entity_per};
 ghost use Rattle.tabled_entity.specs.Changes.{for_all, setting_at, shared, with_change};
 ghost use Rattle.tabled_entity.specs.ChangeIndex.{AreParts, IsIndexed, IsPart, IsWhole};
 ghost use Rattle.tabled_entity.specs.RowValues.{value_at};
@@ -195,11 +199,6 @@ impl<T: Copy> EntityMap<T> {
 }
 
 impl<T: PartialEq> PartialEq for EntityMap<T> {
-    ghost use Rattle.std.specs.Prelude.{◌&&◌, reverse};
-    ghost use Rattle.std.specs.Cmp.{and_per, on_per};
-    ghost use Rattle.std.specs.Cmp.Lexicographic.{lists_per, pointwise};
-    ghost use Rattle.tabled_base.specs.contracts.position.EntityPartialEq.TheImpl.Laws.{laws-law as entity_per};
-
     ghost eq = { λ a b. T.eq a.global b.global
         && pointwise (λ p q. ⟦<Entity as PartialEq>⟧.eq p.0 q.0 && T.eq p.1 q.1) (reverse a.parts) (reverse b.parts) };
 
@@ -212,11 +211,6 @@ impl<T: PartialEq> PartialEq for EntityMap<T> {
 }
 
 impl<T: Eq> Eq for EntityMap<T> {
-    ghost use Rattle.std.specs.Prelude.{reverse};
-    ghost use Rattle.std.specs.Cmp.{and_equiv, on_equiv};
-    ghost use Rattle.std.specs.Cmp.Lexicographic.{lists_equiv};
-    ghost use Rattle.tabled_base.specs.contracts.position.EntityEq.TheImpl.Laws.{laws-law as entity_eq};
-
     ghost laws = { and_equiv (on_equiv (λ m. m.global) T.Eq.laws) (on_equiv (λ m. reverse m.parts)
         (lists_equiv (and_equiv (on_equiv (λ p. p.0) entity_eq)
         (on_equiv (λ p. p.1) T.Eq.laws)))) };

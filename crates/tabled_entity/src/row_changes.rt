@@ -1,7 +1,7 @@
 //! `RowChanges`, the latest changes that cover the cells of a row.
 ghost use Rattle.std.specs.Prelude.{◌≡◌, ℕ};
 ghost use Rattle.tabled_entity.specs.ChangeIndex.{later};
-ghost use Rattle.tabled_entity.specs.RowChanges.{latest_at, latest_of, place_in};
+ghost use Rattle.tabled_entity.specs.RowChanges.{latest_at, latest_of};
 
 use crate::run_map::{RunMap, in_dense};
 
@@ -14,13 +14,6 @@ pub(crate) enum RowChanges<'a> {
     Run(usize, &'a [usize]),
     /// The change for the row, those for columns, and those for the row's cells.
     Mixed(Option<usize>, &'a RunMap<usize>, Option<&'a RunMap<usize>>),
-}
-
-#[inline(always)]
-fn place_in(cells: Option<&RunMap<usize>>, column: usize) -> Option<usize>
-    ensures { result ≡ place_in cells.entry column }
-{
-    cells?.get(column).copied()
 }
 
 /// Returns the later of two changes, by their indices.
@@ -68,8 +61,9 @@ impl<'a> RowChanges<'a> {
             RowChanges::Same(place) => *place,
             RowChanges::Run(first, places) => in_dense(*first, *places, column).copied(),
             RowChanges::Mixed(row, columns, cells) => {
-                let of_cell = later(columns.get(column).copied(), place_in(*cells, column));
-                later(*row, of_cell)
+                let of_column = columns.get(column).copied();
+                let of_cell = cells.and_then(|map| map.get(column).copied());
+                later(*row, later(of_column, of_cell))
             }
         }
     }

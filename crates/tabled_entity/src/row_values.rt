@@ -39,11 +39,7 @@ fn value_of<'a, T>(global: &'a T, changes: &'a [(Entity, T)], place: Option<usiz
 impl<'a, T: Copy> RowValues<'a, T> {
     /// Makes the values of a row from all changes, and the latest ones for its cells.
     #[inline(always)]
-    pub(crate) fn new(
-        global: &'a T,
-        changes: &'a [(Entity, T)],
-        latest: RowChanges<'a>,
-    ) -> RowValues<'a, T>
+    pub(crate) fn new(global: &'a T, changes: &'a [(Entity, T)], latest: RowChanges<'a>) -> Self
         ensures { (column : ℕ) → value_at result column
             ≡ value_of global.now changes.now (latest_at latest.entry column) }
     {

@@ -3,7 +3,7 @@ ghost use Rattle.std.specs.Prelude.{◌≡◌, ◌+◌, ◌≤◌, ℕ, length, 
 ghost use Rattle.std.specs.Prelude.{IfNone, IfSome, None, OnErr, OnOk};
 ghost use Rattle.std.specs.Option.{option_copied};
 ghost use Rattle.tabled_entity.specs.RunMap.{HasNoValue, HoldsCell, HoldsValue, SameCells};
-ghost use Rattle.tabled_entity.specs.RunMap.{SameValues, in_dense, in_others, in_run, value_in};
+ghost use Rattle.tabled_entity.specs.RunMap.{SameValues, in_dense, in_run, value_in};
 
 use std::alloc::{AllocError, Global};
 use std::collections::BTreeMap;
@@ -61,21 +61,9 @@ impl<V: Drop> RunMap<V> {
         ensures { IfSome result (λ run. (number : ℕ)
             → in_dense run.0 run.1.now number ≡ value_in self.now number) }
     {
-        if self.others.is_empty() {
-            Some((self.first, self.run.as_slice()))
-        } else {
-            None
-        }
-    }
-
-    #[inline(always)]
-    fn in_others(&self, number: usize) -> Option<&V>
-        ensures { option_copied result ≡ in_others self.now number }
-    {
-        if self.others.is_empty() {
-            return None;
-        }
-        self.others.get(&number)
+        self.others
+            .is_empty()
+            .then_some((self.first, self.run.as_slice()))
     }
 
     #[inline(always)]
@@ -84,7 +72,8 @@ impl<V: Drop> RunMap<V> {
     {
         match in_dense(self.first, &self.run, number) {
             Some(value) => Some(value),
-            None => self.in_others(number),
+            None if self.others.is_empty() => None,
+            None => self.others.get(&number),
         }
     }
 
@@ -141,17 +130,6 @@ impl<V: Drop> RunMap<V> {
 
 /// A map from rows and columns.
 impl RunMap<RunMap<usize>> {
-    /// Stores the value of a cell in a row that has no values.
-    fn insert_row(&mut self, row: usize, column: usize, value: usize) -> Result<(), AllocError>
-        requires { value_in self.old row ≡ None }
-        ensures ok { OnOk result (HoldsCell self.old self.new row column value) }
-        ensures err { OnErr result (SameCells self.old self.new) }
-    {
-        let mut cells = RunMap::new(*self.run.allocator());
-        cells.insert(column, value)?;
-        self.insert(row, cells)
-    }
-
     /// Stores the value of a cell in a row that isn't in the run.
     fn insert_in_other_row(
         &mut self,
@@ -163,10 +141,12 @@ impl RunMap<RunMap<usize>> {
         ensures ok { OnOk result (HoldsCell self.old self.new row column value) }
         ensures err { OnErr result (SameCells self.old self.new) }
     {
-        match self.others.get_mut(&row) {
-            Some(cells) => cells.insert(column, value),
-            None => self.insert_row(row, column, value),
+        if let Some(cells) = self.others.get_mut(&row) {
+            return cells.insert(column, value);
         }
+        let mut cells = RunMap::new(*self.run.allocator());
+        cells.insert(column, value)?;
+        self.insert(row, cells)
     }
 
     /// Stores the value of a cell. If an allocation fails, no value changes.
