@@ -1,5 +1,8 @@
 //! The characters of a frame, and which of its lines are drawn.
 ghost use Rattle.std.specs.Prelude.{◌≡◌};
+ghost use Rattle.tabled_config.specs.Frame.{border_at, has_inner, has_left, has_right, if_any};
+ghost use Rattle.tabled_config.specs.Frame.{no_borders};
+ghost use Rattle.tabled_config.specs.Junction.{junction};
 
 /// The fifteen parts of a frame. A part that isn't set is a space if its line is drawn.
 #[derive(Clone, Copy, Debug, PartialEq, Eq, PartialOrd, Ord, Hash)]
@@ -50,8 +53,6 @@ pub struct HorizontalLine {
 }
 
 impl HorizontalLine {
-    ghost use Rattle.tabled_config.specs.Frame.{if_any};
-
     /// Returns the line if any of its characters is set.
     fn if_any(self) -> Option<HorizontalLine>
         ensures { result ≡ if_any self }
@@ -65,8 +66,6 @@ impl HorizontalLine {
 }
 
 impl<T> Borders<T> {
-    ghost use Rattle.tabled_config.specs.Frame.{no_borders};
-
     /// Creates borders without lines.
     pub fn empty() -> Borders<T>
         ensures { result ≡ no_borders }
@@ -92,8 +91,6 @@ impl<T> Borders<T> {
 }
 
 impl<T: Copy> Borders<T> {
-    ghost use Rattle.tabled_config.specs.Junction.{junction};
-
     /// Returns what is set for the junction of lines that continue on the given sides. `None` on
     /// fewer than two sides and for a straight line, where no lines meet.
     pub fn junction(&self, left: bool, right: bool, up: bool, down: bool) -> Option<T>
@@ -115,8 +112,6 @@ impl<T: Copy> Borders<T> {
 }
 
 impl Borders<char> {
-    ghost use Rattle.tabled_config.specs.Frame.{border_at, has_inner, has_left, has_right};
-
     /// Whether the left vertical line is drawn: any of its characters is set.
     pub fn has_left(&self) -> bool
         ensures { result ≡ has_left self.now }

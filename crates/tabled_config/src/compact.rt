@@ -1,6 +1,6 @@
 //! The settings of a compact table, the same for all cells (`CompactConfig`).
 ghost use Rattle.std.specs.Prelude.{◌≡◌};
-ghost use Rattle.tabled_config.specs.Compact.{IsColorless, IsPlainCompact};
+ghost use Rattle.tabled_config.specs.Compact.{IsPlainCompact};
 ghost use Rattle.tabled_config.specs.Frame.{frame_of};
 
 use crate::alignment::AlignmentHorizontal;

@@ -1,5 +1,11 @@
 //! Horizontal lines set by index.
-ghost use Rattle.std.specs.Prelude.{◌≡◌, ◌==◌, ℕ, if◌then◌else◌, IfOk, OnErr, OnOk, [], None, Some};
+ghost use Rattle.std.specs.Cmp.{and_equiv, and_per, nat_eq_equiv, on_equiv, on_per};
+ghost use Rattle.std.specs.Cmp.{partial_equiv_from_equiv};
+ghost use Rattle.std.specs.Cmp.Lexicographic.{lists_equiv, lists_per, pointwise};
+ghost use Rattle.std.specs.Prelude.{◌≡◌, ◌==◌, ◌&&◌, ℕ, if◌then◌else◌, IfOk, None, OnErr, OnOk};
+ghost use Rattle.std.specs.Prelude.{Some, [], nat_eq};
+ghost use Rattle.tabled_config.specs.contracts.borders.HorizontalLineEq.TheImpl.Laws.{laws-law as line_eq};
+ghost use Rattle.tabled_config.specs.contracts.borders.HorizontalLinePartialEq.TheImpl.Laws.{laws-law as line_per};
 ghost use Rattle.tabled_config.specs.Lines.{line_set, with_line};
 
 use crate::borders::HorizontalLine;
@@ -57,11 +63,6 @@ impl HorizontalLines {
 }
 
 impl PartialEq for HorizontalLines {
-    ghost use Rattle.std.specs.Prelude.{◌&&◌, nat_eq};
-    ghost use Rattle.std.specs.Cmp.{and_per, nat_eq_equiv, on_per, partial_equiv_from_equiv};
-    ghost use Rattle.std.specs.Cmp.Lexicographic.{lists_per, pointwise};
-    ghost use Rattle.tabled_config.specs.contracts.borders.HorizontalLinePartialEq.TheImpl.Laws.{laws-law as line_per};
-
     ghost eq = { λ a b. pointwise (λ p q. nat_eq p.0 q.0
         && ⟦<HorizontalLine as PartialEq>⟧.eq p.1 q.1) a b };
 
@@ -74,10 +75,6 @@ impl PartialEq for HorizontalLines {
 }
 
 impl Eq for HorizontalLines {
-    ghost use Rattle.std.specs.Cmp.{and_equiv, nat_eq_equiv, on_equiv};
-    ghost use Rattle.std.specs.Cmp.Lexicographic.{lists_equiv};
-    ghost use Rattle.tabled_config.specs.contracts.borders.HorizontalLineEq.TheImpl.Laws.{laws-law as line_eq};
-
     ghost laws = { lists_equiv (and_equiv (on_equiv (λ p. p.0) nat_eq_equiv)
         (on_equiv (λ p. p.1) line_eq)) };
 }

@@ -3,7 +3,7 @@
 //! - A configuration replaces the old one entirely. Settings that a `CompactConfig` lacks get the
 //!   defaults of `SpannedConfig::new`. A borrowed configuration is cloned, which allocates.
 //! - A style replaces the borders and, where lines can be set by index, all of those lines.
-ghost use Rattle.std.specs.Prelude.{◌≡◌, IsSome};
+ghost use Rattle.std.specs.Prelude.{IsSome};
 ghost use Rattle.tabled_config.specs.Options.{Becomes, Stays, colored, with_style};
 ghost use Rattle.tabled_config.specs.Spanned.{spanned_of_compact};
 

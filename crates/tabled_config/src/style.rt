@@ -25,13 +25,8 @@ fn line(left: char, main: char, intersection: char, right: char) -> HorizontalLi
 }
 
 // A frame of three horizontal lines, with one character for all vertical lines.
-fn frame(
-    top: HorizontalLine,
-    inner: HorizontalLine,
-    bottom: HorizontalLine,
-    vertical: char,
-) -> Style
-    ensures { result ≡ framed top inner bottom vertical }
+fn frame(top: HorizontalLine, inner: HorizontalLine, bottom: HorizontalLine, bar: char) -> Style
+    ensures { result ≡ framed top inner bottom bar }
 {
     Style {
         borders: Borders {
@@ -44,9 +39,9 @@ fn frame(
             bottom_right: bottom.right,
             bottom_intersection: bottom.intersection,
             horizontal: inner.main,
-            vertical: Some(vertical),
-            left: Some(vertical),
-            right: Some(vertical),
+            vertical: Some(bar),
+            left: Some(bar),
+            right: Some(bar),
             left_intersection: inner.left,
             right_intersection: inner.right,
             intersection: inner.intersection,

@@ -6,10 +6,10 @@ ghost use Rattle.tabled_entity.specs.Changes.{shared};
 use super::{CellStyle, SpannedConfig};
 use crate::sides::{Indent, Sides};
 
+#[tactic(auto, unfolding(crate::specs::Settings::style_at))]
 impl SpannedConfig {
     /// Whether two rows are known to have the same styles, column by column: no style was set for
     /// either row, nor for one of their cells.
-    #[tactic(auto, unfolding(crate::specs::Settings::style_at))]
     pub fn are_alike(&self, row: usize, other: usize) -> bool
         ensures { result ≡ true → (column : ℕ)
             → style_at self.now row column ≡ style_at self.now other column }
@@ -22,7 +22,6 @@ impl SpannedConfig {
 
     /// Whether all rows are known to have the same styles, column by column: no style was set for a
     /// row or a cell.
-    #[tactic(auto, unfolding(crate::specs::Settings::style_at))]
     pub fn are_all_alike(&self) -> bool
         ensures { result ≡ true → (row other column : ℕ)
             → style_at self.now row column ≡ style_at self.now other column }
@@ -36,7 +35,6 @@ impl SpannedConfig {
     /// Whether two rows are known to have the same paddings, column by column: no padding was set
     /// for either row, nor for one of their cells.
     #[inline]
-    #[tactic(auto, unfolding(crate::specs::Settings::style_at))]
     pub fn are_padded_alike(&self, row: usize, other: usize) -> bool
         ensures { result ≡ true → (column : ℕ)
             → (style_at self.now row column).padding ≡ (style_at self.now other column).padding }
@@ -46,7 +44,6 @@ impl SpannedConfig {
 
     /// Whether all rows are known to have the same paddings, column by column: no padding was set
     /// for a row or a cell.
-    #[tactic(auto, unfolding(crate::specs::Settings::style_at))]
     pub fn are_all_padded_alike(&self) -> bool
         ensures { result ≡ true → (row other column : ℕ)
             → (style_at self.now row column).padding ≡ (style_at self.now other column).padding }
@@ -71,7 +68,6 @@ impl SpannedConfig {
 
     /// Returns the padding of all cells, if none was set for a row, a column or a cell.
     #[inline]
-    #[tactic(auto, unfolding(crate::specs::Settings::style_at))]
     pub fn shared_padding(&self) -> Option<Sides<Indent>>
         ensures value { result ≡ shared self.now.padding }
         ensures everywhere { IfSome result (λ padding. (row column : ℕ)

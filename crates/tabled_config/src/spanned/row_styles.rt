@@ -1,7 +1,7 @@
 //! The styles of a row's cells (`RowStyles`).
 ghost use Rattle.std.specs.Prelude.{◌≡◌, ℕ, IfSome};
 ghost use Rattle.tabled_entity.specs.RowValues.{value_at};
-ghost use Rattle.tabled_config.specs.RowStyles.{DescribesStyles, plain_style, style_in};
+ghost use Rattle.tabled_config.specs.RowStyles.{DescribesStyles, style_in};
 ghost use Rattle.tabled_config.specs.Settings.{style_at};
 
 use super::{CellStyle, SpannedConfig};
@@ -30,18 +30,6 @@ pub enum RowStyles<'a> {
     Set(SetStyles<'a>),
 }
 
-/// The style of a cell without settings: no padding, at the left and the top.
-fn plain_style() -> CellStyle
-    ensures { result ≡ plain_style }
-{
-    CellStyle {
-        padding: Sides::filled(Indent::zero()),
-        horizontal: AlignmentHorizontal::Left,
-        vertical: AlignmentVertical::Top,
-        line_alignment: false,
-    }
-}
-
 impl<'a> RowStyles<'a> {
     /// Returns the style of a column. Columns after a list have no padding and are at the left and
     /// the top.
@@ -54,7 +42,12 @@ impl<'a> RowStyles<'a> {
             RowStyles::Alike(style) => *style,
             RowStyles::Listed(styles) => match styles.get(column) {
                 Some(style) => *style,
-                None => plain_style(),
+                None => CellStyle {
+                    padding: Sides::filled(Indent::zero()),
+                    horizontal: AlignmentHorizontal::Left,
+                    vertical: AlignmentVertical::Top,
+                    line_alignment: false,
+                },
             },
             RowStyles::Set(styles) => CellStyle {
                 padding: *styles.padding.at(column),
@@ -86,10 +79,10 @@ impl<'a> RowStyles<'a> {
     }
 }
 
+#[tactic(auto, unfolding(crate::specs::Settings::style_at))]
 impl SpannedConfig {
     /// Returns the style shared by all cells of a row. `None` only if a style was set for a column
     /// or for a cell of the row.
-    #[tactic(auto, unfolding(crate::specs::Settings::style_at))]
     pub fn row_style(&self, row: usize) -> Option<CellStyle>
         ensures { IfSome result (λ style. (column : ℕ) → style_at self.now row column ≡ style) }
     {
@@ -102,7 +95,6 @@ impl SpannedConfig {
     }
 
     /// Returns the styles of a row's cells.
-    #[tactic(auto, unfolding(crate::specs::Settings::style_at))]
     pub fn styles_in(&self, row: usize) -> RowStyles<'_>
         ensures { DescribesStyles result (style_at self.now row) }
     {
@@ -117,7 +109,6 @@ impl SpannedConfig {
     /// Returns the padding shared by all cells of a row. `None` only if padding was set for a
     /// column or for a cell of the row.
     #[inline(always)]
-    #[tactic(auto, unfolding(crate::specs::Settings::style_at))]
     pub fn row_padding(&self, row: usize) -> Option<&Sides<Indent>>
         ensures { IfSome result (λ padding. (column : ℕ)
             → (style_at self.now row column).padding ≡ padding.now) }
@@ -128,7 +119,6 @@ impl SpannedConfig {
     /// Returns the padding and horizontal alignment shared by all cells of a row. `None` only if
     /// one of them was set for a column or for a cell of the row.
     #[inline(always)]
-    #[tactic(auto, unfolding(crate::specs::Settings::style_at))]
     pub fn row_sides(&self, row: usize) -> Option<(&Sides<Indent>, AlignmentHorizontal)>
         ensures padding { IfSome result (λ sides. (column : ℕ)
             → sides.0.now ≡ (style_at self.now row column).padding) }
@@ -142,7 +132,6 @@ impl SpannedConfig {
 
     /// Returns the paddings of a row's cells.
     #[inline(always)]
-    #[tactic(auto, unfolding(crate::specs::Settings::style_at))]
     pub fn paddings_in(&self, row: usize) -> RowValues<'_, Sides<Indent>>
         ensures { (column : ℕ) → value_at result column ≡ (style_at self.now row column).padding }
     {
