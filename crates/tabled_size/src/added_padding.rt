@@ -138,12 +138,7 @@ impl KnownAdded {
     /// Computes what padding adds in a table with `rows` rows and `columns` columns. It is listed
     /// only if padding was set for a column. If an allocation fails, nothing is listed, and each
     /// row looks up its paddings.
-    pub(crate) fn new(
-        alloc: Global,
-        config: &SpannedConfig,
-        rows: usize,
-        columns: usize,
-    ) -> KnownAdded
+    pub(crate) fn new(alloc: Global, config: &SpannedConfig, rows: usize, columns: usize) -> Self
         ensures { KnowsAdded result config.now columns }
     {
         if let Some(padding) = config.shared_padding()

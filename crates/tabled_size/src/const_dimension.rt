@@ -111,8 +111,6 @@ impl<const COLUMNS: usize, const ROWS: usize> Dimension for ConstDimension<COLUM
 
 impl<R, C, const COLUMNS: usize, const ROWS: usize> Estimate<R, C>
     for ConstDimension<COLUMNS, ROWS> {
-    ghost estimates = { λ s records config t. t ≡ s };
-
     fn estimate(&mut self, _records: &R, _config: &C) -> Result<(), TableError>
         ensures ok { OnOk result (self.new ≡ self.old) }
         ensures err { OnErr result (self.new ≡ self.old) }
@@ -234,12 +232,8 @@ impl Dimension for StaticDimension {
 }
 
 impl<R, C> Estimate<R, C> for StaticDimension {
-    ghost estimates = { λ s records config t. t ≡ s };
-
     fn estimate(&mut self, _records: &R, _config: &C) -> Result<(), TableError>
         ensures ok { OnOk result (self.new ≡ self.old) }
-        ensures err { OnErr result (self.new ≡ self.old) }
-        ensures only { IfErr result (λ e. (e ≡ Memory) ⊎ ((e ≡ Range) × ⊥)) }
         ensures never { OnErr result ⊥ }
     {
         Ok(())
@@ -284,12 +278,8 @@ impl Dimension for ZeroDimension {
 }
 
 impl<R, C> Estimate<R, C> for ZeroDimension {
-    ghost estimates = { λ s records config t. t ≡ s };
-
     fn estimate(&mut self, _records: &R, _config: &C) -> Result<(), TableError>
         ensures ok { OnOk result (self.new ≡ self.old) }
-        ensures err { OnErr result (self.new ≡ self.old) }
-        ensures only { IfErr result (λ e. (e ≡ Memory) ⊎ ((e ≡ Range) × ⊥)) }
         ensures never { OnErr result ⊥ }
     {
         Ok(())

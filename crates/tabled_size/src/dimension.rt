@@ -45,8 +45,9 @@ pub trait Dimension {
 
 /// Sizes that can be estimated from records `R` and a configuration `C`.
 pub trait Estimate<R, C> {
-    // Relates the old sizes, the records and the configuration to the new sizes.
-    ghost estimates: { Self → R → C → Self → Type 0 };
+    // Relates the old sizes, the records and the configuration to the new sizes. By default nothing
+    // changes.
+    ghost estimates: { Self → R → C → Self → Type 0 } = { λ s _ _ t. t ≡ s };
 
     // A needed size exceeds `usize::MAX`. By default none does.
     ghost out_of_range: { Self → R → C → Type 0 } = { λ _ _ _. ⊥ };

@@ -49,12 +49,7 @@ impl PoolTableDimension {
 impl<R, C> TableOption<R, C, PoolTableDimension> for PoolTableDimension {
     ghost changes = { λ option r c d r' c' d'. (r' ≡ r) × ((c' ≡ c) × (d' ≡ option)) };
 
-    fn change(
-        self,
-        _records: &mut R,
-        _cfg: &mut C,
-        dims: &mut PoolTableDimension,
-    ) -> Result<(), TableError> {
+    fn change(self, _: &mut R, _: &mut C, dims: &mut Self) -> Result<(), TableError> {
         *dims = self;
         Ok(())
     }

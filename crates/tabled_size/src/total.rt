@@ -278,11 +278,8 @@ pub fn estimated_total_width<R: PeekableRecords>(
     if is_empty(records) {
         return Some(0);
     }
-    framed_width(
-        config,
-        records.count_columns(),
-        sum_columns(records, config)?,
-    )
+    let inside = sum_columns(records, config)?;
+    framed_width(config, records.count_columns(), inside)
 }
 
 #[tactic(auto, using(tabled_priority::proofs::Sums::sum_step))]
