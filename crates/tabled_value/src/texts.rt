@@ -61,10 +61,7 @@ pub(crate) fn push_text(row: &mut Vec<Text<String>>, text: &str) -> Result<(), T
     Ok(row.push(text)?)
 }
 
-pub(crate) fn push_texts(
-    row: &mut Vec<Text<String>>,
-    texts: Vec<CowStr<'_>>,
-) -> Result<(), AllocError>
+pub(crate) fn push_texts(row: &mut Vec<Text<String>>, texts: Vec<CowStr>) -> Result<(), AllocError>
     ensures texts { OnOk result
         (row.new.items ≡ row.old.items ++ map cow_str_bytes texts.entry.items) }
     ensures length { OnOk result (vec_len row.new ≡ vec_len row.old + vec_len texts.entry) }

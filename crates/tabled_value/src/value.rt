@@ -15,8 +15,8 @@ use tabled_base::{TableError, Text};
 
 /// A value that can be a row of a table, with one cell for each field.
 pub trait Tabled {
-    // The number of fields.
-    ghost LENGTH: { ℕ };
+    // The number of fields. By default one.
+    ghost LENGTH: { ℕ } = { 1 };
 
     // Relates a value to the strings that its fields may have.
     ghost shows: { Self → List (List ℕ) → Type 0 };

@@ -13,8 +13,6 @@ use std::borrow::CowStr;
 use tabled_base::{TableError, Text};
 
 impl Tabled for &str {
-    ghost LENGTH = { 1 };
-
     ghost shows = { λ s row. row ≡ s.now ∷ [] };
 
     ghost names = { codes "&str" ∷ [] };
@@ -43,8 +41,6 @@ impl Tabled for &str {
 }
 
 impl Tabled for String {
-    ghost LENGTH = { 1 };
-
     ghost shows = { λ s row. row ≡ string_bytes s ∷ [] };
 
     ghost names = { codes "String" ∷ [] };
@@ -67,8 +63,6 @@ impl Tabled for String {
 }
 
 impl Tabled for char {
-    ghost LENGTH = { 1 };
-
     ghost shows = { λ c row. row ≡ encode_utf8 c ∷ [] };
 
     ghost names = { codes "char" ∷ [] };
@@ -91,8 +85,6 @@ impl Tabled for char {
 }
 
 impl Tabled for bool {
-    ghost LENGTH = { 1 };
-
     ghost shows = { λ b row. row ≡ (if b then codes "true" else codes "false") ∷ [] };
 
     ghost names = { codes "bool" ∷ [] };
@@ -115,8 +107,6 @@ impl Tabled for bool {
 }
 
 impl Tabled for i8 {
-    ghost LENGTH = { 1 };
-
     ghost shows = { λ n row. row ≡ signed_decimal n ∷ [] };
 
     ghost names = { codes "i8" ∷ [] };
@@ -139,8 +129,6 @@ impl Tabled for i8 {
 }
 
 impl Tabled for i16 {
-    ghost LENGTH = { 1 };
-
     ghost shows = { λ n row. row ≡ signed_decimal n ∷ [] };
 
     ghost names = { codes "i16" ∷ [] };
@@ -163,8 +151,6 @@ impl Tabled for i16 {
 }
 
 impl Tabled for i32 {
-    ghost LENGTH = { 1 };
-
     ghost shows = { λ n row. row ≡ signed_decimal n ∷ [] };
 
     ghost names = { codes "i32" ∷ [] };
@@ -187,8 +173,6 @@ impl Tabled for i32 {
 }
 
 impl Tabled for i64 {
-    ghost LENGTH = { 1 };
-
     ghost shows = { λ n row. row ≡ signed_decimal n ∷ [] };
 
     ghost names = { codes "i64" ∷ [] };
@@ -211,8 +195,6 @@ impl Tabled for i64 {
 }
 
 impl Tabled for i128 {
-    ghost LENGTH = { 1 };
-
     ghost shows = { λ n row. row ≡ signed_decimal n ∷ [] };
 
     ghost names = { codes "i128" ∷ [] };
@@ -235,8 +217,6 @@ impl Tabled for i128 {
 }
 
 impl Tabled for isize {
-    ghost LENGTH = { 1 };
-
     ghost shows = { λ n row. row ≡ signed_decimal n ∷ [] };
 
     ghost names = { codes "isize" ∷ [] };
@@ -259,8 +239,6 @@ impl Tabled for isize {
 }
 
 impl Tabled for u8 {
-    ghost LENGTH = { 1 };
-
     ghost shows = { λ n row. row ≡ decimal n ∷ [] };
 
     ghost names = { codes "u8" ∷ [] };
@@ -283,8 +261,6 @@ impl Tabled for u8 {
 }
 
 impl Tabled for u16 {
-    ghost LENGTH = { 1 };
-
     ghost shows = { λ n row. row ≡ decimal n ∷ [] };
 
     ghost names = { codes "u16" ∷ [] };
@@ -307,8 +283,6 @@ impl Tabled for u16 {
 }
 
 impl Tabled for u32 {
-    ghost LENGTH = { 1 };
-
     ghost shows = { λ n row. row ≡ decimal n ∷ [] };
 
     ghost names = { codes "u32" ∷ [] };
@@ -331,8 +305,6 @@ impl Tabled for u32 {
 }
 
 impl Tabled for u64 {
-    ghost LENGTH = { 1 };
-
     ghost shows = { λ n row. row ≡ decimal n ∷ [] };
 
     ghost names = { codes "u64" ∷ [] };
@@ -355,8 +327,6 @@ impl Tabled for u64 {
 }
 
 impl Tabled for u128 {
-    ghost LENGTH = { 1 };
-
     ghost shows = { λ n row. row ≡ decimal n ∷ [] };
 
     ghost names = { codes "u128" ∷ [] };
@@ -379,8 +349,6 @@ impl Tabled for u128 {
 }
 
 impl Tabled for usize {
-    ghost LENGTH = { 1 };
-
     ghost shows = { λ n row. row ≡ decimal n ∷ [] };
 
     ghost names = { codes "usize" ∷ [] };

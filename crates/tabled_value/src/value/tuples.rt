@@ -1,7 +1,7 @@
 //! `Tabled` for tuples: the fields of each part, one after another. And for arrays of `Display`
 //! values: one field for each item, named by its index.
 ghost use Rattle.std.specs.List.{AllZip, range_with_len};
-ghost use Rattle.std.specs.Prelude.{◌+◌, ◌++◌, ◌-◌, ◌^◌, List, decimal, map, min};
+ghost use Rattle.std.specs.Prelude.{◌+◌, ◌++◌, ◌-◌, ◌^◌, decimal, map, min};
 ghost use Rattle.tabled_value.specs.Fields.{Joined, Says};
 
 use super::Tabled;
