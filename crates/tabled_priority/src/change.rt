@@ -77,32 +77,26 @@ fn find_span(ramps: &Ramps, reached: Reached, steps: &mut Steps) -> Span
 }
 
 /// Changes each column by its amount up to the level at its index.
-fn change_to(
-    schedule: Schedule,
-    mins: &[usize],
-    values: &mut [usize],
-    span: Span,
-    steps: &mut Steps,
-)
+fn change_to(schedule: Schedule, mins: &[usize], sizes: &mut [usize], span: Span, steps: &mut Steps)
     requires room { span.level < usize.MAX }
-    requires fits { (i : ℕ) → i < length values.old → CanChange schedule (at values.old i)
-        (share (first_level schedule values.old mins.now) (last_level schedule values.old mins.now)
+    requires fits { (i : ℕ) → i < length sizes.old → CanChange schedule (at sizes.old i)
+        (share (first_level schedule sizes.old mins.now) (last_level schedule sizes.old mins.now)
         span.level span.first span.last i) }
-    ensures same_length { length values.new ≡ length values.old }
-    ensures each { (i : ℕ) → i < length values.old → IsChanged schedule (at values.old i)
-        (share (first_level schedule values.old mins.now) (last_level schedule values.old mins.now)
-        span.level span.first span.last i) (at values.new i) }
-    ensures steps { steps.new.count ≡ counted steps.old.count (length values.old) }
+    ensures same_length { length sizes.new ≡ length sizes.old }
+    ensures each { (i : ℕ) → i < length sizes.old → IsChanged schedule (at sizes.old i)
+        (share (first_level schedule sizes.old mins.now) (last_level schedule sizes.old mins.now)
+        span.level span.first span.last i) (at sizes.new i) }
+    ensures steps { steps.new.count ≡ counted steps.old.count (length sizes.old) }
 {
-    for place in 0..values.len() {
+    for place in 0..sizes.len() {
         let ramps = Ramps {
             schedule,
             mins,
-            values,
+            values: sizes,
         };
         let ramp = ramps.visit(place, steps);
         let share = ramp.amount(span.level_at(place));
-        values[place] = schedule.changed(ramp.value, share);
+        sizes[place] = schedule.changed(ramp.value, share);
     }
 }
 

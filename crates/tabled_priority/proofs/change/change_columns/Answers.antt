@@ -69,7 +69,7 @@ returns-clause-changed c =
       span = c.find_span-span.ensures.span;
       side = c.find_span-span.ensures.side;
     } in
-    let new = c.change_to.new.values in
+    let new = c.change_to.new.sizes in
     let len = c.change_to.ensures.same_length in
     subst (λ x. IsScheduled k old mins c.args.by new x)
     (sym (c.place_after-kept.ensures ∙ ap (λ x. place_after x last) len))
@@ -84,5 +84,5 @@ returns-clause-visits c =
     let d = c.find_span-span.ensures.fewest in
     let e = c.find_span-span.ensures.most in
     let f = c.change_to.ensures.steps in
-    IsBounded-passes c.args.values.now c.change_to.new.values c.args.steps.now.count c.amount_by-amount.new.steps.count
+    IsBounded-passes c.args.values.now c.change_to.new.sizes c.args.steps.now.count c.amount_by-amount.new.steps.count
     c.change_to.new.steps.count c.amount_by-amount.ensures.steps (omega arith) (omega arith)

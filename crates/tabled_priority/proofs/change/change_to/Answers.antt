@@ -6,10 +6,10 @@ use Rattle.tabled_priority.proofs.change.change_to.Goals as goal
 -- what the column was found to be and to take
 pub changed-requires : goal.changed-requires
 changed-requires c =
-    let old = c.args.values.now in
+    let old = c.args.sizes.now in
     let p = c.loop-place.place in
     let own = c.loop-place.invariant.rest p (omega arith) in
-    let e = share-at c.args.schedule c.loop-place.values old c.args.mins.now p c.visit-ramp.result.from c.visit-ramp.result.to
+    let e = share-at c.args.schedule c.loop-place.sizes old c.args.mins.now p c.visit-ramp.result.from c.visit-ramp.result.to
     c.args.span.level c.level_at.result c.args.span.first c.args.span.last c.amount-share.result
     own c.visit-ramp.ensures.from c.visit-ramp.ensures.to c.level_at.ensures c.amount-share.ensures in
     subst (λ x. CanChange c.args.schedule c.visit-ramp.result.value x) (sym e)
@@ -19,9 +19,9 @@ changed-requires c =
 
 pub loop-place-preserved : goal.loop-place-preserved
 loop-place-preserved c =
-    let old = c.args.values.now in
+    let old = c.args.sizes.now in
     let mins = c.args.mins.now in
-    let xs = c.loop-place.values in
+    let xs = c.loop-place.sizes in
     let p = c.loop-place.place in
     let y = c.changed.result in
     let shares = share (first_level c.args.schedule old mins) (last_level c.args.schedule old mins)

@@ -3,10 +3,10 @@ use Rattle.tabled_priority.proofs.change.change_to.Given as goal
 
 abbrev pub invariant-loop-place : goal.invariant-loop-place
 invariant-loop-place l = record {
-  same_length : length l.values ≡ length l.fn.values;
-  done : (i : ℕ) → i < l.place → IsChanged l.schedule (at l.fn.values i)
-      (share (first_level l.schedule l.fn.values l.mins) (last_level l.schedule l.fn.values l.mins)
-      l.span.level l.span.first l.span.last i) (at l.values i);
-  rest : (i : ℕ) → l.place ≤ i → at l.values i ≡ at l.fn.values i;
+  same_length : length l.sizes ≡ length l.fn.sizes;
+  done : (i : ℕ) → i < l.place → IsChanged l.schedule (at l.fn.sizes i)
+      (share (first_level l.schedule l.fn.sizes l.mins) (last_level l.schedule l.fn.sizes l.mins)
+      l.span.level l.span.first l.span.last i) (at l.sizes i);
+  rest : (i : ℕ) → l.place ≤ i → at l.sizes i ≡ at l.fn.sizes i;
   steps : l.steps.count ≡ counted l.fn.steps.count l.place;
 }
