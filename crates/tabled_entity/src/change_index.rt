@@ -67,20 +67,11 @@ impl ChangeIndex {
 
     /// Whether there is no entry for a row, nor for one of its cells.
     #[inline(always)]
-    fn is_plain(&self, row: usize) -> bool
+    pub fn is_plain(&self, row: usize) -> bool
         ensures { result ≡ true → (column : ℕ)
             → latest (found self.now) row column ≡ found self.now (Column column) }
     {
         self.rows.get(row).is_none() && self.cells.get(row).is_none()
-    }
-
-    /// Whether two rows are known to have the same latest change in each column: there is no entry
-    /// for either row, nor for their cells.
-    pub fn are_alike(&self, row: usize, other: usize) -> bool
-        ensures { result ≡ true → (column : ℕ)
-            → latest (found self.now) row column ≡ latest (found self.now) other column }
-    {
-        self.is_plain(row) && self.is_plain(other)
     }
 
     /// Whether all rows are known to have the same latest change in each column: there is no entry

@@ -114,7 +114,7 @@ impl<T: Copy> EntityMap<T> {
         if self.changes.is_empty() {
             return true;
         }
-        self.places.are_alike(row, other)
+        self.places.is_plain(row) && self.places.is_plain(other)
     }
 
     /// Whether all rows are known to have the same value in each column: nothing was set for any

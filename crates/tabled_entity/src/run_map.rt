@@ -130,13 +130,8 @@ impl<V: Drop> RunMap<V> {
 
 /// A map from rows and columns.
 impl RunMap<RunMap<usize>> {
-    /// Stores the value of a cell in a row that isn't in the run.
-    fn insert_in_other_row(
-        &mut self,
-        row: usize,
-        column: usize,
-        value: usize,
-    ) -> Result<(), AllocError>
+    /// Stores the value of a cell in a row outside of the run.
+    fn insert_outside(&mut self, row: usize, column: usize, value: usize) -> Result<(), AllocError>
         requires { in_run self.old row ≡ None }
         ensures ok { OnOk result (HoldsCell self.old self.new row column value) }
         ensures err { OnErr result (SameCells self.old self.new) }
@@ -156,7 +151,7 @@ impl RunMap<RunMap<usize>> {
     {
         match self.index_of(row) {
             Some(index) if index < self.run.len() => self.run[index].insert(column, value),
-            _ => self.insert_in_other_row(row, column, value),
+            _ => self.insert_outside(row, column, value),
         }
     }
 }

@@ -9,9 +9,10 @@ returns-then-is_empty g c = λ _ column.
     sym (nothing_set inside.global inside.changes.items c.args.row column none ∙ ap (λ v. setting_at v c.args.row column) c.self.view_is)
     ∙ (nothing_set inside.global inside.changes.items c.args.other column none ∙ ap (λ v. setting_at v c.args.other column) c.self.view_is)
 
-pub returns : goal.returns
-returns g c = λ yes column.
+pub returns-then-is_plain : goal.returns-then-is_plain
+returns-then-is_plain g c = λ yes column.
     let inside = c.self.inside in
+    let same = c.is_plain.ensures c.if-is_plain.true column ∙ sym (c.is_plain-then-is_plain.ensures yes column) in
     sym (ap (λ v. setting_at v c.args.row column) c.self.view_is)
     ∙ (alike-found inside.global inside.places (reverse inside.changes.items) c.args.row c.args.other column c.self.invariant
-    (c.are_alike.ensures yes column) ∙ ap (λ v. setting_at v c.args.other column) c.self.view_is)
+    same ∙ ap (λ v. setting_at v c.args.other column) c.self.view_is)
