@@ -1,4 +1,4 @@
-use Rattle.tabled_entity.proofs.Names.{IsIndexed, [], ap, arith, get_or, length, reverse, reverse-append, subst, suc, sym, take, ◌+◌, ◌<◌}
+use Rattle.tabled_entity.proofs.Names.{IsIndexed, [], ap, arith, get_or, reverse, reverse-append, subst, suc, sym, take, ◌+◌}
 use Rattle.tabled_entity.proofs.Names.{◌∙◌, ◌∷◌, ◌≡◌}
 use Rattle.std.proofs.Math.Seq.{take-suc}
 use Rattle.std.proofs.lemmas.List.{length-take-le}

@@ -1,4 +1,4 @@
-use Rattle.tabled_entity.proofs.Names.{IsIndexed, reverse, subst, sym, ◌∙◌, ◌≡◌}
+use Rattle.tabled_entity.proofs.Names.{IsIndexed, reverse, subst, sym, ◌∙◌}
 use Rattle.tabled_entity.proofs.entity_map.EntityMap.clone.Goals as goal
 
 pub invariant_of-result : goal.invariant_of-result

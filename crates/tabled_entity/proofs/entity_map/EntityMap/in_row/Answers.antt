@@ -1,4 +1,4 @@
-use Rattle.tabled_entity.proofs.Names.{ap, arith, first_covering, length, reverse, setting_at, value_of, ◌∙◌, ◌≡◌}
+use Rattle.tabled_entity.proofs.Names.{ap, arith, setting_at, value_of, ◌∙◌}
 use Rattle.tabled_entity.specs.RowChanges.{latest_at}
 use Rattle.tabled_entity.proofs.Indexed.{nothing_set, value_of-latest}
 use Rattle.tabled_entity.proofs.entity_map.EntityMap.in_row.Goals as goal

@@ -1,4 +1,4 @@
-use Rattle.tabled_entity.proofs.Names.{arith, length, ◌<◌, ◌≡◌}
+use Rattle.tabled_entity.proofs.Names.{arith}
 use Rattle.tabled_entity.proofs.Runs.{run-row-held, run-row-same}
 use Rattle.tabled_entity.proofs.run_map.RunMap+RunMap+usize.insert_cell.Goals as goal
 
