@@ -10,9 +10,9 @@ ghost use Rattle.tabled_set.specs.CellChanges.{Higher, Lower};
 
 use crate::measurement::{Height, Measurement};
 use crate::resize::{Beginning, CellFilter, Change, ContentSizes, Resize, TextTransform};
-use crate::sizes::{estimated_rows, grown, shrunk};
+use crate::sizes::{PaddedSizes, estimated_rows, grown, shrunk};
 use crate::walk::{WalkOrder, change_cells};
-use std::alloc::Global;
+use std::alloc::AllocError;
 use tabled_base::{Entity, PeekableRecords, Position, RecordsMut, TableError, TableOption};
 use tabled_config::ColoredConfig;
 use tabled_size::{CompleteDimension, Peaker, PriorityNone, is_empty};
@@ -48,11 +48,11 @@ impl TextTransform for Lengthening {
         None
     }
 
-    fn apply(&self, alloc: Global, text: &str, content_size: usize) -> Result<String, TableError> {
-        let mut answer = String::from_str(alloc, text)?;
+    fn apply(&self, out: &mut String, text: &str, content_size: usize) -> Result<(), AllocError> {
+        out.clear();
+        out.push_str(text)?;
         let wanting = content_size.saturating_sub(count_lines(text));
-        push_copies(&mut answer, '\n', wanting)?;
-        Ok(answer)
+        push_copies(out, '\n', wanting)
     }
 }
 
@@ -138,34 +138,29 @@ impl TextTransform for Limiting {
         None
     }
 
-    fn apply(&self, alloc: Global, text: &str, content_size: usize) -> Result<String, TableError> {
-        let mut answer = String::new(alloc);
+    fn apply(&self, out: &mut String, text: &str, content_size: usize) -> Result<(), AllocError> {
+        out.clear();
         let mut left = content_size;
         for line in lines(text) {
             if left == 0 {
-                return Ok(answer);
+                return Ok(());
             }
             if left < content_size {
-                answer.push('\n')?;
+                out.push('\n')?;
             }
             left -= 1;
-            answer.push_str(line)?;
+            out.push_str(line)?;
         }
-        Ok(answer)
+        Ok(())
     }
 }
 
-/// The content height of each cell: its row's height, whatever its padding.
-#[derive(Drop)]
-struct RowContentHeights<'a> {
-    heights: &'a [usize],
-}
-
-impl<'a> ContentSizes for RowContentHeights<'a> {
-    ghost content_size_at = { λ s row column. Some (at s.heights.now row) };
+/// The content height of a cell is its row's height, whatever its padding.
+impl<'a> ContentSizes for PaddedSizes<'a> {
+    ghost content_size_at = { λ s row column. Some (at s.sizes.now row) };
 
     fn content_size(&self, at: Position) -> Option<usize> {
-        Some(self.heights.get(at.row).copied().unwrap_or(0))
+        Some(self.sizes.get(at.row).copied().unwrap_or(0))
     }
 }
 
@@ -216,7 +211,7 @@ impl<W: Measurement<Height> + Drop, P: Peaker + Drop, R: RecordsMut> TableOption
         let change = Change {
             transform: &self.transform,
             cell_filter: CellFilter::Higher,
-            content_sizes: &RowContentHeights { heights: &lower },
+            content_sizes: &PaddedSizes { sizes: &lower },
         };
         change_cells(&change, records, WalkOrder::ByRow, Entity::Global)?;
         dims.set_heights(lower);

@@ -9,7 +9,7 @@ use crate::measurement::{Max, Measurement, Min, Width};
 use crate::min_width::Filling;
 use crate::resize::{Beginning, CellFilter, Resize, TextTransform};
 use crate::truncate::Truncating;
-use std::alloc::Global;
+use std::alloc::AllocError;
 use tabled_base::{CellOption, Entity, RecordsMut, TableError, TableOption};
 use tabled_config::ColoredConfig;
 use tabled_text::text_width;
@@ -55,16 +55,18 @@ impl TextTransform for Justifying {
         None
     }
 
-    fn apply(&self, alloc: Global, text: &str, content_size: usize) -> Result<String, TableError> {
-        let filled = if text_width(text) < content_size {
-            Filling::new().apply(alloc, text, content_size)?
+    fn apply(&self, out: &mut String, text: &str, content_size: usize) -> Result<(), AllocError> {
+        if text_width(text) < content_size {
+            Filling::new().apply(out, text, content_size)?;
         } else {
-            String::from_str(alloc, text)?
-        };
-        if text_width(&filled) <= content_size {
-            return Ok(filled);
+            out.clear();
+            out.push_str(text)?;
         }
-        Truncating::new().apply(alloc, &filled, content_size)
+        if text_width(out.as_str()) <= content_size {
+            return Ok(());
+        }
+        let filled = String::from_str(*out.allocator(), out.as_str())?;
+        Truncating::new().apply(out, filled.as_str(), content_size)
     }
 }
 

@@ -9,7 +9,7 @@ ghost use Rattle.tabled_set.specs.TextLines.{filling};
 use crate::measurement::{Measurement, Width};
 use crate::resize::{Beginning, CellFilter, Resize, TextTransform};
 use crate::sizes::{grown, stored_columns};
-use std::alloc::Global;
+use std::alloc::AllocError;
 use tabled_base::{Entity, PeekableRecords, TableError, TableOption};
 use tabled_config::{ColoredConfig, SpannedConfig};
 use tabled_size::{CompleteDimension, Estimate, Peaker, PriorityNone, is_empty};
@@ -48,19 +48,19 @@ impl TextTransform for Filling {
         None
     }
 
-    fn apply(&self, alloc: Global, text: &str, content_size: usize) -> Result<String, TableError> {
-        let mut answer = String::new(alloc);
+    fn apply(&self, out: &mut String, text: &str, content_size: usize) -> Result<(), AllocError> {
+        out.clear();
         let mut begun = false;
         for line in lines(text) {
             if begun {
-                answer.push('\n')?;
+                out.push('\n')?;
             }
             begun = true;
-            answer.push_str(line)?;
+            out.push_str(line)?;
             let wanting = content_size.saturating_sub(line_width(line));
-            push_copies(&mut answer, self.fill, wanting)?;
+            push_copies(out, self.fill, wanting)?;
         }
-        Ok(answer)
+        Ok(())
     }
 }
 

@@ -1,6 +1,6 @@
 //! `Resize`, the type of the options that change widths and heights: their transforms of one text,
 //! the cells that they are for, and the change of one, in place if possible.
-ghost use Rattle.std.specs.Prelude.{◌≡◌, ℕ, Option, Some, true, IfErr, IfNone, IfOk, IfSome, List};
+ghost use Rattle.std.specs.Prelude.{◌≡◌, ℕ, Option, Some, true, IfErr, IfNone, IfSome, List};
 ghost use Rattle.std.specs.Prelude.{OnErr, OnOk, string_bytes};
 ghost use Rattle.std.specs.Str.{IsCharBoundary};
 ghost use Rattle.tabled_set.specs.Common.{Cell, cell_at, covers, IsInside, Memory};
@@ -11,8 +11,8 @@ ghost use Rattle.tabled_set.specs.Truncated.{ended_text};
 
 use crate::measurement::Measurement;
 use crate::walk::{WalkOrder, change_cells};
-use std::alloc::Global;
-use tabled_base::{CellOption, Entity, Position, RecordsMut, TableError};
+use std::alloc::AllocError;
+use tabled_base::{CellOption, Entity, Position, RecordsMut, SHORT_TEXT, TableError};
 use tabled_config::ColoredConfig;
 use tabled_size::{Peaker, PriorityNone};
 
@@ -193,12 +193,16 @@ pub trait TextTransform {
         ensures some { IfSome result (λ _. shortens self.now content_size text.now) }
         ensures none { IfNone result (shortens self.now content_size text.now → ⊥) };
 
-    /// Returns the transformed text. Fails only with `Memory`.
-    fn apply(&self, alloc: Global, text: &str, content_size: usize) -> Result<String, TableError>
-        ensures made { IfOk result (λ answer.
-            makes self.now content_size text.now (string_bytes answer)) }
-        ensures only { IfErr result (λ e. e ≡ Memory) };
+    /// Replaces `out` by the transformed text.
+    fn apply(&self, out: &mut String, text: &str, content_size: usize) -> Result<(), AllocError>
+        ensures { OnOk result (makes self.now content_size text.now (string_bytes out.new)) };
 }
+
+/// Does nothing. Its contract says that a text can be cut at its start.
+#[inline(always)]
+fn starts(text: &str)
+    ensures { IsCharBoundary text.now 0 }
+{}
 
 /// A change of cells: the transform, which cells it is for, and their content sizes.
 #[derive(Drop)]
@@ -209,12 +213,14 @@ pub struct Change<'a, T, M> {
 }
 
 impl<'a, T: TextTransform, M: ContentSizes> Change<'a, T, M> {
-    /// Changes a cell if it has a content size and passes the filter.
+    /// Changes a cell if it has a content size and passes the filter. A text that isn't cut in place
+    /// is made in `out`.
     #[inline(always)]
     pub(crate) fn change_cell<R: RecordsMut>(
         &self,
         records: &mut R,
         at: Position,
+        out: &mut String,
     ) -> Result<(), TableError>
         requires { IsInside (R.cells records.old) at.row at.column }
         ensures ok { let by = self.now in OnOk result (AreChanged (covers (Cell at.row at.column))
@@ -241,7 +247,12 @@ impl<'a, T: TextTransform, M: ContentSizes> Change<'a, T, M> {
             records.shorten(at, kept.bytes, kept.ending);
             return Ok(());
         }
-        let text = by.apply(records.allocator(), text, content_size)?;
-        records.set(at, text)
+        starts(text);
+        by.apply(out, text, content_size)?;
+        if out.len() <= SHORT_TEXT {
+            records.shorten(at, 0, out.as_str());
+            return Ok(());
+        }
+        records.set(at, String::from_str(records.allocator(), out.as_str())?)
     }
 }

@@ -136,8 +136,8 @@ pub(crate) fn grown<P: Peaker + Drop>(
 
 /// A list of sizes, read as 0 past its end.
 #[derive(Drop)]
-struct PaddedSizes<'a> {
-    sizes: &'a [usize],
+pub(crate) struct PaddedSizes<'a> {
+    pub(crate) sizes: &'a [usize],
 }
 
 impl<'a> Dimension for PaddedSizes<'a> {

@@ -85,14 +85,13 @@ impl<'a> TextTransform for Truncating<'a> {
         Some(Beginning { bytes, ending })
     }
 
-    fn apply(&self, alloc: Global, text: &str, content_size: usize) -> Result<String, TableError> {
-        let used = used_suffix(alloc, self.suffix, self.limit, content_size)?;
+    fn apply(&self, out: &mut String, text: &str, content_size: usize) -> Result<(), AllocError> {
+        let used = used_suffix(*out.allocator(), self.suffix, self.limit, content_size)?;
         if self.multiline {
-            return Ok(ended_lines(alloc, text, &used)?);
+            return ended_lines(out, text, &used);
         }
-        let mut answer = String::new(alloc);
-        push_ended(&mut answer, text, &used)?;
-        Ok(answer)
+        out.clear();
+        push_ended(out, text, &used)
     }
 }
 
@@ -187,25 +186,25 @@ fn push_ended(
     Ok(())
 }
 
-/// Returns the lines of a text, each cut to the columns left, with the suffix.
+/// Replaces `answer` by the lines of a text, each cut to the columns left, with the suffix.
 fn ended_lines(
-    alloc: Global,
+    answer: &mut String,
     text: &str,
     used: &UsedSuffix<CowStr<'_, Global>>,
-) -> Result<String, AllocError>
-    ensures { IfOk result (λ answer. HasEndedLines used.now.left (cow_str_bytes used.now.text)
-        text.now (string_bytes answer)) }
+) -> Result<(), AllocError>
+    ensures { OnOk result (HasEndedLines used.now.left (cow_str_bytes used.now.text)
+        text.now (string_bytes answer.new)) }
 {
-    let mut answer = String::new(alloc);
+    answer.clear();
     let mut begun = false;
     for line in lines(text) {
         if begun {
             answer.push('\n')?;
         }
         begun = true;
-        push_ended(&mut answer, line, used)?;
+        push_ended(answer, line, used)?;
     }
-    Ok(answer)
+    Ok(())
 }
 
 /// Truncates cells that are wider than the measured width: cuts the text, and appends a suffix. As
@@ -268,7 +267,9 @@ impl<'a, W, P> Truncate<'a, W, P> {
             text.now (string_bytes answer)) }
         ensures only { IfErr result (λ e. e ≡ Memory) }
     {
-        self.transform.apply(alloc, text, content_size)
+        let mut answer = String::new(alloc);
+        self.transform.apply(&mut answer, text, content_size)?;
+        Ok(answer)
     }
 }
 

@@ -11,7 +11,7 @@ ghost use Rattle.tabled_text.specs.Wrapping.{IsWrapped};
 use crate::measurement::{Measurement, Width};
 use crate::narrowing::narrow_table;
 use crate::resize::{Beginning, CellFilter, Resize, TextTransform};
-use std::alloc::Global;
+use std::alloc::{AllocError, Global};
 use tabled_base::{Entity, RecordsMut, TableError, TableOption};
 use tabled_config::ColoredConfig;
 use tabled_size::{CompleteDimension, Peaker, PriorityNone};
@@ -53,8 +53,9 @@ impl TextTransform for Wrapping {
         None
     }
 
-    fn apply(&self, alloc: Global, text: &str, content_size: usize) -> Result<String, TableError> {
-        Ok(wrap_text(alloc, text, content_size, self.keep_words)?)
+    fn apply(&self, out: &mut String, text: &str, content_size: usize) -> Result<(), AllocError> {
+        *out = wrap_text(*out.allocator(), text, content_size, self.keep_words)?;
+        Ok(())
     }
 }
 

@@ -10,7 +10,7 @@ loop-line-init c = λ rest h.
     record {
       lines = rest;
       each = subst (λ lines. AllZip (IsEnded used.left (cow_str_bytes used.text)) lines rest) (ap lines_left c.into_iter-line-iterator.ensures.into_iter_gives ∙ c.lines-line-items.ensures) h;
-      joined = ap (λ bytes. bytes ++ appended false rest) c.new-answer.ensures.bytes ∙ appended-all rest;
+      joined = ap (λ bytes. bytes ++ appended false rest) c.clear.ensures.bytes ∙ appended-all rest;
     }
 
 pub loop-line-preserved : goal.loop-line-preserved

@@ -1,6 +1,12 @@
 use Rattle.tabled_set.proofs.Names.{arith, err_from_is_err_and}
-use Rattle.tabled_set.proofs.ChangingCells.{AreChanged-next, on_line-itself, on_line-next, stops-there}
+use Rattle.tabled_set.proofs.ChangingCells.{AreChanged-next, IsInside-changed, inside_line, on_line-itself, on_line-next, stops-there}
 use Rattle.tabled_set.proofs.walk.change_line.Goals as goal
+
+pub change_cell-requires : goal.change_cell-requires
+change_cell-requires g c =
+    let at = c.cell.result in
+    IsInside-changed c.places.invariant
+    (inside_line c.args.order (g.R.ExactRecords.cells c.args.records.now) at.row at.column c.args.line c.places.place c.cell.ensures.line c.cell.ensures.place (omega arith) (omega arith))
 
 pub places-preserved : goal.places-preserved
 places-preserved g c =

@@ -6,4 +6,4 @@ use Rattle.tabled_set.proofs.heights.LimitingTextTransform.apply.Given as goal
 -- with the first lines that are left, the answer is whole
 abbrev pub invariant-loop-line : goal.invariant-loop-line
 invariant-loop-line l =
-    (string_bytes l.answer ++ appended (nat_lt l.left l.content_size) (take l.left (lines_left l.line-iterator)) ≡ limited l.content_size l.text) × (l.left ≤ l.content_size)
+    (string_bytes l.out ++ appended (nat_lt l.left l.content_size) (take l.left (lines_left l.line-iterator)) ≡ limited l.content_size l.text) × (l.left ≤ l.content_size)

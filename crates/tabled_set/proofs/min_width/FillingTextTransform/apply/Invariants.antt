@@ -6,4 +6,4 @@ use Rattle.tabled_set.proofs.min_width.FillingTextTransform.apply.Given as goal
 -- with the lines that are left, filled up, the answer is whole
 abbrev pub invariant-loop-line : goal.invariant-loop-line
 invariant-loop-line l =
-    string_bytes l.answer ++ appended l.begun (map (filled_line l.self.fill l.content_size) (lines_left l.line-iterator)) ≡ filled l.self.fill l.content_size l.text
+    string_bytes l.out ++ appended l.begun (map (filled_line l.self.fill l.content_size) (lines_left l.line-iterator)) ≡ filled l.self.fill l.content_size l.text
