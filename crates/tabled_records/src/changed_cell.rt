@@ -49,7 +49,7 @@ fn put(bytes: &mut [u8], start: usize, text: &str)
 
 impl ShortText {
     /// Joins and measures two texts.
-    fn joined(front: &str, ending: &str) -> ShortText
+    pub fn joined(front: &str, ending: &str) -> ShortText
         requires { length front.now + length ending.now ≤ SHORT_TEXT }
         ensures { result ≡ front.now ++ ending.now }
     {
@@ -100,17 +100,6 @@ impl Model for LongText {
 }
 
 impl LongText {
-    fn new(text: String) -> LongText
-        ensures { result ≡ string_bytes text }
-    {
-        let (columns, lines) = text_measures(text.as_str());
-        LongText {
-            text,
-            columns,
-            lines,
-        }
-    }
-
     fn shorten(&mut self, bytes: usize)
         requires { IsCharBoundary self.old bytes }
         ensures { self.new ≡ take bytes self.old }
@@ -146,7 +135,13 @@ impl<'a> ChangedCell<'a> {
             return Ok(ChangedCell::Short(ShortText::joined(text.as_str(), "")));
         }
         let alloc = *text.allocator();
-        Ok(ChangedCell::Long(Box::new(alloc, LongText::new(text))?))
+        let (columns, lines) = text_measures(text.as_str());
+        let long = LongText {
+            text,
+            columns,
+            lines,
+        };
+        Ok(ChangedCell::Long(Box::new(alloc, long)?))
     }
 
     /// Returns the text of the cell with its columns and lines. `records` have the unchanged cell.

@@ -4,7 +4,7 @@ ghost use Rattle.tabled_base.specs.Cells.{IsInside, columns};
 ghost use Rattle.tabled_base.specs.declared.error.TableError.TheVariants.{Memory};
 ghost use Rattle.tabled_records.specs.Changed.{IsPlace, changed_rows, text_of};
 
-use crate::changed_cell::ChangedCell;
+use crate::changed_cell::{ChangedCell, ShortText};
 use std::alloc::Global;
 use std::marker::Model;
 use tabled_base::{ExactRecords, PeekableRecords, Position, RecordsMut, TableError};
@@ -111,6 +111,10 @@ impl<'a, R: PeekableRecords> RecordsMut for ChangedRecords<'a, R> {
     fn shorten(&mut self, at: Position, bytes: usize, ending: &str) {
         let records = self.records;
         let index = index_of(records, &self.cells, at);
+        if bytes == 0 {
+            self.cells[index] = ChangedCell::Short(ShortText::joined("", ending));
+            return;
+        }
         self.cells[index].shorten(records.get_text(at), bytes, ending);
     }
 
