@@ -1,7 +1,7 @@
 -- Printable ASCII, whose characters are its bytes and take a column each, broken between bytes.
 use Rattle.tabled_text.proofs.Names.{All, All-cons, All-nil, BeginsBy, Bool, IsParted, IsPiece, IsReached, IsUtf8, IsUtf8-append}
 use Rattle.tabled_text.proofs.Names.{IsUtf8-encode, IsUtf8-from_ascii, IsUtf8-nil, IsUtf8-past_char, List, TextUnit, [], and_parts, ap}
-use Rattle.tabled_text.proofs.Names.{append-nil, append_all, append_used, arith, char_count, chars, chars-append, chars-nil, cond, count_of}
+use Rattle.tabled_text.proofs.Names.{append-nil, append_all, append_assoc, append_used, arith, char_count, chars, chars-append, chars-nil, cond, count_of}
 use Rattle.tabled_text.proofs.Names.{drop, encode_utf8, encode_utf8_all, encodes-IsAscii, encodes-append, encodes-chars, false, is_in_range}
 use Rattle.tabled_text.proofs.Names.{last_line, last_of, le-leb, length, length-drop, length-take-le, lines_of, list_all, list_all-append}
 use Rattle.tabled_text.proofs.Names.{map, max, nat_le, nat_tests, needed, pending, refl, replicate, subst, sum_by-cons, sym, take, true}
@@ -66,13 +66,13 @@ fitted n used (c ∷ cs) le =
     }
 
 -- a line begins after a full one
-broken-one : (n : ℕ) (cs : List ℕ) → 0 < n → is_printable cs ≡ true → 0 < length cs
-    → append_all n n (map unit_of_char cs) ≡ 10 ∷ append_all n 0 (map unit_of_char cs)
-broken-one n [] some h l = absurd (omega arith)
-broken-one n (c ∷ cs) some h l =
+broken-one : (n : ℕ) (cs : List ℕ) (us : List TextUnit) → 0 < n → is_printable cs ≡ true → 0 < length cs
+    → append_all n n (map unit_of_char cs ++ us) ≡ 10 ∷ append_all n 0 (map unit_of_char cs ++ us)
+broken-one n [] us some h l = absurd (omega arith)
+broken-one n (c ∷ cs) us some h l =
     let one = count-printable c (and_parts (is_in_range 0x20 0x7E c) (is_printable cs) h).0 in
     let need : needed n (unit_of_char c) ≡ 1 = ap (λ k. cond (nat_le k n) k 1) one ∙ ap (λ b. cond b 1 1) (le-leb 1 n some) in
-    append_all-breaks n n (unit_of_char c) (map unit_of_char cs) some (omega (arith, need))
+    append_all-breaks n n (unit_of_char c) (map unit_of_char cs ++ us) some (omega (arith, need))
 
 map-append : (xs ys : List ℕ) → map unit_of_char (xs ++ ys) ≡ map unit_of_char xs ++ map unit_of_char ys
 map-append [] ys = refl
@@ -140,39 +140,26 @@ module _ (n m used columns : ℕ) (text piece rest : List ℕ) (p : IsPiece m te
 
 -- ---- printable ASCII in pieces
 
-pieces-more : (n : ℕ) (cs : List ℕ) → 0 < n → is_printable cs ≡ true → n < length cs
-    → append_all n 0 (map unit_of_char cs) ≡ take n cs ++ 10 ∷ append_all n 0 (map unit_of_char (drop n cs))
-pieces-more n cs some h long =
-    let front = take n cs in
-    let back = drop n cs in
-    let parts = parts-printable n cs h in
-    let len : length front ≡ n = length-take-le n cs (omega arith) in
+-- characters fill up a line from column k on, and those after them begin the next one
+pub filled-line : (n k m : ℕ) (cs : List ℕ) (us : List TextUnit) → 0 < n → k + m ≡ n → is_printable cs ≡ true → m < length cs
+    → append_all n k (map unit_of_char cs ++ us) ≡ take m cs ++ 10 ∷ append_all n 0 (map unit_of_char (drop m cs) ++ us)
+filled-line n k m cs us some e h long =
+    let front = take m cs in
+    let back = drop m cs in
+    let more = map unit_of_char back ++ us in
+    let parts = parts-printable m cs h in
+    let len : length front ≡ m = length-take-le m cs (omega arith) in
     let count = count_of-printable front parts.0 in
-    let fit = fitted n 0 front (omega arith) in
-    let full : used_after n 0 (map unit_of_char front) ≡ n = let e = fit.used_is in omega arith in
-    let left : 0 < length back = omega (arith, length-drop n cs) in
-    ap (λ l. append_all n 0 (map unit_of_char l)) (sym (take-append-drop n cs))
-    ∙ ap (append_all n 0) (map-append front back)
-    ∙ append_all-append n 0 (map unit_of_char front) (map unit_of_char back)
-    ∙ ap (λ l. l ++ append_all n (used_after n 0 (map unit_of_char front)) (map unit_of_char back)) fit.text
-    ∙ ap (λ k. front ++ append_all n k (map unit_of_char back)) full
-    ∙ ap (λ l. front ++ l) (broken-one n back some parts.1 left)
-
--- what is written of n bytes before more
-pub written-piece : (n : ℕ) (rest : List ℕ) → 0 < n → is_printable rest ≡ true → n < length rest
-    → take n rest ++ (encode_utf8 10 ++ encode_utf8_all (append_all n 0 (map unit_of_char (chars (drop n rest)))))
-    ≡ encode_utf8_all (append_all n 0 (map unit_of_char (chars rest)))
-written-piece n rest some h long =
-    let front = take n rest in
-    let back = append_all n 0 (map unit_of_char (drop n rest)) in
-    let parts = parts-printable n rest h in
-    let whole : append_all n 0 (map unit_of_char (chars rest)) ≡ front ++ 10 ∷ back =
-    ap (λ l. append_all n 0 (map unit_of_char l)) (chars-printable rest h) ∙ pieces-more n rest some h long in
-    let spelled : encode_utf8_all (append_all n 0 (map unit_of_char (chars rest))) ≡ front ++ (encode_utf8 10 ++ encode_utf8_all back) =
-    ap encode_utf8_all whole ∙ encodes-append front (10 ∷ back)
-    ∙ ap (λ l. l ++ (encode_utf8 10 ++ encode_utf8_all back)) (encodes-IsAscii front (IsAscii-printable front parts.0)) in
-    ap (λ l. front ++ (encode_utf8 10 ++ encode_utf8_all (append_all n 0 (map unit_of_char l)))) (chars-printable (drop n rest) parts.1)
-    ∙ sym spelled
+    let fit = fitted n k front (omega arith) in
+    let full : used_after n k (map unit_of_char front) ≡ n = let used = fit.used_is in omega arith in
+    let left : 0 < length back = omega (arith, length-drop m cs) in
+    ap (λ l. append_all n k (map unit_of_char l ++ us)) (sym (take-append-drop m cs))
+    ∙ ap (λ l. append_all n k (l ++ us)) (map-append front back)
+    ∙ ap (append_all n k) (append_assoc (map unit_of_char front) (map unit_of_char back) us)
+    ∙ append_all-append n k (map unit_of_char front) more
+    ∙ ap (λ l. l ++ append_all n (used_after n k (map unit_of_char front)) more) fit.text
+    ∙ ap (λ j. front ++ append_all n j more) full
+    ∙ ap (λ l. front ++ l) (broken-one n back us some parts.1 left)
 
 -- a text of printable ASCII is one line
 pub pending-printable : (n : ℕ) (words : Bool) (text : List ℕ) → is_printable text ≡ true

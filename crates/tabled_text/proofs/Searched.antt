@@ -28,14 +28,18 @@ whole-front d text front after s e = sym (s.front_is ∙ take_all (length front)
 pub all-front : (d : ℕ) (text front : List ℕ) (after : Option (Bor (List ℕ))) → IsSplitAt d text front after → All (λ b. eqb b d ≡ false) front
 all-front d text front after s = subst (All (λ b. eqb b d ≡ false)) (sym s.front_is) (missed d (length front) text s.first)
 
+pub whole-parts : (d : ℕ) (text front : List ℕ) (rest : Bor (List ℕ)) → IsSplitAt d text front (Some rest) → text ≡ front ++ d ∷ rest.now
+whole-parts d text front rest s =
+    let h = s.after_is in
+    found d (length front) text s.first h.0
+    ∙ ap (λ l. l ++ d ∷ drop (length front + 1) text) (sym s.front_is) ∙ ap (λ l. front ++ d ∷ l) (sym h.1)
+
 -- a text whose lines are split off
 pub lines-split : (text front : List ℕ) (after : Option (Bor (List ℕ))) → IsSplitAt 10 text front after → lines_of text ≡ front ∷ lines_in after
 lines-split text front None s =
     ap lines_of (whole-front 10 text front None s s.after_is) ∙ slice_split_none (λ b. eqb b 10) front (all-front 10 text front None s)
 lines-split text front (Some rest) s =
-    let h = s.after_is in
-    ap lines_of (found 10 (length front) text s.first h.0
-    ∙ ap (λ l. l ++ 10 ∷ drop (length front + 1) text) (sym s.front_is) ∙ ap (λ l. front ++ 10 ∷ l) (sym h.1))
+    ap lines_of (whole-parts 10 text front rest s)
     ∙ slice_split_at (λ b. eqb b 10) front 10 rest.now (all-front 10 text front (Some rest) s) (eq-eqb 10 10 refl)
 
 -- where no byte of a text is an ASCII character, no character is
@@ -74,9 +78,7 @@ words-split text front None s =
 words-split text front (Some rest) s =
     let small : 32 < 128 = omega arith in
     let h = s.after_is in
-    let whole : text ≡ front ++ 32 ∷ rest.now = found 32 (length front) text s.first h.0
-    ∙ ap (λ l. l ++ 32 ∷ drop (length front + 1) text) (sym s.front_is) ∙ ap (λ l. front ++ 32 ∷ l) (sym h.1) in
-    let spelled : chars text ≡ chars front ++ 32 ∷ chars rest.now = ap chars whole ∙ chars-append front (32 ∷ rest.now) s.utf8
+    let spelled : chars text ≡ chars front ++ 32 ∷ chars rest.now = ap chars (whole-parts 32 text front rest s) ∙ chars-append front (32 ∷ rest.now) s.utf8
     ∙ ap (λ l. chars front ++ l) (chars-mark 32 small rest.now (IsUtf8-mark 32 small rest.now h.2)) in
     ap words_of spelled
     ∙ slice_split_at (λ b. eqb b 32) (chars front) 32 (chars rest.now)

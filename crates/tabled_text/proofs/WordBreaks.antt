@@ -1,16 +1,21 @@
 -- Printable ASCII, broken between words: what is before a break stays as it is.
-use Rattle.tabled_text.proofs.Names.{All, Bool, Bor, IsSplitAt, List, None, Option, TextUnit, [], ap, append_all, append_assoc, arith}
+use Rattle.tabled_text.proofs.Names.{All, Bool, Bor, IsSplitAt, List, None, Option, Some, TextUnit, [], ap, append-nil, append_all, append_assoc}
+use Rattle.tabled_text.proofs.Names.{arith, length-append, length-drop, units, used_after, zero, ⊤}
 use Rattle.tabled_text.proofs.Names.{cases_lt, chars, columns_of, cond, drop, encode_utf8, encode_utf8_all, encodes-IsAscii, encodes-append}
 use Rattle.tabled_text.proofs.Names.{eqb, false, get_or, inl, inr, is_additive, le-leb, length, length-take-le, list_all, lt-leb, map}
 use Rattle.tabled_text.proofs.Names.{needed, onto_first, refl, slice_split_none, space, split_at, subst, suc, sym, take, true, unit_of_char}
 use Rattle.tabled_text.proofs.Names.{units_of_word, units_of_words, words_in, words_of, ℕ, ◌++◌, ◌+◌, ◌-◌, ◌<◌, ◌∙◌, ◌∷◌, ◌≡◌, ◌≤◌}
-use Rattle.std.proofs.Math.Seq.{drop-cons, take-suc}
+use Rattle.std.proofs.Common.{take-append-drop}
+use Rattle.std.proofs.Math.Seq.{drop-append_seam, drop-cons, take-append_seam, take-suc}
+use Rattle.std.proofs.lemmas.List.{get_or-drop}
+use Rattle.std.proofs.lemmas.List.Elements.{All-drop}
 use Rattle.tabled_text.specs.Walk.{BreaksAt}
-use Rattle.tabled_text.proofs.Filling.{append_all-breaks}
-use Rattle.tabled_text.proofs.Pieces.{IsAscii-printable, chars-printable, count_of-printable, fitted, is_printable, parts-printable}
+use Rattle.tabled_text.proofs.Filling.{append_all-append, append_all-breaks}
+use Rattle.tabled_text.proofs.Pieces.{IsAscii-printable, chars-printable, count_of-printable, filled-line, fitted, is_printable}
+use Rattle.tabled_text.proofs.Pieces.{parts-printable}
 use Rattle.tabled_text.proofs.PlainLines.{plain_line-printable}
-use Rattle.tabled_text.proofs.Searched.{all-front, whole-front, words-split}
-use Rattle.tabled_text.proofs.WrapKept.{line_kept, line_kept-before}
+use Rattle.tabled_text.proofs.Searched.{all-front, whole-front, whole-parts, words-split}
+use Rattle.tabled_text.proofs.WrapKept.{line_kept-before}
 use Rattle.tabled_text.proofs.WriteLemmas.{short, split_cons, unit_of}
 
 -- ---- the units around a space
@@ -51,6 +56,21 @@ units-around n xs ys =
     ∙ subst (λ ws. units_of_words n (words_of xs ++ ws) ≡ units_of_words n (words_of xs) ++ space ∷ units_of_words n ws) (sym back.2)
     (units-append n (words_of xs) back.0 back.1 some)
 
+-- the units before an index, which is 0 or after a space, and those from it on
+around : (n k : ℕ) (line : List ℕ) → k ≤ length line → (0 < k → get_or line (k - 1) 0 ≡ 32)
+    → kept_units n line ≡ kept_units n (take k line) ++ kept_units n (drop k line)
+around n zero [] le at = refl
+around n zero (c ∷ cs) le at = refl
+around n (suc j) line le at =
+    let xs = take j line in
+    let zs = drop (suc j) line in
+    let same : suc j - 1 ≡ j = omega arith in
+    let is : get_or line j 0 ≡ 32 = ap (λ i. get_or line i 0) (sym same) ∙ at (omega arith) in
+    let taken : take (suc j) line ≡ xs ++ 32 ∷ [] = take-suc line j 0 (omega arith) ∙ ap (λ c. xs ++ c ∷ []) is in
+    ap (kept_units n) (split_at line j 0 (omega arith) ∙ ap (λ c. xs ++ c ∷ zs) is)
+    ∙ units-around n xs zs ∙ sym (append_assoc (kept_units n xs) (space ∷ []) (kept_units n zs))
+    ∙ ap (λ l. l ++ kept_units n zs) (sym (ap (kept_units n) taken ∙ units-around n xs []))
+
 -- ---- the first unit after a break
 
 record First (us : List TextUnit) (p : TextUnit) : Type 0 where
@@ -86,7 +106,7 @@ needed-narrow : (n : ℕ) (p : TextUnit) → p.width ≤ n → needed n p ≡ p.
 needed-narrow n p le = ap (λ b. cond b p.width 1) (le-leb p.width n le)
 
 -- before a space
-pub breaks-before : (n : ℕ) (line : List ℕ) → 0 < n → is_printable line ≡ true → n < length line → get_or line n 0 ≡ 32 → BreaksAt n line n
+pub breaks-before : (n : ℕ) (line : List ℕ) → 0 < n → is_printable line ≡ true → n < length line → get_or line n 0 ≡ 32 → BreaksAt n true line n
 breaks-before n line some h long at =
     let front = take n line in
     let ys = drop (suc n) line in
@@ -105,86 +125,159 @@ breaks-before n line some h long at =
     }
 
 -- behind a space, before a word that does not fit
-pub breaks-after : (n k : ℕ) (line word : List ℕ) (ws : List (List ℕ)) → 0 < n → is_printable line ≡ true → n < length line → 0 < k → k ≤ n
-    → get_or line (k - 1) 0 ≡ 32 → words_of (drop k line) ≡ word ∷ ws → is_printable word ≡ true → length word ≤ n → n < k + length word
-    → BreaksAt n line k
-breaks-after n k line word ws some h long pos le at words own short_word wide =
-    let j = k - 1 in
-    let next : suc j ≡ k = omega arith in
-    let xs = take j line in
-    let zs = drop k line in
-    let front = take k line in
-    let whole : line ≡ xs ++ 32 ∷ zs = split_at line j 0 (omega arith) ∙ ap (λ c. xs ++ c ∷ drop (suc j) line) at
-    ∙ ap (λ i. xs ++ 32 ∷ drop i line) next in
-    let taken : front ≡ xs ++ 32 ∷ [] = ap (λ i. take i line) (sym next) ∙ take-suc line j 0 (omega arith) ∙ ap (λ c. xs ++ c ∷ []) at in
-    let before : kept_units n front ≡ kept_units n xs ++ space ∷ [] = ap (kept_units n) taken ∙ units-around n xs [] in
-    let around : kept_units n line ≡ kept_units n front ++ kept_units n zs =
-    ap (kept_units n) whole ∙ units-around n xs zs ∙ sym (append_assoc (kept_units n xs) (space ∷ []) (kept_units n zs))
-    ∙ ap (λ l. l ++ kept_units n zs) (sym before) in
+breaks-after : (n k : ℕ) (line word : List ℕ) (ws : List (List ℕ)) → 0 < n → is_printable line ≡ true → k ≤ n → n < length line
+    → (0 < k → get_or line (k - 1) 0 ≡ 32) → words_of (drop k line) ≡ word ∷ ws → is_printable word ≡ true → length word ≤ n → n < k + length word
+    → BreaksAt n true line k
+breaks-after n k line word ws some h le long at words own short_word wide =
     let columns = columns-printable_line word own in
     let p = unit_of word (columns_of word) in
     let one : units_of_word n word ≡ p ∷ [] = short n word (λ e. (let z = ap length e in omega arith)) (omega arith) in
-    let first : First (kept_units n zs) p = subst (λ l. First (units_of_words n l) p) (sym words) (first-word n word ws p one) in
-    let len : length front ≡ k = length-take-le k line (omega arith) in
+    let first : First (kept_units n (drop k line)) p = subst (λ l. First (units_of_words n l) p) (sym words) (first-word n word ws p one) in
+    let len : length (take k line) ≡ k = length-take-le k line (omega arith) in
     let need : needed n p ≡ columns_of word = needed-narrow n p (omega arith) in
     record {
-      some = pos;
+      some = omega arith;
       end = omega arith;
-      rest = ap (append_all n 0) around
-          ∙ ended n front (kept_units n zs) p some (parts-printable k line h).0 (omega arith) first (omega (arith, need));
+      rest = ap (append_all n 0) (around n k line (omega arith) at)
+          ∙ ended n (take k line) (kept_units n (drop k line)) p some (parts-printable k line h).0 (omega arith) first (omega (arith, need));
     }
 
--- ---- a line without a space
+-- ---- inside a word that is wider than a line
 
 wide-word : (n : ℕ) (cs : List ℕ) → n < columns_of cs → 0 < length cs → units_of_word n cs ≡ map unit_of_char cs
 wide-word n [] wide some = absurd (omega arith)
 wide-word n (c ∷ cs) wide some =
     ap (λ b. cond b (unit_of (c ∷ cs) (columns_of (c ∷ cs)) ∷ []) (map unit_of_char (c ∷ cs))) (lt-leb (columns_of (c ∷ cs)) n wide)
 
--- words are kept as characters are
-pub one-word : (n : ℕ) (cs : List ℕ) → is_printable cs ≡ true → All (λ b. eqb b 32 ≡ false) cs
-    → append_all n 0 (map unit_of_char cs) ≡ append_all n 0 (units_of_words n (words_of cs))
-one-word n cs h none =
-    let columns = columns-printable_line cs h in
-    elim (cases_lt n (length cs)) [
-      | inl wide ↦ ap (append_all n 0)
-          (sym (ap (units_of_words n) (slice_split_none (λ b. eqb b 32) cs none) ∙ wide-word n cs (omega arith) (omega arith)))
-      | inr le ↦ (fitted n 0 cs (omega (arith, count_of-printable cs h))).text ∙ sym (line_kept n true cs (additive-printable cs h) (omega arith))
+own-word : (n : ℕ) (w : List ℕ) → All (λ b. eqb b 32 ≡ false) w → kept_units n w ≡ units_of_word n w
+own-word n w none = ap (units_of_words n) (slice_split_none (λ b. eqb b 32) w none)
+
+-- a word is written as its characters are
+as-chars : (n : ℕ) (w : List ℕ) (us : List TextUnit) → is_printable w ≡ true → All (λ b. eqb b 32 ≡ false) w
+    → append_all n 0 (map unit_of_char w ++ us) ≡ append_all n 0 (units_of_word n w ++ us)
+as-chars n w us h none =
+    let columns = columns-printable_line w h in
+    let count = count_of-printable w h in
+    elim (cases_lt n (length w)) [
+      | inl wide ↦ ap (λ l. append_all n 0 (l ++ us)) (sym (wide-word n w (omega arith) (omega arith)))
+      | inr le ↦
+          let fit = fitted n 0 w (omega arith) in
+          let same : used_after n 0 (map unit_of_char w) ≡ columns_of w = omega (arith, fit.used_is) in
+          append_all-append n 0 (map unit_of_char w) us
+          ∙ ap (λ l. l ++ append_all n (used_after n 0 (map unit_of_char w)) us) fit.text
+          ∙ ap (λ k. w ++ append_all n k us) same
+          ∙ sym (line_kept-before n true w us (additive-printable w h) (omega arith))
+          ∙ ap (λ l. append_all n 0 (l ++ us)) (own-word n w none)
     ]
+
+-- what follows a word: nothing, or a space and more
+abbrev IsTail : List ℕ → Type 0
+IsTail [] = ⊤
+IsTail (c ∷ cs) = c ≡ 32
+
+abbrev tail_units : ℕ → List ℕ → List TextUnit
+tail_units n [] = []
+tail_units n (c ∷ cs) = space ∷ kept_units n cs
+
+opened : (n : ℕ) (w tail : List ℕ) → IsTail tail → All (λ b. eqb b 32 ≡ false) w → kept_units n (w ++ tail) ≡ units_of_word n w ++ tail_units n tail
+opened n w [] t none = ap (kept_units n) (append-nil w) ∙ own-word n w none ∙ sym (append-nil (units_of_word n w))
+opened n w (c ∷ cs) t none = ap (λ d. kept_units n (w ++ d ∷ cs)) t ∙ units-around n w cs ∙ ap (λ l. l ++ space ∷ kept_units n cs) (own-word n w none)
+
+tail-of : (text word : List ℕ) (after : Option (Bor (List ℕ))) → IsSplitAt 32 text word after → (tail : List ℕ) × (text ≡ word ++ tail) × IsTail tail
+tail-of text word None s = ([], whole-front 32 text word None s s.after_is ∙ sym (append-nil word), tt)
+tail-of text word (Some rest) s = (32 ∷ rest.now, whole-parts 32 text word rest s, refl)
+
+-- a word that begins at k is wider than a line: it is broken where the line is full
+pub breaks-inside : (n k m : ℕ) (line word : List ℕ) (after : Option (Bor (List ℕ))) → 0 < n → is_printable line ≡ true → n < length line → k + m ≡ n
+    → (0 < k → get_or line (k - 1) 0 ≡ 32) → IsSplitAt 32 (drop k line) word after → n < length word → BreaksAt n true line n
+breaks-inside n k m line word after some h long e at s wide =
+    let front = take k line in
+    let none = all-front 32 (drop k line) word after s in
+    let t = tail-of (drop k line) word after s in
+    let us = tail_units n t.0 in
+    let halves = parts-printable k line h in
+    let own : is_printable word ≡ true = ap is_printable s.front_is ∙ (parts-printable (length word) (drop k line) halves.1).0 in
+    let head = take m word in
+    let w = drop m word in
+    let front_len : length front ≡ k = length-take-le k line (omega arith) in
+    let columns = columns-printable_line front halves.0 in
+    let head_len : length head ≡ m = length-take-le m word (omega arith) in
+    let len : length (front ++ head) ≡ n = omega (arith, length-append front head) in
+    let whole : line ≡ (front ++ head) ++ (w ++ t.0) =
+    sym (take-append-drop k line)
+    ∙ ap (λ l. front ++ l) (t.1 ∙ ap (λ l. l ++ t.0) (sym (take-append-drop m word)) ∙ append_assoc head w t.0)
+    ∙ sym (append_assoc front head (w ++ t.0)) in
+    let taken : take n line ≡ front ++ head = ap (take n) whole ∙ ap (λ i. take i ((front ++ head) ++ (w ++ t.0))) (sym len) ∙ take-append_seam (front ++ head) (w ++ t.0) in
+    let dropped : drop n line ≡ w ++ t.0 = ap (drop n) whole ∙ ap (λ i. drop i ((front ++ head) ++ (w ++ t.0))) (sym len) ∙ drop-append_seam (front ++ head) (w ++ t.0) in
+    let next = append_all n 0 (kept_units n (drop n line)) in
+    record {
+      some = some;
+      end = omega arith;
+      rest = ap (append_all n 0) (around n k line (omega arith) at)
+          ∙ ap (λ l. append_all n 0 (kept_units n front ++ l))
+          (ap (kept_units n) t.1 ∙ opened n word t.0 t.2 none
+          ∙ ap (λ l. l ++ us) (wide-word n word (omega (arith, columns-printable_line word own)) (omega arith)))
+          ∙ line_kept-before n true front (map unit_of_char word ++ us) (additive-printable front halves.0) (omega arith)
+          ∙ ap (λ j. front ++ append_all n j (map unit_of_char word ++ us)) (columns ∙ front_len)
+          ∙ ap (λ l. front ++ l) (filled-line n k m word us some e own (omega arith))
+          ∙ ap (λ l. front ++ (head ++ 10 ∷ l))
+          (as-chars n w us (parts-printable m word own).1 (All-drop (λ b. eqb b 32 ≡ false) m word none)
+          ∙ ap (append_all n 0) (sym (opened n w t.0 t.2 (All-drop (λ b. eqb b 32 ≡ false) m word none)) ∙ ap (kept_units n) (sym dropped)))
+          ∙ sym (append_assoc front head (10 ∷ next))
+          ∙ ap (λ l. l ++ 10 ∷ next) (sym taken);
+    }
+
+-- where no words are kept
+pub breaks-full : (n : ℕ) (line : List ℕ) → 0 < n → is_printable line ≡ true → n < length line → BreaksAt n false line n
+breaks-full n line some h long = record {
+  some = some;
+  end = omega arith;
+  rest = ap (append_all n 0) (sym (append-nil (map unit_of_char line))) ∙ filled-line n 0 n line [] some (omega arith) h long
+      ∙ ap (λ l. take n line ++ 10 ∷ append_all n 0 l) (append-nil (map unit_of_char (drop n line)));
+}
 
 -- ---- what is written
 
-abbrev pub spelled : ℕ → List ℕ → List ℕ
-spelled n cs = encode_utf8_all (append_all n 0 (units_of_words n (words_of (chars cs))))
+abbrev pub spelled : ℕ → Bool → List ℕ → List ℕ
+spelled n words cs = encode_utf8_all (append_all n 0 (units n words (chars cs)))
 
-pub spelled-more : (n k : ℕ) (cs : List ℕ) → is_printable cs ≡ true → BreaksAt n cs k
-    → take k cs ++ (encode_utf8 10 ++ spelled n (drop k cs)) ≡ spelled n cs
-spelled-more n k cs h b =
+pub spelled-more : (n k : ℕ) (words : Bool) (cs : List ℕ) → is_printable cs ≡ true → BreaksAt n words cs k
+    → take k cs ++ (encode_utf8 10 ++ spelled n words (drop k cs)) ≡ spelled n words cs
+spelled-more n k words cs h b =
     let front = take k cs in
     let parts = parts-printable k cs h in
-    let more = append_all n 0 (units_of_words n (words_of (drop k cs))) in
-    let written : spelled n cs ≡ front ++ (encode_utf8 10 ++ encode_utf8_all more) =
-    ap (λ l. encode_utf8_all (append_all n 0 (units_of_words n (words_of l)))) (chars-printable cs h)
+    let more = append_all n 0 (units n words (drop k cs)) in
+    let written : spelled n words cs ≡ front ++ (encode_utf8 10 ++ encode_utf8_all more) =
+    ap (λ l. encode_utf8_all (append_all n 0 (units n words l))) (chars-printable cs h)
     ∙ ap encode_utf8_all b.rest ∙ encodes-append front (10 ∷ more)
     ∙ ap (λ l. l ++ (encode_utf8 10 ++ encode_utf8_all more)) (encodes-IsAscii front (IsAscii-printable front parts.0)) in
-    ap (λ l. front ++ (encode_utf8 10 ++ encode_utf8_all (append_all n 0 (units_of_words n (words_of l))))) (chars-printable (drop k cs) parts.1)
+    ap (λ l. front ++ (encode_utf8 10 ++ encode_utf8_all (append_all n 0 (units n words l)))) (chars-printable (drop k cs) parts.1)
     ∙ sym written
 
-pub spelled-word : (n : ℕ) (cs front : List ℕ) → is_printable cs ≡ true → IsSplitAt 32 cs front None
-    → encode_utf8_all (append_all n 0 (map unit_of_char (chars cs))) ≡ spelled n cs
-spelled-word n cs front h s =
-    let none : All (λ b. eqb b 32 ≡ false) cs = subst (All (λ b. eqb b 32 ≡ false)) (sym (whole-front 32 cs front None s s.after_is)) (all-front 32 cs front None s) in
-    ap (λ l. encode_utf8_all (append_all n 0 (map unit_of_char l))) (chars-printable cs h)
-    ∙ ap encode_utf8_all (one-word n cs h none)
-    ∙ sym (ap (λ l. encode_utf8_all (append_all n 0 (units_of_words n (words_of l)))) (chars-printable cs h))
+-- ---- the word that passes a line
 
--- a word behind a space is split off
-pub breaks-word : (n k : ℕ) (line word : List ℕ) (after : Option (Bor (List ℕ))) → 0 < n → is_printable line ≡ true → n < length line → 0 < k → k ≤ n
-    → get_or line (k - 1) 0 ≡ 32 → IsSplitAt 32 (drop k line) word after → length word ≤ n → n < k + length word → BreaksAt n line k
-breaks-word n k line word after some h long pos le at s short_word wide =
+-- where it begins at k, no byte from there to the end of the line is a space
+pub passes : (n k : ℕ) (line word : List ℕ) (after : Option (Bor (List ℕ))) → n < length line → k ≤ n → IsSplitAt 32 (drop k line) word after
+    → ((j : ℕ) → k ≤ j → j < n → get_or line j 0 ≡ 32 → ⊥) → (get_or line n 0 ≡ 32 → ⊥) → n < k + length word
+passes n k line word after long le s none next =
+    elim (cases_lt n (k + length word)) [
+      | inl wide ↦ wide
+      | inr few ↦
+          let here : get_or line (k + length word) 0 ≡ 32 =
+          sym (get_or-drop k line (length word) 0) ∙ s.first.found (omega (arith, length-drop k line)) in
+          absurd (elim (cases_lt (k + length word) n) [
+            | inl before ↦ none (k + length word) (omega arith) before here
+            | inr at ↦ (let same : k + length word ≡ n = omega arith in next (ap (λ j. get_or line j 0) (sym same) ∙ here))
+          ])
+    ]
+
+-- it is split off
+pub breaks-word : (n k : ℕ) (line word : List ℕ) (after : Option (Bor (List ℕ))) → 0 < n → is_printable line ≡ true → k ≤ n → n < length line
+    → (0 < k → get_or line (k - 1) 0 ≡ 32) → IsSplitAt 32 (drop k line) word after → length word ≤ n → n < k + length word → BreaksAt n true line k
+breaks-word n k line word after some h le long at s short_word wide =
     let back = parts-printable k line h in
     let own : is_printable word ≡ true = ap is_printable s.front_is ∙ (parts-printable (length word) (drop k line) back.1).0 in
     let words : words_of (drop k line) ≡ word ∷ words_in after =
     ap words_of (sym (chars-printable (drop k line) back.1)) ∙ words-split (drop k line) word after s
     ∙ ap (λ l. l ∷ words_in after) (chars-printable word own) in
-    breaks-after n k line word (words_in after) some h long pos le at words own short_word wide
+    breaks-after n k line word (words_in after) some h le long at words own short_word wide

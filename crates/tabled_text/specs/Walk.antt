@@ -50,11 +50,11 @@ abbrev pub fits_line : ℕ → Bool → List ℕ → Bool
 fits_line n false line = all_chars_fit n line
 fits_line n true line = list_all (fits_word n) (words_of line)
 
--- the first k bytes of printable ASCII are the first line of more, where words are kept
-pub record BreaksAt (n : ℕ) (line : List ℕ) (k : ℕ) : Type 0 where
+-- the first k bytes of printable ASCII are the first line of more
+pub record BreaksAt (n : ℕ) (words : Bool) (line : List ℕ) (k : ℕ) : Type 0 where
   pub some : 0 < k
   pub end : k ≤ length line
-  pub rest : append_all n 0 (units_of_words n (words_of line)) ≡ take k line ++ 10 ∷ append_all n 0 (units_of_words n (words_of (drop k line)))
+  pub rest : append_all n 0 (units n words line) ≡ take k line ++ 10 ∷ append_all n 0 (units n words (drop k line))
 
 -- a text begins with `piece`, whose characters count `columns`, at most n, and `rest` follows it
 pub record IsPiece (n : ℕ) (text piece : List ℕ) (columns : ℕ) (rest : List ℕ) : Type 0 where

@@ -44,4 +44,4 @@ pub use measure::{
 };
 pub use runs::run_end;
 pub use sink::{copies, push_copies};
-pub use wrap::{fits_bytes, wrap_text};
+pub use wrap::{fits_bytes, wrap_into, wrap_text};

@@ -120,13 +120,10 @@ fn byte_index(bytes: &[u8], from: usize, byte: u8) -> usize
     ensures { IsFirstAt byte bytes.now result }
 {
     let mut at = from;
-    'runs: loop {
-        at = run_end(bytes, at, byte + 1, u8::MAX);
-        if at == bytes.len() || bytes[at] == byte {
-            return at;
-        }
-        at += 1;
+    'runs: while at < bytes.len() && bytes[at] != byte {
+        at = run_end(bytes, at + 1, byte + 1, u8::MAX);
     }
+    at
 }
 
 /// Returns the text before the first `byte`, which is ASCII, and the rest after it, if it is there.

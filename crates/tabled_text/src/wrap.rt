@@ -1,7 +1,7 @@
 //! Wraps texts to n columns. One walk writes unit after unit to a `Sink`.
 ghost use Rattle.std.specs.Prelude.{◌≡◌, Bool, nat_le, ◌<◌, ◌≤◌, ◌+◌, ◌-◌, slice_index, ◌∷◌};
 ghost use Rattle.std.specs.Prelude.{chars, encode_utf8_all, length, map, IfOk, OnOk, IfSome};
-ghost use Rattle.std.specs.Prelude.{IsUtf8, string_bytes, OnErr, false, true};
+ghost use Rattle.std.specs.Prelude.{IsUtf8, string_bytes, OnErr, false, true, ℕ};
 ghost use Rattle.std.specs.Int.{is_in_range};
 ghost use Rattle.std.specs.List.{list_all};
 ghost use Rattle.tabled_text.specs.Cut.{IsCut, NeedsFill};
@@ -55,26 +55,6 @@ fn append_word<S: Sink>(
     Ok(column + width)
 }
 
-/// Writes a character of at most n columns, and returns the columns then used.
-#[inline(always)]
-fn append_narrow<S: Sink>(
-    out: &mut S,
-    used: usize,
-    n: usize,
-    c: char,
-    count: usize,
-) -> Result<usize, S::Error>
-    requires count { count ≡ char_count c }
-    requires fits { count ≤ n }
-    ensures used { IfOk result (λ column. column ≡ append_used n used (unit_of_char c)) }
-    ensures text { OnOk result (S.adds out.old
-        (encode_utf8_all (append_text n used (unit_of_char c))) out.new) }
-{
-    let column = begin(out, used, n, count)?;
-    out.append_char(c)?;
-    Ok(column + count)
-}
-
 /// Writes a character, and returns the columns then used. If it is wider than n, writes U+FFFD in
 /// the columns left; the line is then full.
 #[inline(always)]
@@ -86,7 +66,9 @@ fn append_char<S: Sink>(out: &mut S, used: usize, n: usize, c: char) -> Result<u
 {
     let count = char_count(c);
     if count <= n {
-        return append_narrow(out, used, n, c, count);
+        let column = begin(out, used, n, count)?;
+        out.append_char(c)?;
+        return Ok(column + count);
     }
     let column = begin(out, used, n, 1)?;
     append_copies(out, '\u{FFFD}', n - column)?;
@@ -187,119 +169,45 @@ fn append_words<S: Sink>(out: &mut S, n: usize, line: &str) -> Result<(), S::Err
     }
 }
 
-/// Writes printable ASCII byte by byte, with a line feed after each n bytes that more bytes follow.
-#[inline(always)]
-fn append_bytes<S: Sink>(out: &mut S, n: usize, line: &str) -> Result<(), S::Error>
-    requires some { 0 < n }
-    requires printable { list_all (is_in_range 0x20 0x7E) line.now ≡ true }
-    ensures { OnOk result (S.adds out.old
-        (encode_utf8_all (append_all n 0 (map unit_of_char (chars line.now)))) out.new) }
-{
-    let mut column = 0;
-    let mut rest = line.as_bytes();
-    'bytes: while let Some((&byte, after)) = rest.split_first() {
-        column = append_narrow(out, column, n, byte as char, 1)?;
-        rest = after;
-    }
-    Ok(())
-}
-
-/// Writes printable ASCII, with a line feed after each n bytes that more bytes follow.
-fn append_pieces<S: Sink>(out: &mut S, n: usize, line: &str) -> Result<(), S::Error>
-    requires some { 0 < n }
-    requires printable { list_all (is_in_range 0x20 0x7E) line.now ≡ true }
-    ensures { OnOk result (S.adds out.old
-        (encode_utf8_all (append_all n 0 (map unit_of_char (chars line.now)))) out.new) }
-{
-    if n <= FEW_COLUMNS {
-        return append_bytes(out, n, line);
-    }
-    let mut rest = line;
-    'pieces: while rest.len() > n {
-        let (piece, after) = rest.split_at(n);
-        out.append_str(piece)?;
-        out.append_char('\n')?;
-        rest = after;
-    }
-    out.append_str(rest)
-}
-
-/// Returns the index after the last space before `end`, or `None` if there is none.
-fn after_space(bytes: &[u8], end: usize) -> Option<usize>
+/// Returns the index after the last space before `end`, or 0 if there is none.
+fn after_space(bytes: &[u8], end: usize) -> usize
     requires { end ≤ length bytes.now }
-    ensures within { IfSome result (λ at. (0 < at) × (at ≤ end)) }
-    ensures space { IfSome result (λ at. slice_index bytes.now (at - 1) ≡ 32) }
+    ensures within { result ≤ end }
+    ensures space { 0 < result → slice_index bytes.now (result - 1) ≡ 32 }
+    ensures none { (k : ℕ) → result ≤ k → k < end → slice_index bytes.now k ≡ 32 → ⊥ }
 {
     let mut at = end;
-    'bytes: while at > 0 {
-        if bytes[at - 1] == b' ' {
-            return Some(at);
-        }
+    'bytes: while at > 0 && bytes[at - 1] != b' ' {
         at -= 1;
     }
-    None
+    at
 }
 
-/// Returns where the first of several lines of printable ASCII ends if words are kept, or `None` if
-/// the word that would pass n columns is wider than that.
-fn line_end(line: &str, n: usize) -> Option<usize>
+/// Returns where the first of several lines of printable ASCII ends. With `words`, that is before
+/// the word that would pass n columns, unless it is wider than that.
+#[inline(always)]
+fn line_end(line: &str, n: usize, words: bool) -> usize
     requires some { 0 < n }
     requires more { n < length line.now }
     requires printable { list_all (is_in_range 0x20 0x7E) line.now ≡ true }
-    ensures { IfSome result (BreaksAt n line.now) }
+    ensures { BreaksAt n words line.now result }
 {
+    if !words {
+        return n;
+    }
     let bytes = line.as_bytes();
     let next = bytes[n];
     if next == b' ' {
-        return Some(n);
+        return n;
     }
-    let at = after_space(bytes, n)?;
+    let at = after_space(bytes, n);
     let (_, after) = line.split_at(at);
     let (word, _) = split_at_byte(after, 0, b' ');
     let width = word.len();
     if width > n {
-        return None;
+        return n;
     }
-    if at + width > n {
-        return Some(at);
-    }
-    None
-}
-
-/// Writes printable ASCII, broken to n columns, where a word is wider than that.
-fn append_wide_words<S: Sink>(out: &mut S, n: usize, line: &str) -> Result<(), S::Error>
-    requires some { 0 < n }
-    requires printable { list_all (is_in_range 0x20 0x7E) line.now ≡ true }
-    ensures { OnOk result (S.adds out.old
-        (encode_utf8_all (append_all n 0 (units_of_words n (words_of (chars line.now))))) out.new) }
-{
-    let (_, after) = split_at_byte(line, 0, b' ');
-    match after {
-        None => append_pieces(out, n, line),
-        Some(_) => append_words(out, n, line),
-    }
-}
-
-/// Writes printable ASCII, broken to n columns between words where they fit.
-fn append_kept_words<S: Sink>(out: &mut S, n: usize, line: &str) -> Result<(), S::Error>
-    requires some { 0 < n }
-    requires printable { list_all (is_in_range 0x20 0x7E) line.now ≡ true }
-    ensures { OnOk result (S.adds out.old
-        (encode_utf8_all (append_all n 0 (units_of_words n (words_of (chars line.now))))) out.new) }
-{
-    let mut rest = line;
-    'lines: while rest.len() > n {
-        match line_end(rest, n) {
-            None => return append_wide_words(out, n, rest),
-            Some(end) => {
-                let (front, after) = rest.split_at(end);
-                out.append_str(front)?;
-                out.append_char('\n')?;
-                rest = after;
-            }
-        }
-    }
-    out.append_str(rest)
+    at
 }
 
 /// Writes a line of printable ASCII, broken to n columns.
@@ -309,11 +217,14 @@ fn append_printable<S: Sink>(out: &mut S, n: usize, words: bool, line: &str) -> 
     ensures { OnOk result (S.adds out.old
         (encode_utf8_all (append_all n 0 (units n words (chars line.now)))) out.new) }
 {
-    if words {
-        append_kept_words(out, n, line)
-    } else {
-        append_pieces(out, n, line)
+    let mut rest = line;
+    'lines: while rest.len() > n {
+        let (front, after) = rest.split_at(line_end(rest, n, words));
+        out.append_str(front)?;
+        out.append_char('\n')?;
+        rest = after;
     }
+    out.append_str(rest)
 }
 
 /// Writes a line, broken to n columns.
@@ -377,15 +288,25 @@ pub fn wrap_text(alloc: Global, text: &str, n: usize, words: bool) -> Result<Str
     ensures memory { OnErr result ((0 < n) × (0 < length text.now)) }
 {
     let mut out = String::new(alloc);
+    wrap_into(&mut out, text, n, words)?;
+    Ok(out)
+}
+
+/// Replaces `out` by a text wrapped to lines of at most n columns, as `wrap_text` returns it.
+pub fn wrap_into(out: &mut String, text: &str, n: usize, words: bool) -> Result<(), AllocError>
+    ensures wrapped { OnOk result (IsWrapped n words text.now (string_bytes out.new)) }
+    ensures memory { OnErr result ((0 < n) × (0 < length text.now)) }
+{
+    out.clear();
     if n == 0 || text.is_empty() {
-        return Ok(out);
+        return Ok(());
     }
     if fits_bytes(text, n) {
-        return String::from_str(alloc, text);
+        out.push_str(text)?;
+        return Ok(());
     }
     out.reserve_exact(text.len().saturating_add(text.len() / n))?;
-    append_lines(&mut out, n, words, text)?;
-    Ok(out)
+    append_lines(out, n, words, text)
 }
 
 /// Whether a text has at most n bytes. Wrapping or cutting it to n columns, which are then at least
