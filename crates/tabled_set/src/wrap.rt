@@ -15,7 +15,7 @@ use std::alloc::{AllocError, Global};
 use tabled_base::{Entity, RecordsMut, TableError, TableOption};
 use tabled_config::ColoredConfig;
 use tabled_size::{CompleteDimension, Peaker, PriorityNone};
-use tabled_text::{fits_bytes, wrap_text};
+use tabled_text::{fits_bytes, wrap_into, wrap_text};
 
 /// Wraps cells that are wider than the measured width into more lines. As a table option it narrows
 /// a table to a total of that width, and wraps its cells to fit. A new one breaks words.
@@ -54,8 +54,7 @@ impl TextTransform for Wrapping {
     }
 
     fn apply(&self, out: &mut String, text: &str, content_size: usize) -> Result<(), AllocError> {
-        *out = wrap_text(*out.allocator(), text, content_size, self.keep_words)?;
-        Ok(())
+        wrap_into(out, text, content_size, self.keep_words)
     }
 }
 
