@@ -5,7 +5,7 @@ use Rattle.std.specs.List.{list_all}
 use Rattle.std.specs.Str.{IsUtf8}
 use Rattle.tabled_text.specs.Measure.{columns_of, count_of}
 use Rattle.tabled_text.specs.OldText.{all_chars_fit}
-use Rattle.tabled_text.specs.Units.{TextUnit, units, units_of_words, words_of}
+use Rattle.tabled_text.specs.Units.{TextUnit, units, words_of}
 use Rattle.tabled_text.specs.Wrapping.{needed, shown}
 
 -- the words of the rest after a space, if there is one
