@@ -1,7 +1,8 @@
 -- Printable ASCII, whose characters are its bytes and take a column each, broken between bytes.
 use Rattle.tabled_text.proofs.Names.{All, All-cons, All-nil, BeginsBy, Bool, IsParted, IsPiece, IsReached, IsUtf8, IsUtf8-append}
 use Rattle.tabled_text.proofs.Names.{IsUtf8-encode, IsUtf8-from_ascii, IsUtf8-nil, IsUtf8-past_char, List, TextUnit, [], and_parts, ap}
-use Rattle.tabled_text.proofs.Names.{append-nil, append_all, append_assoc, append_used, arith, char_count, chars, chars-append, chars-nil, cond, count_of}
+use Rattle.tabled_text.proofs.Names.{append-nil, append_all, append_assoc, append_used, arith, char_count, chars}
+use Rattle.tabled_text.proofs.Names.{chars-append, chars-nil, cond, count_of}
 use Rattle.tabled_text.proofs.Names.{drop, encode_utf8, encode_utf8_all, encodes-append, encodes-chars, false, is_in_range}
 use Rattle.tabled_text.proofs.Names.{last_line, last_of, le-leb, length, length-drop, length-take-le, lines_of, list_all, list_all-append}
 use Rattle.tabled_text.proofs.Names.{map, max, nat_le, nat_tests, needed, pending, refl, replicate, subst, sum_by-cons, sym, take, true}

@@ -78,7 +78,8 @@ words-split text front None s =
 words-split text front (Some rest) s =
     let small : 32 < 128 = omega arith in
     let h = s.after_is in
-    let spelled : chars text ≡ chars front ++ 32 ∷ chars rest.now = ap chars (whole-parts 32 text front rest s) ∙ chars-append front (32 ∷ rest.now) s.utf8
+    let spelled : chars text ≡ chars front ++ 32 ∷ chars rest.now = ap chars (whole-parts 32 text front rest s)
+    ∙ chars-append front (32 ∷ rest.now) s.utf8
     ∙ ap (λ l. chars front ++ l) (chars-mark 32 small rest.now (IsUtf8-mark 32 small rest.now h.2)) in
     ap words_of spelled
     ∙ slice_split_at (λ b. eqb b 32) (chars front) 32 (chars rest.now)

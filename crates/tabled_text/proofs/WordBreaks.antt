@@ -1,5 +1,6 @@
 -- Printable ASCII, broken between words: what is before a break stays as it is.
-use Rattle.tabled_text.proofs.Names.{All, Bool, Bor, IsSplitAt, List, None, Option, Some, TextUnit, [], ap, append-nil, append_all, append_assoc}
+use Rattle.tabled_text.proofs.Names.{All, Bool, Bor, IsSplitAt, List, None, Option, Some, TextUnit}
+use Rattle.tabled_text.proofs.Names.{[], ap, append-nil, append_all, append_assoc}
 use Rattle.tabled_text.proofs.Names.{arith, length-append, length-drop, units, used_after, zero, ⊤}
 use Rattle.tabled_text.proofs.Names.{cases_lt, chars, columns_of, cond, drop, encode_utf8, encode_utf8_all, encodes-IsAscii, encodes-append}
 use Rattle.tabled_text.proofs.Names.{eqb, false, get_or, inl, inr, is_additive, le-leb, length, length-take-le, list_all, lt-leb, map}
@@ -106,7 +107,8 @@ needed-narrow : (n : ℕ) (p : TextUnit) → p.width ≤ n → needed n p ≡ p.
 needed-narrow n p le = ap (λ b. cond b p.width 1) (le-leb p.width n le)
 
 -- before a space
-pub breaks-before : (n : ℕ) (line : List ℕ) → 0 < n → is_printable line ≡ true → n < length line → get_or line n 0 ≡ 32 → BreaksAt n true line n
+pub breaks-before : (n : ℕ) (line : List ℕ) → 0 < n → is_printable line ≡ true → n < length line → get_or line n 0 ≡ 32
+    → BreaksAt n true line n
 breaks-before n line some h long at =
     let front = take n line in
     let ys = drop (suc n) line in
@@ -126,7 +128,8 @@ breaks-before n line some h long at =
 
 -- behind a space, before a word that does not fit
 breaks-after : (n k : ℕ) (line word : List ℕ) (ws : List (List ℕ)) → 0 < n → is_printable line ≡ true → k ≤ n → n < length line
-    → (0 < k → get_or line (k - 1) 0 ≡ 32) → words_of (drop k line) ≡ word ∷ ws → is_printable word ≡ true → length word ≤ n → n < k + length word
+    → (0 < k → get_or line (k - 1) 0 ≡ 32) → words_of (drop k line) ≡ word ∷ ws → is_printable word ≡ true → length word ≤ n
+    → n < k + length word
     → BreaksAt n true line k
 breaks-after n k line word ws some h le long at words own short_word wide =
     let columns = columns-printable_line word own in
@@ -139,7 +142,8 @@ breaks-after n k line word ws some h le long at words own short_word wide =
       some = omega arith;
       end = omega arith;
       rest = ap (append_all n 0) (around n k line (omega arith) at)
-          ∙ ended n (take k line) (kept_units n (drop k line)) p some (parts-printable k line h).0 (omega arith) first (omega (arith, need));
+          ∙ ended n (take k line) (kept_units n (drop k line)) p some (parts-printable k line h).0 (omega arith) first
+          (omega (arith, need));
     }
 
 -- ---- inside a word that is wider than a line
@@ -179,16 +183,20 @@ abbrev tail_units : ℕ → List ℕ → List TextUnit
 tail_units n [] = []
 tail_units n (c ∷ cs) = space ∷ kept_units n cs
 
-opened : (n : ℕ) (w tail : List ℕ) → IsTail tail → All (λ b. eqb b 32 ≡ false) w → kept_units n (w ++ tail) ≡ units_of_word n w ++ tail_units n tail
+opened : (n : ℕ) (w tail : List ℕ) → IsTail tail → All (λ b. eqb b 32 ≡ false) w
+    → kept_units n (w ++ tail) ≡ units_of_word n w ++ tail_units n tail
 opened n w [] t none = ap (kept_units n) (append-nil w) ∙ own-word n w none ∙ sym (append-nil (units_of_word n w))
-opened n w (c ∷ cs) t none = ap (λ d. kept_units n (w ++ d ∷ cs)) t ∙ units-around n w cs ∙ ap (λ l. l ++ space ∷ kept_units n cs) (own-word n w none)
+opened n w (c ∷ cs) t none = ap (λ d. kept_units n (w ++ d ∷ cs)) t ∙ units-around n w cs
+    ∙ ap (λ l. l ++ space ∷ kept_units n cs) (own-word n w none)
 
-tail-of : (text word : List ℕ) (after : Option (Bor (List ℕ))) → IsSplitAt 32 text word after → (tail : List ℕ) × (text ≡ word ++ tail) × IsTail tail
+tail-of : (text word : List ℕ) (after : Option (Bor (List ℕ))) → IsSplitAt 32 text word after
+    → (tail : List ℕ) × (text ≡ word ++ tail) × IsTail tail
 tail-of text word None s = ([], whole-front 32 text word None s s.after_is ∙ sym (append-nil word), tt)
 tail-of text word (Some rest) s = (32 ∷ rest.now, whole-parts 32 text word rest s, refl)
 
 -- a word that begins at k is wider than a line: it is broken where the line is full
-pub breaks-inside : (n k m : ℕ) (line word : List ℕ) (after : Option (Bor (List ℕ))) → 0 < n → is_printable line ≡ true → n < length line → k + m ≡ n
+pub breaks-inside : (n k m : ℕ) (line word : List ℕ) (after : Option (Bor (List ℕ))) → 0 < n → is_printable line ≡ true
+    → n < length line → k + m ≡ n
     → (0 < k → get_or line (k - 1) 0 ≡ 32) → IsSplitAt 32 (drop k line) word after → n < length word → BreaksAt n true line n
 breaks-inside n k m line word after some h long e at s wide =
     let front = take k line in
@@ -207,8 +215,10 @@ breaks-inside n k m line word after some h long e at s wide =
     sym (take-append-drop k line)
     ∙ ap (λ l. front ++ l) (t.1 ∙ ap (λ l. l ++ t.0) (sym (take-append-drop m word)) ∙ append_assoc head w t.0)
     ∙ sym (append_assoc front head (w ++ t.0)) in
-    let taken : take n line ≡ front ++ head = ap (take n) whole ∙ ap (λ i. take i ((front ++ head) ++ (w ++ t.0))) (sym len) ∙ take-append_seam (front ++ head) (w ++ t.0) in
-    let dropped : drop n line ≡ w ++ t.0 = ap (drop n) whole ∙ ap (λ i. drop i ((front ++ head) ++ (w ++ t.0))) (sym len) ∙ drop-append_seam (front ++ head) (w ++ t.0) in
+    let taken : take n line ≡ front ++ head = ap (take n) whole ∙ ap (λ i. take i ((front ++ head) ++ (w ++ t.0))) (sym len)
+    ∙ take-append_seam (front ++ head) (w ++ t.0) in
+    let dropped : drop n line ≡ w ++ t.0 = ap (drop n) whole ∙ ap (λ i. drop i ((front ++ head) ++ (w ++ t.0))) (sym len)
+    ∙ drop-append_seam (front ++ head) (w ++ t.0) in
     let next = append_all n 0 (kept_units n (drop n line)) in
     record {
       some = some;
@@ -257,7 +267,8 @@ spelled-more n k words cs h b =
 -- ---- the word that passes a line
 
 -- where it begins at k, no byte from there to the end of the line is a space
-pub passes : (n k : ℕ) (line word : List ℕ) (after : Option (Bor (List ℕ))) → n < length line → k ≤ n → IsSplitAt 32 (drop k line) word after
+pub passes : (n k : ℕ) (line word : List ℕ) (after : Option (Bor (List ℕ))) → n < length line → k ≤ n
+    → IsSplitAt 32 (drop k line) word after
     → ((j : ℕ) → k ≤ j → j < n → get_or line j 0 ≡ 32 → ⊥) → (get_or line n 0 ≡ 32 → ⊥) → n < k + length word
 passes n k line word after long le s none next =
     elim (cases_lt n (k + length word)) [
@@ -272,8 +283,10 @@ passes n k line word after long le s none next =
     ]
 
 -- it is split off
-pub breaks-word : (n k : ℕ) (line word : List ℕ) (after : Option (Bor (List ℕ))) → 0 < n → is_printable line ≡ true → k ≤ n → n < length line
-    → (0 < k → get_or line (k - 1) 0 ≡ 32) → IsSplitAt 32 (drop k line) word after → length word ≤ n → n < k + length word → BreaksAt n true line k
+pub breaks-word : (n k : ℕ) (line word : List ℕ) (after : Option (Bor (List ℕ))) → 0 < n → is_printable line ≡ true → k ≤ n
+    → n < length line
+    → (0 < k → get_or line (k - 1) 0 ≡ 32) → IsSplitAt 32 (drop k line) word after → length word ≤ n → n < k + length word
+    → BreaksAt n true line k
 breaks-word n k line word after some h le long at s short_word wide =
     let back = parts-printable k line h in
     let own : is_printable word ≡ true = ap is_printable s.front_is ∙ (parts-printable (length word) (drop k line) back.1).0 in

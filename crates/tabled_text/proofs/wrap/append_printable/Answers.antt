@@ -6,7 +6,8 @@ use Rattle.tabled_text.proofs.WrapWhole.{written-short}
 use Rattle.tabled_text.proofs.wrap.append_printable.Goals as goal
 
 pub split_at-requires : goal.split_at-requires
-split_at-requires g c = IsCharBoundary-from_ascii c.lines.rest.now c.line_end.result (IsAscii-printable c.lines.rest.now c.lines.invariant.1) (omega (arith, c.line_end.ensures.end))
+split_at-requires g c = IsCharBoundary-from_ascii c.lines.rest.now c.line_end.result
+    (IsAscii-printable c.lines.rest.now c.lines.invariant.1) (omega (arith, c.line_end.ensures.end))
 
 pub lines-preserved : goal.lines-preserved
 lines-preserved g c =

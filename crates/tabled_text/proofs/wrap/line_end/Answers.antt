@@ -5,7 +5,8 @@ use Rattle.tabled_text.specs.Walk.{BreaksAt}
 use Rattle.tabled_text.proofs.wrap.line_end.Goals as goal
 
 pub split_at-requires : goal.split_at-requires
-split_at-requires c = IsCharBoundary-from_ascii c.args.line.now c.after_space-at.result (IsAscii-printable c.args.line.now c.requires.printable) (omega (arith, c.after_space-at.ensures.within))
+split_at-requires c = IsCharBoundary-from_ascii c.args.line.now c.after_space-at.result
+    (IsAscii-printable c.args.line.now c.requires.printable) (omega (arith, c.after_space-at.ensures.within))
 
 pub returns-then-not-words : goal.returns-then-not-words
 returns-then-not-words c =
@@ -24,9 +25,11 @@ returns-then-width-n c =
     let at = c.after_space-at.result in
     let split = subst (λ l. IsSplitAt 32 l c.split_at_byte.result.0.now c.split_at_byte.result.1) c.split_at.ensures.back c.split_at_byte.ensures in
     subst (λ words. BreaksAt n words c.args.line.now n) (sym c.if-not-words.false)
-    (breaks-inside n at (n - at) c.args.line.now c.split_at_byte.result.0.now c.split_at_byte.result.1 c.requires.some c.requires.printable c.requires.more
+    (breaks-inside n at (n - at) c.args.line.now c.split_at_byte.result.0.now c.split_at_byte.result.1 c.requires.some
+    c.requires.printable c.requires.more
     (omega (arith, c.after_space-at.ensures.within))
-    (λ some. ap (λ bytes. get_or bytes (at - 1) 0) (sym c.as_bytes-bytes.ensures.value) ∙ c.after_space-at.ensures.space some) split (omega arith))
+    (λ some. ap (λ bytes. get_or bytes (at - 1) 0) (sym c.as_bytes-bytes.ensures.value) ∙ c.after_space-at.ensures.space some) split
+    (omega arith))
 
 pub returns : goal.returns
 returns c =
@@ -36,8 +39,10 @@ returns c =
     let word = c.split_at_byte.result.0.now in
     let split = subst (λ l. IsSplitAt 32 l word c.split_at_byte.result.1) c.split_at.ensures.back c.split_at_byte.ensures in
     subst (λ words. BreaksAt n words line at) (sym c.if-not-words.false)
-    (breaks-word n at line word c.split_at_byte.result.1 c.requires.some c.requires.printable c.after_space-at.ensures.within c.requires.more
-    (λ some. ap (λ bytes. get_or bytes (at - 1) 0) (sym c.as_bytes-bytes.ensures.value) ∙ c.after_space-at.ensures.space some) split (omega arith)
+    (breaks-word n at line word c.split_at_byte.result.1 c.requires.some c.requires.printable c.after_space-at.ensures.within
+    c.requires.more
+    (λ some. ap (λ bytes. get_or bytes (at - 1) 0) (sym c.as_bytes-bytes.ensures.value) ∙ c.after_space-at.ensures.space some) split
+    (omega arith)
     (passes n at line word c.split_at_byte.result.1 c.requires.more c.after_space-at.ensures.within split
     (λ j from to is. c.after_space-at.ensures.none j from to (ap (λ bytes. get_or bytes j 0) c.as_bytes-bytes.ensures.value ∙ is))
     (λ is. c.if-next-eq32.false (ap (λ bytes. get_or bytes n 0) c.as_bytes-bytes.ensures.value ∙ is))))
