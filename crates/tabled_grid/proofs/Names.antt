@@ -25,12 +25,11 @@ pub use Rattle.tabled_line.proofs.Plains.{plain-fill, plain_rule_line}
 unfoldable pub use Rattle.tabled_line.specs.Apart.{line_total}
 pub use Rattle.tabled_line.specs.Fill.{fill}
 pub use Rattle.tabled_line.specs.Leading.{LineSends}
-pub use Rattle.tabled_line.specs.Offsets.{offset_from}
 pub use Rattle.tabled_line.specs.Placements.{IsPlaceable, cell_placement}
 pub use Rattle.tabled_line.specs.Plain.{EachLineTakes, IsPlainRule, IsPlainStyle}
 pub use Rattle.tabled_line.specs.Row.{rule_line}
 unfoldable pub use Rattle.tabled_line.specs.Row.{row_line, row_lines}
-pub use Rattle.tabled_line.specs.declared.placement.CellPlacement.{CellPlacement}
+pub use Rattle.tabled_line.specs.declared.placement.Placement.{Placement}
 pub use Rattle.tabled_priority.specs.Sums.{one_if, sum_below}
 pub use Rattle.tabled_size.proofs.Passing.{too_high_passes, too_wide_passes, width_at, width_ge}
 pub use Rattle.tabled_size.proofs.Reaching.{reached_size, reached_there}

@@ -9,11 +9,11 @@ use Rattle.tabled_grid.specs.declared.column_placements.ColumnPlacements.TheVari
 use Rattle.tabled_grid.specs.declared.column_styles.ColumnStyles.{ColumnStyles}
 use Rattle.tabled_line.specs.Placements.{ArePlacements}
 use Rattle.tabled_line.specs.Row.{ColumnSheet}
-use Rattle.tabled_line.specs.declared.placement.CellPlacement.{CellPlacement}
+use Rattle.tabled_line.specs.declared.placement.Placement.{Placement}
 use Rattle.tabled_size.specs.Reached.{reached}
 
 -- the placements, in an array or allocated
-abbrev pub placements_of : ColumnPlacements → List CellPlacement
+abbrev pub placements_of : ColumnPlacements → List Placement
 placements_of (Few placements count) = take count placements
 placements_of (Each placements) = placements.items
 

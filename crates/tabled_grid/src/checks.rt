@@ -16,7 +16,7 @@ ghost use Rattle.tabled_grid.specs.Printed.{IsInRange, IsFailure};
 use crate::grid::Grid;
 use tabled_base::{PeekableRecords, Position, TableError};
 use tabled_config::{Indent, Sides, SpannedConfig};
-use tabled_line::{CellPlacement, Placement};
+use tabled_line::Placement;
 use tabled_size::{
     CompleteDimension, Dimension, check_heights, check_widths, filled_height, filled_width,
 };
@@ -61,7 +61,7 @@ fn fits_placement<R: PeekableRecords, D: Dimension>(
 fn narrow_by_placements<R: PeekableRecords, D: Dimension>(
     grid: &Grid<'_, R, D>,
     row: usize,
-    placements: &[CellPlacement],
+    placements: &[Placement],
 ) -> Option<usize>
     requires sized { columns grid.now.cells ≤ length grid.now.widths }
     requires row_in { row < length grid.now.cells }
@@ -70,7 +70,7 @@ fn narrow_by_placements<R: PeekableRecords, D: Dimension>(
     ensures { MatchOption result (IsHeldIn grid.now row) (IsNarrowIn grid.now row) }
 {
     'columns: for column in 0..placements.len() {
-        if !fits_placement(grid, row, column, placements[column].placement) {
+        if !fits_placement(grid, row, column, placements[column]) {
             return Some(column);
         }
     }

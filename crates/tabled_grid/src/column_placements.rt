@@ -7,25 +7,22 @@ ghost use Rattle.tabled_size.specs.Reached.{reached};
 
 use std::alloc::Global;
 use tabled_config::{AlignmentHorizontal, SpannedConfig};
-use tabled_line::{CellPlacement, Placement, bar_length, next_offset};
+use tabled_line::{Placement, UniformPlacement};
 use tabled_size::{Dimension, check_widths};
 
 /// The greatest number of columns whose placements are in an array.
 const FEW_COLUMNS: usize = 128;
 
 /// A placeholder that arrays are filled with.
-const NO_PLACEMENT: CellPlacement = CellPlacement {
-    place: 0,
-    placement: Placement {
-        before: 0,
-        content_width: 0,
-        horizontal: AlignmentHorizontal::Left,
-    },
+const NO_PLACEMENT: Placement = Placement {
+    before: 0,
+    content_width: 0,
+    horizontal: AlignmentHorizontal::Left,
 };
 
-/// Computes the placements of a row. `None` if a text has no placement or an offset overflows.
+/// Computes the placements of a row. `None` if a text has no placement.
 fn list_placements<D: Dimension>(
-    placements: &mut [CellPlacement],
+    placements: &mut [Placement],
     config: &SpannedConfig,
     dimension: &D,
     row: usize,
@@ -36,17 +33,10 @@ fn list_placements<D: Dimension>(
         (columns_by config.now (D.width_at dimension.now) (length placements.old))
         placements.new) }
 {
-    let bar = bar_length(config.frame().inner);
-    let mut place = 0;
     'columns: for column in 0..placements.len() {
-        let width = dimension.get_width(column);
-        let placement = Placement::new(&config.style_at(row, column), width)?;
-        let next = next_offset(place, width, bar)?;
-        placements[column] = CellPlacement {
-            place: place + placement.before,
-            placement,
-        };
-        place = next;
+        let uniform = UniformPlacement::new(&config.style_at(row, column))?;
+        let placement = uniform.placement(dimension.get_width(column))?;
+        placements[column] = placement;
     }
     Some(())
 }
@@ -55,14 +45,14 @@ fn list_placements<D: Dimension>(
 #[derive(Drop)]
 pub(crate) enum ColumnPlacements {
     /// Those of the first columns in an array, and the number of columns.
-    Few([CellPlacement; FEW_COLUMNS], usize),
-    Each(Vec<CellPlacement>),
+    Few([Placement; FEW_COLUMNS], usize),
+    Each(Vec<Placement>),
 }
 
 impl ColumnPlacements {
     /// Returns the placements of a row of `columns` cells. `None` if a width is missing, a text has
-    /// no placement, an offset overflows, or there are more than `FEW_COLUMNS` columns and memory
-    /// for them can't be allocated.
+    /// no placement, or there are more than `FEW_COLUMNS` columns and memory for them can't be
+    /// allocated.
     pub fn new<D: Dimension>(
         memory: Option<Global>,
         config: &SpannedConfig,
@@ -85,7 +75,7 @@ impl ColumnPlacements {
     }
 
     #[tactic(auto, using(std::proofs::lemmas::List::take_all))]
-    pub fn listed(&self) -> &[CellPlacement]
+    pub fn listed(&self) -> &[Placement]
         ensures { result.now ≡ placements_of self.now }
     {
         match self {

@@ -9,7 +9,7 @@ ghost use Rattle.tabled_size.specs.Reached.{reached};
 use crate::column_placements::ColumnPlacements;
 use std::alloc::Global;
 use tabled_config::{CellStyle, SpannedConfig};
-use tabled_line::CellPlacement;
+use tabled_line::Placement;
 use tabled_size::Dimension;
 
 /// Nothing is cached for a table with more columns.
@@ -94,7 +94,7 @@ impl ColumnStyles {
 
     /// Returns the placements of a row's cells, if they are cached and the row is known to have the
     /// same settings.
-    pub fn placements_in_row(&self, config: &SpannedConfig, row: usize) -> Option<&[CellPlacement]>
+    pub fn placements_in_row(&self, config: &SpannedConfig, row: usize) -> Option<&[Placement]>
         ensures { (width : ℕ → ℕ) (columns : ℕ) → AreStyles config.now width columns self.now
             → IfSome result (λ placements. ArePlacements (style_at config.now row)
             (columns_in config.now width columns) placements.now) }

@@ -2,7 +2,6 @@
 ghost use Rattle.std.specs.Prelude.{◌≡◌, ◌<◌, ℕ, IfSome, length};
 ghost use Rattle.std.specs.List.{slice_index};
 ghost use Rattle.tabled_base.specs.Cells.{columns};
-ghost use Rattle.tabled_config.specs.Frame.{if_any, inner_line};
 ghost use Rattle.tabled_config.specs.RowStyles.{style_in};
 ghost use Rattle.tabled_config.specs.Settings.{frame, rule_at, style_at};
 ghost use Rattle.tabled_grid.specs.ColumnStyles.{AreStyles};
@@ -17,7 +16,7 @@ use std::alloc::Global;
 use std::marker::Model;
 use tabled_base::PeekableRecords;
 use tabled_config::{CellStyle, Frame, HorizontalLine, RowStyles, SpannedConfig};
-use tabled_line::{CellPlacement, ColumnSeparator, UniformPlacement};
+use tabled_line::{ColumnSeparator, Placement, UniformPlacement};
 use tabled_size::Dimension;
 
 /// Records, settings and sizes, with what is looked up once for all rows. Contracts see them as a
@@ -32,8 +31,6 @@ pub(crate) struct Grid<'a, R: PeekableRecords, D: Dimension> {
     pub memory: Option<Global>,
     /// The vertical lines and the margin.
     pub around: Frame,
-    // The horizontal line between two rows, by the borders.
-    between: Option<HorizontalLine>,
     /// The separator between the texts of two columns.
     pub separator: ColumnSeparator,
     /// The placement of all texts, if nothing was set for a part of the table.
@@ -55,7 +52,6 @@ impl<'a, R: PeekableRecords, D: Dimension> Model for Grid<'a, R, D> {
         → IsUniform (style_at g.config.now row column) uniform)
         × IfSome g.by_column (let count = columns (R.cells g.records.now) in
         AreStyles g.config.now (slice_index (reached (D.width_at g.dimension.now) count)) count)
-        × (g.between ≡ if_any (inner_line g.config.now.borders))
         × IfSome g.shared (λ style. (row column : ℕ)
         → style_at g.config.now row column ≡ style) };
 }
@@ -85,7 +81,6 @@ impl<'a, R: PeekableRecords, D: Dimension> Grid<'a, R, D> {
             dimension,
             memory,
             around,
-            between: config.borders.line_at(2, 1),
             separator: ColumnSeparator::new(around.inner),
             uniform: match &shared {
                 Some(style) => UniformPlacement::new(style),
@@ -111,9 +106,9 @@ impl<'a, R: PeekableRecords, D: Dimension> Grid<'a, R, D> {
         self.config.styles_in(row)
     }
 
-    /// Returns the placement and offset of each cell of a row, if they are cached.
+    /// Returns the placement of each cell of a row, if they are cached.
     #[inline(always)]
-    pub fn placements(&self, row: usize) -> Option<&[CellPlacement]>
+    pub fn placements(&self, row: usize) -> Option<&[Placement]>
         ensures { IfSome result (λ placements. ArePlacements (style_at self.now.config row)
             (columns_of self.now) placements.now) }
     {
@@ -121,18 +116,10 @@ impl<'a, R: PeekableRecords, D: Dimension> Grid<'a, R, D> {
     }
 
     /// Returns the horizontal line above a row, or below the last one, if there is one.
-    #[inline(always)]
-    #[tactic(auto, unfolding(tabled_config::specs::Settings::rule_at))]
     pub fn rule_at(&self, index: usize) -> Option<HorizontalLine>
         ensures { result ≡ rule_at self.now.config (length self.now.cells) index }
     {
-        if index == 0 || index == self.records.count_rows() {
-            return self.config.rule_at(self.records.count_rows(), index);
-        }
-        match self.config.get_horizontal_line(index) {
-            Some(line) => Some(line),
-            None => self.between,
-        }
+        self.config.rule_at(self.records.count_rows(), index)
     }
 
     pub fn width(&self, column: usize) -> usize

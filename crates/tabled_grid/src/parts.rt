@@ -91,8 +91,7 @@ impl<'a, R: PeekableRecords, D: Dimension> Row<'a> for GridRow<'a, R, D> {
     }
 
     fn width(&self, column: usize) -> usize {
-        let grid = self.grid;
-        grid.dimension.get_width(column)
+        self.grid.width(column)
     }
 
     #[inline(always)]

@@ -1,10 +1,9 @@
 -- Rows whose texts are laid where the cells stand.
 use Rattle.tabled_line.proofs.Names.{ColumnSheet, IsUtf8, List, PlacedText, RowSheet, Slot, StandsAt, ap, arith, blank_row, block_line}
 use Rattle.tabled_line.proofs.Names.{drop, fill, first_offset, get_or, get_or-map-range_with_len, length, length-map-range_with_len}
-use Rattle.tabled_line.proofs.Names.{offset_at, piece, refl, row_line, slot_at, subst, suc, sym, take, zero, ℕ, ◌++◌, ◌+◌, ◌-◌, ◌<◌, ◌∙◌}
+use Rattle.tabled_line.proofs.Names.{offset_at, piece, refl, row_line, slot_at, subst, suc, sym, take, ℕ, ◌++◌, ◌+◌, ◌-◌, ◌<◌, ◌∙◌}
 use Rattle.tabled_line.proofs.Names.{◌≡◌, ◌≤◌}
-use Rattle.tabled_line.specs.Offsets.{offset_from}
-use Rattle.tabled_line.specs.Slots.{AreSlots, IsTextAt}
+use Rattle.tabled_line.specs.Slots.{AreSlots}
 use Rattle.tabled_line.specs.PlacedText.{IsSpacedLine}
 use Rattle.tabled_line.proofs.Laying.{IsLaid, behind-spaces, blank-cell, blank_from, cell-parts, front, laid-all, laid-begins, laid-length}
 use Rattle.tabled_line.proofs.Laying.{laid-more, laid-next, laid-none, laid-stands, laid-utf8, lay-text, stands-inside, stands-long}
@@ -19,26 +18,6 @@ pub slot-is : (columns : ColumnSheet) (slots : List Slot) (column : ℕ) → Are
 slot-is columns slots column are within =
     ap (λ s. get_or s column (record { place = 0; width = 0 })) are
     ∙ get_or-map-range_with_len (slot_at columns) 0 columns.count column column (record { place = 0; width = 0 }) within (omega arith)
-
--- a cell begins as far behind the first one wherever that begins
-pub place-behind : (first : ℕ) (columns : ColumnSheet) (column : ℕ) → first + offset_from 0 columns column ≡ offset_from first columns column
-place-behind first columns zero = omega arith
-place-behind first columns (suc column) = omega (arith, place-behind first columns column)
-
--- a text begins as far behind the first cell, wherever what is known of it says so
-pub text-begins : {describes : RowSheet → Type 0} {slot : Slot} {first column : ℕ} {placed : PlacedText} (room : ℕ)
-    (t : IsTextAt describes slot first column placed)
-    → room ≡ offset_from 0 t.row.columns column + (t.row.style column).padding.left.size
-    → first + room + placed.shift ≡ slot.place + placed.before
-text-begins {describes} {slot} {first} {column} {placed} room t e =
-    omega (
-      arith,
-      e,
-      t.first_is,
-      ap (λ s. s.place) t.listed,
-      t.placed_is.shifted,
-      place-behind (first_offset t.row.columns) t.row.columns column,
-    )
 
 -- ---- a line of a row while its texts are laid, up to a column whose cell stands at its slot
 

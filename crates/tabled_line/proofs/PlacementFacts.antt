@@ -1,24 +1,24 @@
--- What is kept of where cells begin and their texts stand.
+-- What is kept of where texts stand.
 use Rattle.tabled_line.proofs.Names.{CellStyle, ColumnSheet, List, ap, arith, get_or, get_or-map-range_with_len, length}
 use Rattle.tabled_line.proofs.Names.{length-map-range_with_len, ℕ, ◌<◌, ◌∙◌, ◌≡◌}
 use Rattle.tabled_config.specs.declared.alignment.AlignmentHorizontal.TheVariants.{Left}
 use Rattle.tabled_line.specs.Placements.{ArePlacements, cell_placement}
-use Rattle.tabled_line.specs.declared.placement.CellPlacement.{CellPlacement}
+use Rattle.tabled_line.specs.declared.placement.Placement.{Placement}
 
 -- as many as columns
-pub placements-count : {style : ℕ → CellStyle} {columns : ColumnSheet} {placements : List CellPlacement} → ArePlacements style columns placements → length placements ≡ columns.count
+pub placements-count : {style : ℕ → CellStyle} {columns : ColumnSheet} {placements : List Placement} → ArePlacements style columns placements → length placements ≡ columns.count
 placements-count {style} {columns} {placements} are = ap length are.listed ∙ length-map-range_with_len (cell_placement style columns) 0 columns.count
 
-pub known-within : {style : ℕ → CellStyle} {columns : ColumnSheet} {placements : List CellPlacement} {column : ℕ} → ArePlacements style columns placements
+pub known-within : {style : ℕ → CellStyle} {columns : ColumnSheet} {placements : List Placement} {column : ℕ} → ArePlacements style columns placements
     → column < columns.count → column < length placements
 known-within are within = omega (arith, placements-count are, within)
 
 -- what is read after the last placement
-abbrev pub no_placement : CellPlacement
-no_placement = record { place = 0; placement = record { before = 0; content_width = 0; horizontal = Left } }
+abbrev pub no_placement : Placement
+no_placement = record { before = 0; content_width = 0; horizontal = Left }
 
 -- what is read at a column
-pub cell-known : {style : ℕ → CellStyle} {columns : ColumnSheet} {placements : List CellPlacement} {column : ℕ}
+pub cell-known : {style : ℕ → CellStyle} {columns : ColumnSheet} {placements : List Placement} {column : ℕ}
     → ArePlacements style columns placements → column < columns.count → get_or placements column no_placement ≡ cell_placement style columns column
 cell-known {style} {columns} {placements} {column} are within =
     ap (λ l. get_or l column no_placement) are.listed

@@ -9,7 +9,7 @@ pub spaced-parts : (row : RowSheet) (index column : ℕ) (placed : PlacedText) (
 unfolding cell_piece
 spaced-parts row index column placed n h =
     let bar = piece (has_bar row.columns.frame column) row.columns.frame.inner.main in
-    ap (λ u. fill 32 n ++ (bar ++ u)) h.spaced.line_is ∙ regroup (fill 32 n) bar (fill 32 placed.before) (placed.text.now ++ fill 32 placed.behind)
+    ap (λ u. fill 32 n ++ (bar ++ u)) h.line_is ∙ regroup (fill 32 n) bar (fill 32 placed.before) (placed.text.now ++ fill 32 placed.behind)
   where
     regroup : (a b c d : List ℕ) → a ++ (b ++ (c ++ d)) ≡ (a ++ (b ++ c)) ++ d
     regroup a b c d = simp append_assoc

@@ -1,9 +1,10 @@
 -- Texts that stand between spaces.
-use Rattle.tabled_line.proofs.Names.{AlignmentHorizontal, Bool, CellStyle, IsTop, List, RowSheet, Some, [], above_text, ap, append_assoc}
-use Rattle.tabled_line.proofs.Names.{arith, before_text, block_line, cases_lt, cell_line, columns_before, cond, false, fill, fill_above}
-use Rattle.tabled_line.proofs.Names.{free_lines, get_or_past, indent, inl, inner_width, inr, length, line-nil, line_columns}
-use Rattle.tabled_line.proofs.Names.{line_columns-le, lines_of, refl, slice_get, slice_get-get_or, slice_get_past, slice_index_or, subst}
+use Rattle.tabled_line.proofs.Names.{AlignmentHorizontal, Bool, CellStyle, IsTop, List, None, RowSheet, [], above_text, ap, append_assoc}
+use Rattle.tabled_line.proofs.Names.{arith, before_text, block_line, cell_line, columns_before, cond, false, fill, fill_above}
+use Rattle.tabled_line.proofs.Names.{free_lines, get_or_from_slice_get, indent, inl, inner_width, inr, line_columns, line_columns-le, lines_of}
+use Rattle.tabled_line.proofs.Names.{refl, slice_get, subst}
 use Rattle.tabled_line.proofs.Names.{sym, text_columns, true, ℕ, ◌++◌, ◌+◌, ◌-◌, ◌<◌, ◌∙◌, ◌≡◌, ◌≤◌}
+use Rattle.std.proofs.lemmas.Option.{slice_get_within}
 use Rattle.tabled_text.proofs.Bridge.{some_line}
 use Rattle.tabled_config.specs.declared.sides.Indent.{Indent}
 use Rattle.tabled_config.specs.declared.alignment.AlignmentHorizontal.TheVariants as horizontal
@@ -67,13 +68,9 @@ only-above s text top =
 -- a line of a text is no wider than the text
 pub line-within : {text : List ℕ} {index : ℕ} {line : TextLine} → IsTextLine text index line → line.columns ≤ line.widest
 line-within {text} {index} {line} h =
-    let columns = h.columns_are ∙ ap line_columns h.text_is in
-    elim (cases_lt index (length (lines_of text))) [
-      | inl within ↦ omega (arith, columns, h.widest_is, line_columns-le text index within)
-      | inr past ↦
-          let none : line_columns (slice_index_or (lines_of text) index []) ≡ 0 = ap line_columns (get_or_past (lines_of text) index [] past) ∙ line-nil.columns in
-          omega (arith, columns, none)
-    ]
+    let within = slice_get_within (lines_of text) index line.text.now (sym h.text_is) in
+    let columns = h.columns_are ∙ ap line_columns (sym (get_or_from_slice_get (lines_of text) index line.text.now [] (sym h.text_is))) in
+    omega (arith, columns, h.widest_is, line_columns-le text index within)
 
 -- the columns before a line, if all lines are aligned alike or the line is as wide as its text
 pub shift-is : {row : RowSheet} {index column : ℕ} {line : TextLine} (w : ℕ) → IsCellText row index column line
@@ -116,26 +113,17 @@ cell-spaced {row} {index} {column} {line} shift before behind inside h spaced ow
     let text = row.text column in
     let above = above-is h spaced.top in
     let first : index ≡ index - fill_above s row.height text = omega (arith, above) in
-    elim (cases_lt index (length (lines_of text))) [
-      | inl within ↦
-          let is : Some line.text.now ≡ slice_get (lines_of text) index =
-          ap Some h.line_is.text_is ∙ sym (slice_get-get_or (lines_of text) index [] within) in
-          block-text s w row.height text index line.text.now inside (omega (arith, above)) (is ∙ ap (slice_get (lines_of text)) first)
-          ∙ cell_line-between s w text line.text.now shift before behind spaced.left spaced.right (own ∙ shift-is w h) front
-          (omega (arith, back, h.line_is.columns_are))
-      | inr past ↦
-          let none : line.text.now ≡ [] = h.line_is.text_is ∙ get_or_past (lines_of text) index [] past in
-          let columns : line.columns ≡ 0 = h.line_is.columns_are ∙ ap line_columns none ∙ line-nil.columns in
-          let is = sym (slice_get_past (lines_of text) index past) ∙ ap (slice_get (lines_of text)) first in
-          block-below s w row.height text index inside (omega (arith, above)) is
-          ∙ ap (λ c. fill c w) (below h past)
-          ∙ fill-add 32 before behind w (omega (arith, whole, columns))
-          ∙ ap (λ t. fill 32 before ++ (t ++ fill 32 behind)) (sym none)
-    ]
-  where
-    below : IsCellText row index column line → length (lines_of (row.text column)) ≤ index → (row.style column).padding.bottom.fill ≡ 32
-    below h past =
-        elim h.alone [
-          | inl top ↦ top.below
-          | inr only ↦ let some = some_line (row.text column) in absurd (omega (arith, some, only.0, inside, past))
-        ]
+    block-text s w row.height text index line.text.now inside (omega (arith, above)) (h.line_is.text_is ∙ ap (slice_get (lines_of text)) first)
+    ∙ cell_line-between s w text line.text.now shift before behind spaced.left spaced.right (own ∙ shift-is w h) front
+    (omega (arith, back, h.line_is.columns_are))
+
+-- a cell is blank past its text, if spaces are below that
+pub cell-blank : (row : RowSheet) (index column : ℕ) → index < row.height → IsTop (row.style column) → None ≡ slice_get (lines_of (row.text column)) index
+    → block_line row index column ≡ fill 32 (row.columns.width column)
+cell-blank row index column inside top past =
+    let s = row.style column in
+    let text = row.text column in
+    let above = top-above s row.height text top in
+    let first : index ≡ index - fill_above s row.height text = omega (arith, above) in
+    block-below s (row.columns.width column) row.height text index inside (omega (arith, above)) (past ∙ ap (slice_get (lines_of text)) first)
+    ∙ ap (λ c. fill c (row.columns.width column)) top.below

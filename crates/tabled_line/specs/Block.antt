@@ -1,6 +1,5 @@
 -- The block of a cell: its text, laid out in a width and a height.
-use Rattle.std.specs.Prelude.{ℕ, ◌+◌, ◌-◌, ◌/◌, if◌then◌else◌, List, [], ◌++◌, length, take, map, replicate}
-use Rattle.std.specs.List.{slice_index_or}
+use Rattle.std.specs.Prelude.{ℕ, ◌+◌, ◌-◌, ◌/◌, if◌then◌else◌, List, ◌++◌, length, take, map, replicate}
 use Rattle.tabled_text.specs.Measure.{line_columns, lines_of, text_columns}
 use Rattle.tabled_config.specs.declared.alignment.AlignmentHorizontal.{AlignmentHorizontal}
 use Rattle.tabled_config.specs.declared.alignment.AlignmentHorizontal.TheVariants as horizontal
@@ -8,10 +7,6 @@ use Rattle.tabled_config.specs.declared.alignment.AlignmentVertical.{AlignmentVe
 use Rattle.tabled_config.specs.declared.alignment.AlignmentVertical.TheVariants as vertical
 use Rattle.tabled_config.specs.declared.spanned.CellStyle.{CellStyle}
 use Rattle.tabled_line.specs.Fill.{fill, indent}
-
--- the first line of a text
-abbrev pub first_line : List ℕ → List ℕ
-first_line text = slice_index_or (lines_of text) 0 []
 
 -- how many of the free columns come before a text
 abbrev pub before_text : AlignmentHorizontal → ℕ → ℕ

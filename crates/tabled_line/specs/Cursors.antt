@@ -1,5 +1,5 @@
 -- Cursors in the texts of a row.
-use Rattle.std.specs.Prelude.{◌≡◌, ◌+◌, ◌-◌, ◌<◌, ◌≤◌, ℕ, List, [], None, IfSome, drop, length, slice_get}
+use Rattle.std.specs.Prelude.{◌≡◌, ◌+◌, ◌-◌, ◌<◌, ◌≤◌, ℕ, List, None, Some, IfSome, drop, length, slice_get}
 use Rattle.std.specs.List.{slice_index_or}
 use Rattle.std.specs.Option.{option_map}
 use Rattle.tabled_text.specs.Lines.{lines_in}
@@ -22,9 +22,9 @@ pub record IsAt (text : List ℕ) (above index : ℕ) (cursor : Cursor) : Type 0
   pub line_is : above ≤ index → option_map (λ line. line.0.now) cursor.line ≡ slice_get (lines_of text) (index - above)
   pub columns_are : IfSome cursor.line (λ line. line.1 ≡ line_columns line.0.now)
 
--- a line of a text, which is empty past the last one
+-- a line of a text
 pub record IsTextLine (text : List ℕ) (index : ℕ) (line : TextLine) : Type 0 where
-  pub text_is : line.text.now ≡ slice_index_or (lines_of text) index []
+  pub text_is : Some line.text.now ≡ slice_get (lines_of text) index
   pub columns_are : line.columns ≡ line_columns line.text.now
   pub widest_is : line.widest ≡ text_columns text
 

@@ -8,7 +8,6 @@ pub mod BlankRow
 pub mod Leading
 pub mod NewConfig
 pub mod PlacedText
-pub mod Offsets
 pub mod Plain
 pub mod Buffers
 pub mod Row

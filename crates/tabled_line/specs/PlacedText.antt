@@ -9,8 +9,6 @@ pub record IsSpacedLine (line : List ℕ) (width : ℕ) (placed : PlacedText) : 
   pub line_is : line ≡ fill 32 placed.before ++ (placed.text.now ++ fill 32 placed.behind)
   pub whole : placed.before + (placed.columns + placed.behind) ≡ width
 
--- line `index` of a cell is the text between spaces; those before the text are the padding and
--- `shift` more
-pub record IsPlacedText (row : RowSheet) (index column : ℕ) (placed : PlacedText) : Type 0 where
-  pub spaced : IsSpacedLine (block_line row index column) (row.columns.width column) placed
-  pub shifted : placed.before ≡ (row.style column).padding.left.size + placed.shift
+-- line `index` of a cell is the text between spaces
+abbrev pub IsPlacedText : RowSheet → ℕ → ℕ → PlacedText → Type 0
+IsPlacedText row index column placed = IsSpacedLine (block_line row index column) (row.columns.width column) placed

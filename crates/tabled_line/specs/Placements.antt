@@ -5,10 +5,8 @@ use Rattle.tabled_config.specs.declared.sides.Indent.{Indent}
 use Rattle.tabled_config.specs.declared.sides.Sides.{Sides}
 use Rattle.tabled_config.specs.declared.spanned.CellStyle.{CellStyle}
 use Rattle.tabled_line.specs.Block.{inner_width}
-use Rattle.tabled_line.specs.Offsets.{offset_from}
 use Rattle.tabled_line.specs.Row.{ColumnSheet, RowSheet}
 use Rattle.tabled_line.specs.declared.placement.Placement.{Placement}
-use Rattle.tabled_line.specs.declared.placement.CellPlacement.{CellPlacement}
 use Rattle.tabled_line.specs.declared.placement.KnownPlacements.{KnownPlacements}
 use Rattle.tabled_line.specs.declared.placement.KnownPlacements.TheVariants.{Cached, Styled, Uniform}
 use Rattle.tabled_line.specs.declared.placement.UniformPlacement.{UniformPlacement}
@@ -41,14 +39,12 @@ pub record IsPlaceable (style : CellStyle) (width : ℕ) : Type 0 where
 abbrev pub IsPlacementIn : CellStyle → ℕ → Placement → Type 0
 IsPlacementIn style width placement = (placement ≡ placement_of style width) × IsPlaceable style width
 
--- the placement in a column, and the offset of the first column after the left padding, in bytes
--- after the left edge of a blank row
-abbrev pub cell_placement : (ℕ → CellStyle) → ColumnSheet → ℕ → CellPlacement
-cell_placement style columns column =
-    record { place = offset_from 0 columns column + (style column).padding.left.size; placement = placement_of (style column) (columns.width column) }
+-- the placement in a column
+abbrev pub cell_placement : (ℕ → CellStyle) → ColumnSheet → ℕ → Placement
+cell_placement style columns column = placement_of (style column) (columns.width column)
 
 -- the placements of all columns, each of which is allowed
-pub record ArePlacements (style : ℕ → CellStyle) (columns : ColumnSheet) (placements : List CellPlacement) : Type 0 where
+pub record ArePlacements (style : ℕ → CellStyle) (columns : ColumnSheet) (placements : List Placement) : Type 0 where
   pub listed : placements ≡ map (cell_placement style columns) (range_with_len 0 columns.count)
   pub placeable : (column : ℕ) → column < columns.count → IsPlaceable (style column) (columns.width column)
 

@@ -1,5 +1,6 @@
 //! Buffers for the text of a line.
-ghost use Rattle.std.specs.Prelude.{◌≡◌, ◌≤◌, Some, IfErr, IfSome, [], take, true};
+ghost use Rattle.std.specs.Prelude.{◌≡◌, ◌≤◌, Some, IfErr, [], take, true};
+ghost use Rattle.std.specs.Str.{is_utf8};
 ghost use Rattle.tabled_base.specs.declared.error.TableError.TheVariants.{Memory};
 ghost use Rattle.tabled_line.specs.Sent.{Sent, Writes, memory_sent};
 
@@ -21,6 +22,7 @@ pub struct FixedBuffer {
     bytes: [u8; FIXED_BYTES],
     used: usize,
     ghost within: { used ≤ 4096 },
+    ghost utf8: { is_utf8 (take used bytes) ≡ true },
 }
 
 impl FixedBuffer {
@@ -34,11 +36,12 @@ impl FixedBuffer {
         }
     }
 
-    /// Returns the text in the buffer; `None` if it isn't UTF-8.
-    pub fn text(&self) -> Option<&str>
-        ensures { IfSome result (λ text. text.now ≡ take self.now.used self.now.bytes) }
+    /// Returns the text in the buffer.
+    pub fn text(&self) -> &str
+        ensures { result.now ≡ take self.now.used self.now.bytes }
     {
-        std::str::from_utf8(&self.bytes[..self.used]).ok()
+        // Sound: only texts are added.
+        unsafe { std::str::from_utf8_unchecked(&self.bytes[..self.used]) }
     }
 }
 
@@ -92,13 +95,13 @@ impl LineBuffer {
         }
     }
 
-    /// Returns the text in the buffer; `None` if it isn't UTF-8.
-    pub fn text(&self) -> Option<&str>
-        ensures { IfSome result (λ text. text.now ≡ buffer_text self.now) }
+    /// Returns the text in the buffer.
+    pub fn text(&self) -> &str
+        ensures { result.now ≡ buffer_text self.now }
     {
         match self {
             LineBuffer::Fixed(buffer) => buffer.text(),
-            LineBuffer::Grown(text) => Some(text.as_str()),
+            LineBuffer::Grown(text) => text.as_str(),
         }
     }
 }

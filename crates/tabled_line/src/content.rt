@@ -1,21 +1,28 @@
 //! The text of a cell with its measures.
-ghost use Rattle.std.specs.Prelude.{◌≡◌, length};
+ghost use Rattle.std.specs.Prelude.{◌≡◌, ◌∷◌, length};
+ghost use Rattle.tabled_text.specs.Lines.{lines_in};
 ghost use Rattle.tabled_text.specs.Measure.{line_columns, lines_of, text_columns};
-ghost use Rattle.tabled_line.specs.Block.{first_line};
 
-use tabled_text::{line_width, split_line, text_measures};
+use tabled_text::{line_width, run_end, split_line, text_measures};
 
-/// Returns the columns of a line. Printable ASCII is measured fastest.
-#[inline(always)]
-pub(crate) fn measure_line(line: &str) -> usize
-    ensures { result ≡ line_columns line.now }
+/// Returns the first line of a text, its width in columns, and the text after it, if it has more
+/// lines. A line of printable ASCII is read once.
+pub(crate) fn next_line(text: &str) -> (&str, usize, Option<&str>)
+    ensures lines { lines_of text.now ≡ result.0.now ∷ lines_in result.2 }
+    ensures columns { result.1 ≡ line_columns result.0.now }
 {
-    let (columns, lines) = text_measures(line);
-    if lines == 1 {
-        columns
-    } else {
-        line_width(line)
+    let bytes = text.as_bytes();
+    let run = run_end(bytes, 0, b' ', b'~');
+    if run == bytes.len() {
+        return (text, run, None);
     }
+    if bytes[run] == b'\n' {
+        let (line, _) = text.split_at(run);
+        let (_, rest) = text.split_at(run + 1);
+        return (line, run, Some(rest));
+    }
+    let (line, rest) = split_line(text);
+    (line, line_width(line), rest)
 }
 
 /// A text, its width in columns, and its number of lines.
@@ -39,18 +46,5 @@ impl<'a> Content<'a> {
             columns,
             lines,
         }
-    }
-
-    /// Returns the first line and its width in columns.
-    #[inline(always)]
-    pub fn first_line(&self) -> (&'a str, usize)
-        ensures line { result.0.now ≡ first_line self.now.text.now }
-        ensures columns { result.1 ≡ line_columns result.0.now }
-    {
-        if self.lines == 1 {
-            return (self.text, self.columns);
-        }
-        let (line, _) = split_line(self.text);
-        (line, measure_line(line))
     }
 }

@@ -1,11 +1,10 @@
 //! Cursors: the line of each text in a line of a row, so that no text is searched from its start
 //! for each line.
 ghost use Rattle.std.specs.Prelude.{◌≡◌, ◌-◌, ℕ, List};
-ghost use Rattle.tabled_line.specs.Cursors.{AreAt, IsAhead, IsAt, IsTextLine, nowhere};
+ghost use Rattle.tabled_line.specs.Cursors.{AreAt, IsAhead, IsAt, nowhere};
 ghost use Rattle.tabled_line.specs.Row.{RowSheet};
 
-use crate::content::{Content, measure_line};
-use tabled_text::split_line;
+use crate::content::{Content, next_line};
 
 /// The number of cursors on the stack for rows of at most this many cells.
 pub const FEW_CURSORS: usize = 64;
@@ -31,7 +30,7 @@ pub struct Cursor<'a> {
     /// The text from its next line on, if it has one.
     rest: Option<&'a str>,
     /// The width of the text in columns.
-    widest: usize,
+    pub(crate) widest: usize,
 }
 
 impl<'a> Cursor<'a> {
@@ -83,30 +82,9 @@ impl<'a> Cursor<'a> {
         let Some(text) = self.rest else {
             return;
         };
-        let (line, rest) = split_line(text);
-        self.line = Some((line, measure_line(line)));
+        let (line, columns, rest) = next_line(text);
+        self.line = Some((line, columns));
         self.rest = rest;
-    }
-
-    /// Returns the line of the text. It is empty above and below the text.
-    #[inline(always)]
-    pub(crate) fn text_line(&self) -> TextLine<'a>
-        ensures { (text : List ℕ) (index : ℕ) → IsAt text 0 index self.now
-            → IsTextLine text index result }
-    {
-        let widest = self.widest;
-        match self.line {
-            Some((text, columns)) => TextLine {
-                text,
-                columns,
-                widest,
-            },
-            None => TextLine {
-                text: "",
-                columns: 0,
-                widest,
-            },
-        }
     }
 }
 

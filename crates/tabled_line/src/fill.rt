@@ -66,16 +66,6 @@ pub fn write_fill<S: TextSink>(sink: &mut S, c: char, count: usize) -> Result<()
     }
 }
 
-/// Writes an indent: its fill character, as many times as its size.
-pub fn write_indent<S: TextSink>(sink: &mut S, side: Indent) -> Result<(), TableError>
-    ensures { Writes (S.sent sink.old) result (S.sent sink.new) (indent side) }
-{
-    if side.size == 0 {
-        return Ok(());
-    }
-    write_fill(sink, side.fill, side.size)
-}
-
 /// Writes two indents, in one run if both are spaces.
 #[inline(always)]
 fn write_indents<S: TextSink>(sink: &mut S, first: Indent, second: Indent) -> Result<(), TableError>
@@ -87,8 +77,8 @@ fn write_indents<S: TextSink>(sink: &mut S, first: Indent, second: Indent) -> Re
     {
         return write_spaces(sink, spaces);
     }
-    write_indent(sink, first)?;
-    write_indent(sink, second)
+    write_fill(sink, first.fill, first.size)?;
+    write_fill(sink, second.fill, second.size)
 }
 
 /// Writes a text between the side paddings, with `before` and `behind` spaces around it.

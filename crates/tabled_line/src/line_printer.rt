@@ -54,21 +54,6 @@ fn write_feed_and_line<S: TextSink>(
     sink.write_text(&led[1..])
 }
 
-/// Writes a horizontal line piece by piece, without the cache.
-#[inline(never)]
-fn write_uncached_rule<C: TableColumns, S: TextSink>(
-    sink: &mut S,
-    begun: &mut bool,
-    columns: &C,
-    line: HorizontalLine,
-) -> Result<(), TableError>
-    ensures { WritesLines (S.sent sink.old) begun.old result (S.sent sink.new) begun.new
-        (rule_line (C.sheet columns.now) line ∷ []) }
-{
-    write_break(sink, begun)?;
-    write_rule_line(sink, columns, &line)
-}
-
 /// Writes a line of a row piece by piece, without the template.
 #[inline(always)]
 fn write_unfilled_line<'a, R: Row<'a>, S: TextSink>(
@@ -233,12 +218,11 @@ impl<C: TableColumns> LinePrinter<C> {
         let Some(line) = rule else {
             return Ok(());
         };
-        if self.kept.rule.update(&self.columns, line)
-            && let Some(text) = self.kept.rule.buffer.text()
-        {
-            return write_feed_and_line(sink, &mut self.begun, text);
+        if self.kept.rule.update(&self.columns, line) {
+            return write_feed_and_line(sink, &mut self.begun, self.kept.rule.buffer.text());
         }
-        write_uncached_rule(sink, &mut self.begun, &self.columns, line)
+        write_break(sink, &mut self.begun)?;
+        write_rule_line(sink, &self.columns, &line)
     }
 
     /// Writes a line of a row over these columns. Inlined, since the height is mostly known to be 1.

@@ -1,5 +1,5 @@
 //! The placements of the texts in a line of a row, from what is known of the row.
-ghost use Rattle.std.specs.Prelude.{◌≡◌, ◌+◌, ◌<◌, ℕ, IfSome};
+ghost use Rattle.std.specs.Prelude.{◌≡◌, ◌<◌, ℕ, IfSome};
 ghost use Rattle.tabled_config.specs.declared.spanned.CellStyle.{CellStyle};
 ghost use Rattle.tabled_line.specs.PlacedText.{IsPlacedText};
 ghost use Rattle.tabled_line.specs.Placements.{IsPlacementIn, IsUniform};
@@ -8,7 +8,6 @@ ghost use Rattle.tabled_line.specs.RowLines.{IsRowLine};
 use crate::block::before_text;
 use crate::row::Row;
 use crate::row_line::RowLine;
-use crate::row_template::Slot;
 use tabled_config::{AlignmentHorizontal, CellStyle, Indent, RowStyles, Sides};
 
 /// Where a text is in its column. Side padding is spaces, and there is no top padding.
@@ -20,14 +19,6 @@ pub struct Placement {
     pub content_width: usize,
     /// The alignment within the content width.
     pub horizontal: AlignmentHorizontal,
-}
-
-/// The placement of a cell's text. `place` is the offset of the first column after the left
-/// padding, in bytes after the left edge of a blank row.
-#[derive(Clone, Copy)]
-pub struct CellPlacement {
-    pub place: usize,
-    pub placement: Placement,
 }
 
 /// The placement that texts with one style have in columns of any width.
@@ -42,8 +33,8 @@ pub struct UniformPlacement {
 /// What is known of the placements of the texts in a row.
 #[derive(Clone, Copy)]
 pub enum KnownPlacements<'a> {
-    /// The placement and offset of each text, which are cached.
-    Cached(&'a [CellPlacement]),
+    /// The placement of each text, which are cached.
+    Cached(&'a [Placement]),
     /// One placement for all texts.
     Uniform(UniformPlacement),
     /// Nothing: each placement follows from the style of the cell.
@@ -90,24 +81,11 @@ impl UniformPlacement {
     }
 }
 
-impl Placement {
-    /// Returns the placement of a text with a style in a column of `width` columns. `None` if side
-    /// padding isn't spaces, there is top padding, or the padding doesn't fit.
-    #[inline(always)]
-    pub fn new(style: &CellStyle, width: usize) -> Option<Placement>
-        ensures { IfSome result (IsPlacementIn style.now width) }
-    {
-        UniformPlacement::new(style)?.placement(width)
-    }
-}
-
 /// A line of a text, with the spaces around it in its cell.
 #[derive(Clone, Copy)]
 pub(crate) struct PlacedText<'a> {
     /// The spaces before it, padding included.
     pub before: usize,
-    /// Those of them that alignment adds after the padding.
-    pub shift: usize,
     /// The line.
     pub text: &'a str,
     /// Its width in columns.
@@ -118,10 +96,8 @@ pub(crate) struct PlacedText<'a> {
 
 /// A source of the placements in a row.
 pub(crate) trait RowPlacements {
-    ghost use Rattle.std.specs.Prelude.{◌^◌};
     ghost use Rattle.tabled_line.specs.Placements.{IsDescribedColumn, IsPlacementIn};
     ghost use Rattle.tabled_line.specs.Row.{RowSheet};
-    ghost use Rattle.tabled_line.specs.Slots.{IsTextAt};
 
     // Whether this is true of a row.
     ghost describes: { Self → RowSheet → Type 0 };
@@ -133,45 +109,16 @@ pub(crate) trait RowPlacements {
         ensures { (row : RowSheet) → describes self.now row → column < row.columns.count
             → width ≡ row.columns.width column
             → IfSome result (IsPlacementIn (row.style column) width) };
-
-    /// Returns the offset of a text in a row template. The first cell is at `first`.
-    #[inline(always)]
-    fn text_offset(&self, column: usize, slot: Slot, first: usize, placed: &PlacedText<'_>) -> usize
-        requires text { IsTextAt (describes self.now) slot first column placed.now }
-        requires fits { slot.place + placed.now.before < 2 ^ 64 }
-        ensures { result ≡ slot.place + placed.now.before }
-    {
-        slot.place + placed.before
-    }
-
-    /// Returns the style of a column, if this source knows it.
-    fn style(&self, _column: usize) -> Option<CellStyle>
-        ensures { (row : RowSheet) → describes self.now row → _column < row.columns.count
-            → IfSome result (λ style. style ≡ row.style _column) }
-    {
-        None
-    }
 }
 
-impl<'a> RowPlacements for &'a [CellPlacement] {
+impl<'a> RowPlacements for &'a [Placement] {
     ghost use Rattle.tabled_line.specs.Placements.{ArePlacements};
 
     ghost describes = { λ cells row. ArePlacements row.style row.columns cells.now };
 
     #[inline(always)]
     fn at(&self, column: usize, _width: usize) -> Option<Placement> {
-        Some(self[column].placement)
-    }
-
-    #[inline(always)]
-    fn text_offset(
-        &self,
-        column: usize,
-        _slot: Slot,
-        first: usize,
-        placed: &PlacedText<'_>,
-    ) -> usize {
-        first + self[column].place + placed.shift
+        Some(self[column])
     }
 }
 
@@ -201,10 +148,6 @@ impl<'a> RowPlacements for RowStyles<'a> {
         let (padding, horizontal) = self.sides(column)?;
         UniformPlacement::of(padding, horizontal)?.placement(width)
     }
-
-    fn style(&self, column: usize) -> Option<CellStyle> {
-        Some(RowStyles::at(self, column))
-    }
 }
 
 /// Places the line of the text of a cell in a column of `width` columns. `None` if there is no
@@ -223,14 +166,20 @@ pub(crate) fn place_text<'c, R: Row<'c>, A: RowPlacements>(
     requires line { IsRowLine (R.sheet row.now) line.now }
     ensures { IfSome result (IsPlacedText (R.sheet row.now) line.now.index column) }
 {
+    if line.is_blank(column) {
+        return Some(PlacedText {
+            before: 0,
+            text: "",
+            columns: 0,
+            behind: width,
+        });
+    }
     let placement = placements.at(column, width)?;
     let text_line = line.text_line(row, column)?;
     let free = placement.content_width.checked_sub(text_line.widest)?;
-    let shift = before_text(placement.horizontal, free);
-    let before = placement.before + shift;
+    let before = placement.before + before_text(placement.horizontal, free);
     Some(PlacedText {
         before,
-        shift,
         text: text_line.text,
         columns: text_line.columns,
         behind: width - before - text_line.columns,

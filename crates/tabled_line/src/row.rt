@@ -14,7 +14,7 @@ use crate::rules::{write_bar, write_left_edge, write_right_edge};
 use crate::spaced_line::{ColumnSeparator, write_spaced_row};
 use crate::text_sink::TextSink;
 use tabled_base::TableError;
-use tabled_config::{CellStyle, Frame, RowStyles};
+use tabled_config::{Frame, RowStyles};
 
 /// A row of cells to print: the cells, and the frame around and between them.
 pub trait Row<'a> {
@@ -65,16 +65,14 @@ pub trait Row<'a> {
             → cell_piece (sheet self.now) index column ≡ [] };
 }
 
-/// Writes a line of a cell with a style, after the vertical line before it.
+/// Writes a line of a cell, after the vertical line before it.
 pub(crate) fn write_cell<'a, R: Row<'a>, S: TextSink>(
     sink: &mut S,
     row: &R,
     line: &RowLine<'_, 'a>,
     column: usize,
-    style: CellStyle,
 ) -> Result<(), TableError>
     requires inside { column < (R.sheet row.now).columns.count }
-    requires style { style ≡ (R.sheet row.now).style column }
     requires line { IsRowLine (R.sheet row.now) line.now }
     ensures { Writes (S.sent sink.old) result (S.sent sink.new)
         (cell_piece (R.sheet row.now) line.now.index column) }
@@ -82,7 +80,7 @@ pub(crate) fn write_cell<'a, R: Row<'a>, S: TextSink>(
     let frame = row.frame();
     write_bar(sink, frame.has_bar(column), frame.inner.main)?;
     let cell = CellBlock {
-        style,
+        style: row.styles().at(column),
         width: row.width(column),
         height: line.height,
         content: row.content(column),
@@ -101,11 +99,16 @@ fn write_cells<'a, R: Row<'a>, S: TextSink>(
         (row_cells (R.sheet row.now) line.now.index) }
 {
     if let Some(separator) = row.separator().text() {
-        return write_spaced_row(sink, row, line, separator);
+        if line.height == 1 {
+            // Known here, so that the loop over the cells doesn't ask for it.
+            return write_spaced_row(sink, row, &RowLine::only(), separator);
+        }
+        if line.top {
+            return write_spaced_row(sink, row, line, separator);
+        }
     }
-    let styles = row.styles();
     'cells: for column in 0..row.count_drawn() {
-        write_cell(sink, row, line, column, styles.at(column))?;
+        write_cell(sink, row, line, column)?;
     }
     Ok(())
 }

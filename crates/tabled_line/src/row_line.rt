@@ -3,7 +3,8 @@ ghost use Rattle.std.specs.Prelude.{◌≡◌, ◌≤◌, ◌<◌, IfSome, lengt
 ghost use Rattle.tabled_config.specs.RowStyles.{style_in};
 ghost use Rattle.tabled_line.specs.Block.{fill_above};
 ghost use Rattle.tabled_line.specs.Cursors.{AreAt, IsAt, IsCursor, cursor_of};
-ghost use Rattle.tabled_line.specs.Row.{RowSheet};
+ghost use Rattle.tabled_line.specs.Fill.{fill};
+ghost use Rattle.tabled_line.specs.Row.{RowSheet, block_line};
 ghost use Rattle.tabled_line.specs.RowLines.{AreTop, IsCellText, IsRowLine, IsTop};
 
 use crate::block::CellBlock;
@@ -39,8 +40,22 @@ impl<'s, 'a> RowLine<'s, 'a> {
         }
     }
 
-    /// Returns the line of the text of a cell, if all lines of the text are aligned alike and
-    /// nothing but spaces is above and below it.
+    /// Whether a cell is known to be blank in this line, since its text ends above it.
+    #[inline(always)]
+    pub fn is_blank(&self, column: usize) -> bool
+        ensures { (row : RowSheet) → IsRowLine row self.now → column < row.columns.count
+            → result ≡ true
+            → block_line row self.now.index column ≡ fill 32 (row.columns.width column) }
+    {
+        if !self.top || column >= self.cursors.len() {
+            return false;
+        }
+        self.cursors[column].line.is_none()
+    }
+
+    /// Returns the line of the text of a cell, if it has one here. `None` also if the lines of the
+    /// text may be aligned one by one, fills other than spaces may be below it, or it has several
+    /// lines in a row of one.
     #[inline(always)]
     pub fn text_line<R: Row<'a>>(&self, row: &R, column: usize) -> Option<TextLine<'a>>
         requires known { IsRowLine (R.sheet row.now) self.now }
@@ -49,22 +64,27 @@ impl<'s, 'a> RowLine<'s, 'a> {
     {
         if self.height == 1 {
             let content = row.content(column);
-            let (text, columns) = content.first_line();
-            let widest = content.columns;
-            return if columns == widest {
-                Some(TextLine {
-                    text,
-                    columns,
-                    widest,
-                })
-            } else {
-                None
-            };
+            if content.lines != 1 {
+                return None;
+            }
+            return Some(TextLine {
+                text: content.text,
+                columns: content.columns,
+                widest: content.columns,
+            });
         }
         if !self.top || column >= self.cursors.len() {
             return None;
         }
-        Some(self.cursors[column].text_line())
+        let cursor = &self.cursors[column];
+        match cursor.line {
+            Some((text, columns)) => Some(TextLine {
+                text,
+                columns,
+                widest: cursor.widest,
+            }),
+            None => None,
+        }
     }
 
     /// Returns the cursor of a cell's text. If it has none, its line is searched from the start.
@@ -96,10 +116,7 @@ fn is_top(style: &CellStyle) -> bool
     let AlignmentVertical::Top = style.vertical else {
         return false;
     };
-    if padding.top.size != 0 || padding.bottom.fill != ' ' || style.line_alignment {
-        return false;
-    }
-    true
+    padding.top.size == 0 && padding.bottom.fill == ' ' && !style.line_alignment
 }
 
 /// Whether `is_top` is true of all cells of a row.

@@ -1,7 +1,7 @@
 //! Row templates: a blank row with its vertical lines and edges is built once, and the texts of
 //! each line of a row are copied into its slots.
 ghost use Rattle.std.specs.Prelude.{◌≡◌, ◌+◌, ◌<◌, ◌≤◌, ◌^◌, ◌++◌, [], ◌∷◌, length, take, drop, ℕ};
-ghost use Rattle.std.specs.Prelude.{IfOk, IfSome, IsUtf8, MatchOption, string_bytes, true};
+ghost use Rattle.std.specs.Prelude.{IfOk, IfSome, IsUtf8, string_bytes, true};
 ghost use Rattle.tabled_line.specs.BlankRow.{blank_row, first_offset};
 ghost use Rattle.tabled_line.specs.Slots.{AreSlots, IsTemplateOf};
 ghost use Rattle.tabled_line.specs.Row.{piece, row_line};
@@ -69,46 +69,27 @@ pub(crate) struct Slot {
 }
 
 /// Returns the number of bytes of a vertical line; 0 if it isn't there.
-pub fn bar_length(bar: VerticalLine) -> usize
+fn bar_length(bar: VerticalLine) -> usize
     ensures { result ≡ length (piece bar.there bar.main) }
 {
     if bar.there { bar.main.len_utf8() } else { 0 }
 }
 
-/// Returns the offset of the cell after one at `place` that is `width` columns wide, with a
-/// vertical line of `bar` bytes between them. `None` on overflow.
-pub fn next_offset(place: usize, width: usize, bar: usize) -> Option<usize>
-    ensures { MatchOption result (2 ^ 64 ≤ place + width + bar)
-        (λ next. next ≡ place + width + bar) }
-{
-    place.checked_add(width)?.checked_add(bar)
-}
-
-/// Fills an empty list with the slot of each cell; the first one begins at `start`. `Range`: an
-/// offset overflows. `Memory`: an allocation failed.
-pub(crate) fn list_slots<C: TableColumns>(
-    slots: &mut Vec<Slot>,
-    columns: &C,
-    start: usize,
-) -> Result<(), TableError>
+/// Fills an empty list with the slot of each cell; the first one begins at `start`. `None` if an
+/// offset overflows or an allocation failed.
+fn list_slots<C: TableColumns>(slots: &mut Vec<Slot>, columns: &C, start: usize) -> Option<()>
     requires empty { slots.old.items ≡ [] }
     requires start { start ≡ first_offset (C.sheet columns.now) }
-    ensures { IfOk result (λ _. AreSlots (C.sheet columns.now) slots.new.items) }
+    ensures { IfSome result (λ _. AreSlots (C.sheet columns.now) slots.new.items) }
 {
     let bar = bar_length(columns.frame().inner);
     let mut place = start;
     'slots: for column in 0..columns.count_columns() {
-        let slot = Slot {
-            place,
-            width: columns.width(column),
-        };
-        let Some(next) = next_offset(place, slot.width, bar) else {
-            return Err(TableError::Range);
-        };
-        slots.push(slot)?;
-        place = next;
+        let width = columns.width(column);
+        slots.push(Slot { place, width }).ok()?;
+        place = place.checked_add(width)?.checked_add(bar)?;
     }
-    Ok(())
+    Some(())
 }
 
 /// Copies a text over the bytes from `place` on.
@@ -140,10 +121,6 @@ fn fill_placed_texts<'a, R: Row<'a>, A: RowPlacements + Drop>(
     ensures laid { result ≡ true → line.new ≡ row_line (R.sheet row.now) at.now.index }
     ensures utf8 { IsUtf8 line.old → IsUtf8 line.new }
 {
-    if slots.is_empty() {
-        return true;
-    }
-    let first = slots[0].place;
     'texts: for column in 0..slots.len() {
         let slot = slots[column];
         let Some(placed) = place_text(row, &placements, at, column, slot.width) else {
@@ -152,8 +129,7 @@ fn fill_placed_texts<'a, R: Row<'a>, A: RowPlacements + Drop>(
         if placed.text.len() != placed.columns {
             return false;
         }
-        let start = placements.text_offset(column, slot, first, &placed);
-        copy_at(line, start, placed.text);
+        copy_at(line, slot.place + placed.before, placed.text);
     }
     true
 }
@@ -220,7 +196,7 @@ impl RowTemplate {
         let mut blank = String::new(alloc);
         let mut slots = Vec::new(alloc);
         let start = write_blank(&mut blank, columns).ok()?;
-        list_slots(&mut slots, columns, start).ok()?;
+        list_slots(&mut slots, columns, start)?;
         Some(RowTemplate {
             line: Vec::from_slice(alloc, blank.as_bytes()).ok()?,
             blank,

@@ -6,7 +6,7 @@ ghost use Rattle.tabled_line.specs.Row.{ColumnSheet, left_edge, right_edge};
 ghost use Rattle.tabled_line.specs.Row.{piece, rule_line, rule_pieces};
 ghost use Rattle.tabled_line.specs.Sent.{Sent, Writes};
 
-use crate::fill::{write_char, write_fill, write_indent};
+use crate::fill::{write_char, write_fill};
 use crate::text_sink::TextSink;
 use tabled_base::TableError;
 use tabled_config::{Frame, HorizontalLine};
@@ -68,7 +68,8 @@ pub fn write_bar<S: TextSink>(sink: &mut S, there: bool, c: char) -> Result<(), 
 pub fn write_left_edge<S: TextSink>(sink: &mut S, frame: &Frame, c: char) -> Result<(), TableError>
     ensures { Writes (S.sent sink.old) result (S.sent sink.new) (left_edge frame.now c) }
 {
-    write_indent(sink, frame.margin.left)?;
+    let margin = frame.margin.left;
+    write_fill(sink, margin.fill, margin.size)?;
     write_bar(sink, frame.left.there, c)
 }
 
@@ -77,7 +78,8 @@ pub fn write_right_edge<S: TextSink>(sink: &mut S, frame: &Frame, c: char) -> Re
     ensures { Writes (S.sent sink.old) result (S.sent sink.new) (right_edge frame.now c) }
 {
     write_bar(sink, frame.right.there, c)?;
-    write_indent(sink, frame.margin.right)
+    let margin = frame.margin.right;
+    write_fill(sink, margin.fill, margin.size)
 }
 
 /// Writes a horizontal line without its two ends: the part over each column, and the intersections

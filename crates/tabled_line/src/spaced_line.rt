@@ -41,13 +41,6 @@ pub(crate) struct SeparatorText<'a> {
 }
 
 impl<'a> SeparatorText<'a> {
-    fn new(bar: VerticalLine, text: &'a str) -> SeparatorText<'a>
-        requires { text.now ≡ separator_text bar 64 64 }
-        ensures { result.bar ≡ bar }
-    {
-        SeparatorText { bar, text }
-    }
-
     /// Writes `behind` spaces after a text, the vertical line, and `before` spaces before the next
     /// text.
     #[inline(always)]
@@ -95,7 +88,10 @@ impl ColumnSeparator {
         if !self.whole {
             return None;
         }
-        Some(SeparatorText::new(self.bar, self.buffer.text()?))
+        Some(SeparatorText {
+            bar: self.bar,
+            text: self.buffer.text(),
+        })
     }
 }
 
@@ -154,11 +150,9 @@ fn write_next_text<'a, R: Row<'a>, S: TextSink, A: RowPlacements>(
         }
         None => {
             write_spaces(sink, spaced.behind)?;
-            let style = match placements.style(column) {
-                Some(style) => style,
-                None => row.styles().at(column),
-            };
-            write_cell(sink, row, &spaced.line, column, style)?;
+            // A copy, so that the others need no address.
+            let line = spaced.line;
+            write_cell(sink, row, &line, column)?;
             Ok(0)
         }
     }
@@ -193,6 +187,7 @@ fn write_spaced_cells<'a, R: Row<'a>, S: TextSink, A: RowPlacements + Drop>(
 }
 
 /// Writes the cells of a line, by what is known of their placements.
+#[inline(always)]
 pub(crate) fn write_spaced_row<'a, R: Row<'a>, S: TextSink>(
     sink: &mut S,
     row: &R,

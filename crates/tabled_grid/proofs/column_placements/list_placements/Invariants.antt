@@ -1,4 +1,4 @@
-use Rattle.tabled_grid.proofs.Names.{IsPlaceable, cell_placement, columns_in, length, map, offset_from, range_with_len, reached}
+use Rattle.tabled_grid.proofs.Names.{IsPlaceable, cell_placement, columns_in, length, map, range_with_len, reached}
 use Rattle.tabled_grid.proofs.Names.{slice_index, style_at, take, ℕ, ◌<◌, ◌≡◌}
 use Rattle.tabled_grid.proofs.column_placements.list_placements.Given as goal
 
@@ -10,5 +10,4 @@ invariant-columns g l =
       same : length l.placements ≡ count;
       listed : take l.column l.placements ≡ map (cell_placement (style_at l.config l.row) (columns_in l.config widths count)) (range_with_len 0 l.column);
       placeable : (k : ℕ) → k < l.column → IsPlaceable (style_at l.config l.row k) (widths k);
-      next : l.place ≡ offset_from 0 (columns_in l.config widths count) l.column;
     }

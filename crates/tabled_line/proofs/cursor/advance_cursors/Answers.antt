@@ -1,6 +1,6 @@
-use Rattle.tabled_line.proofs.Names.{AreAt, IsAhead, IsAt, List, ap, arith, cases_eq, cursor_of, fill_above, get_or-set_other}
-use Rattle.tabled_line.proofs.Names.{get_or-set_same, inl, inr, length, length-set, nowhere, slice_set, subst, sym, ℕ, ◌+◌, ◌-◌, ◌<◌, ◌∙◌}
-use Rattle.tabled_line.proofs.Names.{◌≡◌, ◌≤◌}
+use Rattle.tabled_line.proofs.Names.{AreAt, IsAhead, IsAt, ap, arith, cases_eq, cursor_of, fill_above, get_or-set_other}
+use Rattle.tabled_line.proofs.Names.{get_or-set_same, inl, inr, length, length-set, nowhere, slice_set, subst, sym, ◌+◌, ◌-◌, ◌<◌, ◌∙◌}
+use Rattle.tabled_line.proofs.Names.{◌≡◌}
 use Rattle.tabled_line.proofs.cursor.advance_cursors.Goals as goal
 
 pub returns-then-index-eq0 : goal.returns-then-index-eq0

@@ -12,9 +12,9 @@ returns g c =
     ∙ ap (λ f. fill 32 first.size ++ fill f second.size) c.if-second-eq32.true
     ∙ sym (fill-add 32 first.size second.size c.in-Some.spaces (omega (arith, c.in-Some.ensures.1))))
 
-pub returns-in_err-write_indent : goal.returns-in_err-write_indent
-returns-in_err-write_indent g c =
-    stopped-first _ _ (indent c.args.second) c.in_err-write_indent.ensures c.from_residual.ensures.1 refl
+pub returns-in_err-write_fill : goal.returns-in_err-write_fill
+returns-in_err-write_fill g c =
+    stopped-first _ _ (indent c.args.second) c.in_err-write_fill.ensures c.from_residual.ensures.1 refl
 
 pub returns-2 : goal.returns-2
-returns-2 g c = finished _ _ _ _ c.in_ok-write_indent.ensures c.write_indent-2.ensures refl
+returns-2 g c = finished _ _ _ _ c.in_ok-write_fill.ensures c.write_fill-2.ensures refl

@@ -1,4 +1,4 @@
-use Rattle.tabled_line.proofs.Names.{IsTop, ap, arith, cases_eq, inl, inr, rules, subst, sym, ◌<◌, ◌∙◌, ◌≡◌}
+use Rattle.tabled_line.proofs.Names.{IsTop, arith, cases_eq, inl, inr, rules, subst, sym, ◌<◌, ◌∙◌}
 use Rattle.tabled_line.proofs.row_line.are_top.Goals as goal
 
 pub columns-preserved : goal.columns-preserved

@@ -1,5 +1,5 @@
-use Rattle.tabled_line.proofs.Names.{IsCursor, ap, arith, cases_eq, cursor_of, get_or-set_other, get_or-set_same, inl, inr, length}
-use Rattle.tabled_line.proofs.Names.{length-set, nowhere, refl, slice_set, subst, sym, ◌<◌, ◌∙◌, ◌≡◌}
+use Rattle.tabled_line.proofs.Names.{IsCursor, arith, cases_eq, cursor_of, get_or-set_other, get_or-set_same, inl, inr, length}
+use Rattle.tabled_line.proofs.Names.{length-set, nowhere, slice_set, subst, sym, ◌<◌, ◌∙◌}
 use Rattle.tabled_line.proofs.row_line.begin_cursors.Goals as goal
 
 pub columns-preserved : goal.columns-preserved

@@ -8,4 +8,4 @@ returns-in_err-write_bar g c = stopped-first _ _ (indent c.args.frame.now.margin
 
 pub returns : goal.returns
 unfolding right_edge
-returns g c = finished _ _ _ _ c.in_ok-write_bar.ensures c.write_indent.ensures refl
+returns g c = finished _ _ _ _ c.in_ok-write_bar.ensures c.write_fill.ensures refl

@@ -1,4 +1,4 @@
-use Rattle.tabled_line.proofs.Names.{[], ap, arith, drop, lines_of, lines_of-one, refl, sym, ◌+◌, ◌-◌, ◌∙◌, ◌∷◌, ◌≡◌, ◌≤◌}
+use Rattle.tabled_line.proofs.Names.{ap, arith, drop, lines_of, lines_of-one, sym, ◌+◌, ◌-◌, ◌∙◌, ◌≡◌}
 use Rattle.tabled_line.proofs.Contents.{columns-one, line-first}
 use Rattle.tabled_line.proofs.cursor.Cursor.new.Goals as goal
 
