@@ -6,11 +6,12 @@ use Rattle.tabled_line.specs.Placements.{ArePlacements, cell_placement}
 use Rattle.tabled_line.specs.declared.placement.Placement.{Placement}
 
 -- as many as columns
-pub placements-count : {style : ℕ → CellStyle} {columns : ColumnSheet} {placements : List Placement} → ArePlacements style columns placements → length placements ≡ columns.count
+pub placements-count : {style : ℕ → CellStyle} {columns : ColumnSheet} {placements : List Placement}
+    → ArePlacements style columns placements → length placements ≡ columns.count
 placements-count {style} {columns} {placements} are = ap length are.listed ∙ length-map-range_with_len (cell_placement style columns) 0 columns.count
 
-pub known-within : {style : ℕ → CellStyle} {columns : ColumnSheet} {placements : List Placement} {column : ℕ} → ArePlacements style columns placements
-    → column < columns.count → column < length placements
+pub known-within : {style : ℕ → CellStyle} {columns : ColumnSheet} {placements : List Placement} {column : ℕ}
+    → ArePlacements style columns placements → column < columns.count → column < length placements
 known-within are within = omega (arith, placements-count are, within)
 
 -- what is read after the last placement

@@ -1,8 +1,8 @@
 -- Texts that stand between spaces.
 use Rattle.tabled_line.proofs.Names.{AlignmentHorizontal, Bool, CellStyle, IsTop, List, None, RowSheet, [], above_text, ap, append_assoc}
 use Rattle.tabled_line.proofs.Names.{arith, before_text, block_line, cell_line, columns_before, cond, false, fill, fill_above}
-use Rattle.tabled_line.proofs.Names.{free_lines, get_or_from_slice_get, indent, inl, inner_width, inr, line_columns, line_columns-le, lines_of}
-use Rattle.tabled_line.proofs.Names.{refl, slice_get, subst}
+use Rattle.tabled_line.proofs.Names.{free_lines, get_or_from_slice_get, indent, inl, inner_width, inr, line_columns, line_columns-le}
+use Rattle.tabled_line.proofs.Names.{lines_of, refl, slice_get, subst}
 use Rattle.tabled_line.proofs.Names.{sym, text_columns, true, ℕ, ◌++◌, ◌+◌, ◌-◌, ◌<◌, ◌∙◌, ◌≡◌, ◌≤◌}
 use Rattle.std.proofs.lemmas.Option.{slice_get_within}
 use Rattle.tabled_text.proofs.Bridge.{some_line}
@@ -113,17 +113,19 @@ cell-spaced {row} {index} {column} {line} shift before behind inside h spaced ow
     let text = row.text column in
     let above = above-is h spaced.top in
     let first : index ≡ index - fill_above s row.height text = omega (arith, above) in
-    block-text s w row.height text index line.text.now inside (omega (arith, above)) (h.line_is.text_is ∙ ap (slice_get (lines_of text)) first)
+    block-text s w row.height text index line.text.now inside (omega (arith, above))
+    (h.line_is.text_is ∙ ap (slice_get (lines_of text)) first)
     ∙ cell_line-between s w text line.text.now shift before behind spaced.left spaced.right (own ∙ shift-is w h) front
     (omega (arith, back, h.line_is.columns_are))
 
 -- a cell is blank past its text, if spaces are below that
-pub cell-blank : (row : RowSheet) (index column : ℕ) → index < row.height → IsTop (row.style column) → None ≡ slice_get (lines_of (row.text column)) index
-    → block_line row index column ≡ fill 32 (row.columns.width column)
+pub cell-blank : (row : RowSheet) (index column : ℕ) → index < row.height → IsTop (row.style column)
+    → None ≡ slice_get (lines_of (row.text column)) index → block_line row index column ≡ fill 32 (row.columns.width column)
 cell-blank row index column inside top past =
     let s = row.style column in
     let text = row.text column in
     let above = top-above s row.height text top in
     let first : index ≡ index - fill_above s row.height text = omega (arith, above) in
-    block-below s (row.columns.width column) row.height text index inside (omega (arith, above)) (past ∙ ap (slice_get (lines_of text)) first)
+    block-below s (row.columns.width column) row.height text index inside (omega (arith, above))
+    (past ∙ ap (slice_get (lines_of text)) first)
     ∙ ap (λ c. fill c (row.columns.width column)) top.below

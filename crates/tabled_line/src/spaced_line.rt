@@ -145,6 +145,9 @@ fn write_next_text<'a, R: Row<'a>, S: TextSink, A: RowPlacements>(
     match place_text(row, placements, &spaced.line, column, row.width(column)) {
         Some(placed) => {
             write_separator(sink, spaced, column, placed.before)?;
+            if placed.text.is_empty() {
+                return Ok(placed.behind);
+            }
             sink.write_text(placed.text)?;
             Ok(placed.behind)
         }

@@ -7,7 +7,8 @@ fits_placement-requires-clause-column_in g c = omega (arith, placements-count c.
 
 pub fits_placement-requires-clause-placement : goal.fits_placement-requires-clause-placement
 fits_placement-requires-clause-placement g c =
-    let within : c.columns.column < columns c.args.grid.now.cells = omega (arith, placements-count c.requires.placements, c.columns-test.true) in
+    let within : c.columns.column < columns c.args.grid.now.cells =
+    omega (arith, placements-count c.requires.placements, c.columns-test.true) in
     cell-known c.requires.placements within
 
 pub fits_placement-requires-clause-placeable : goal.fits_placement-requires-clause-placeable

@@ -23,10 +23,12 @@ columns-preserved g c =
     let reaches : count ≤ length widths = c.requires in
     let inside : column < length c.columns.placements = omega (arith, c.columns.invariant.same, c.columns-test.true) in
     let width : c.get_width.result ≡ slice_index widths column =
-    reached_size (g.D.Dimension.width_at c.args.dimension.now) count column c.get_width.result (omega (arith, reaches, c.columns-test.true)) c.get_width.ensures in
+    reached_size (g.D.Dimension.width_at c.args.dimension.now) count column c.get_width.result
+    (omega (arith, reaches, c.columns-test.true)) c.get_width.ensures in
     let found : IsPlacementIn (style column) (slice_index widths column) new =
     subst (λ w. IsPlacementIn (style column) w new) width
-    (subst (λ s. IsPlacementIn s c.get_width.result new) c.style_at.ensures (c.in_ok-placement.ensures c.style_at.result c.in_ok-uniform.ensures)) in
+    (subst (λ s. IsPlacementIn s c.get_width.result new) c.style_at.ensures
+    (c.in_ok-placement.ensures c.style_at.result c.in_ok-uniform.ensures)) in
     record {
       same = length-set c.columns.placements column new ∙ c.columns.invariant.same;
       listed = take_more_set c.columns.placements column new inside ∙ ap (λ xs. xs ++ new ∷ []) c.columns.invariant.listed

@@ -16,7 +16,8 @@ returns g c =
     let fits = c.in_ok-free.ensures in
     let free : c.in_ok-free.free ≡ inner_width style width - line.widest = omega (arith, fits.0, fits.1, content_width) in
     let shift : c.before_text.result ≡ before_text style.horizontal (inner_width style width - line.widest) =
-    c.before_text.ensures ∙ ap (λ h. before_text h c.in_ok-free.free) (ap (λ a. a.horizontal) placement.0) ∙ ap (before_text style.horizontal) free in
+    c.before_text.ensures ∙ ap (λ h. before_text h c.in_ok-free.free) (ap (λ a. a.horizontal) placement.0)
+    ∙ ap (before_text style.horizontal) free in
     let within = before-within style.horizontal (inner_width style width - line.widest) in
     let narrow = line-within text.line_is in
     let before : c.in_ok-placement.placement.before + c.before_text.result ≡ style.padding.left.size + c.before_text.result =
@@ -28,8 +29,8 @@ returns g c =
     + (line.columns + (c.args.width - (c.in_ok-placement.placement.before + c.before_text.result) - line.columns)) ≡ width =
     omega (arith, before, shift, within, narrow, fits.0, free, content_width, placement.1.fits, c.requires.width) in
     record {
-      line_is = cell-spaced c.before_text.result _ _ (omega (arith, c.requires.line.index_in, c.requires.line.height_is)) text placement.1.spaced shift
-          before behind whole;
+      line_is = cell-spaced c.before_text.result _ _ (omega (arith, c.requires.line.index_in, c.requires.line.height_is)) text
+          placement.1.spaced shift before behind whole;
       whole = whole;
     }
 

@@ -9,7 +9,8 @@ write_spaced_row-requires g c = λ κs. ((refl, tt), (c.only.ensures.line _ (sym
 
 pub returns-then-line-eq1 : goal.returns-then-line-eq1
 returns-then-line-eq1 g c =
-    let first : c.only.result.index ≡ c.args.line.now.index = omega (arith, c.only.ensures.first, c.requires.index_in, c.if-line-eq1.true) in
+    let first : c.only.result.index ≡ c.args.line.now.index =
+    omega (arith, c.only.ensures.first, c.requires.index_in, c.if-line-eq1.true) in
     subst (λ i. Writes (g.S.TextSink.sent c.args.sink.now) c.write_spaced_row.result (g.S.TextSink.sent c.write_spaced_row.new.sink)
     (row_cells (g.R.Row.sheet c.args.row.now) i)) first c.write_spaced_row.ensures
 

@@ -13,4 +13,5 @@ invariant_of-self-clause-utf8 c =
     subst (λ t. is_utf8 t ≡ true)
     (sym (take-put_mid used _ bytes c.copy_from_slice.new.self (used + length text) (omega (arith, ap length copied)) (search rules)
     ∙ ap (λ t. take used bytes ++ t) copied))
-    (is_utf8-from_IsUtf8 (take used bytes ++ text) (IsUtf8-append (take used bytes) text (IsUtf8-from_is_utf8 (take used bytes) c.args.self.now.utf8) c.utf8.text))
+    (is_utf8-from_IsUtf8 (take used bytes ++ text)
+    (IsUtf8-append (take used bytes) text (IsUtf8-from_is_utf8 (take used bytes) c.args.self.now.utf8) c.utf8.text))

@@ -16,7 +16,9 @@ returns-then-update-clause-printed g c =
     rw c.in-Some.is (rw (sym (ap (drop 1) e)) c.write_feed_and_line.ensures)
 
 pub returns-in_err-write_break-clause-printed : goal.returns-in_err-write_break-clause-printed
-returns-in_err-write_break-clause-printed g c = rw c.in-Some.is (one-line-stopped _ _ _ _ _ c.in_err-write_break.ensures.printed c.from_residual.ensures.1)
+returns-in_err-write_break-clause-printed g c =
+    rw c.in-Some.is (one-line-stopped _ _ _ _ _ c.in_err-write_break.ensures.printed c.from_residual.ensures.1)
 
 pub returns-clause-printed : goal.returns-clause-printed
-returns-clause-printed g c = rw c.in-Some.is (one-line _ _ _ _ _ c.in_ok-write_break.ensures.printed c.write_rule_line.ensures c.write_break.ensures.after)
+returns-clause-printed g c =
+    rw c.in-Some.is (one-line _ _ _ _ _ c.in_ok-write_break.ensures.printed c.write_rule_line.ensures c.write_break.ensures.after)
