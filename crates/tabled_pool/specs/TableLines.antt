@@ -22,6 +22,6 @@ AreSizedLines (Placed d) = AreSized (map shown d.now.pieces.now)
 AreSizedLines (Drawn b) = Unit {0}
 
 abbrev pub content_of : LineContent → List ℕ
-content_of (content.Fill f) = coloured (mark_of f.color) (fill f.c f.width)
+content_of (content.Fill color c width) = coloured (mark_of color) (fill c width)
 content_of (content.Placed l) = drawn_line (plan_of l.drawing.now) l.y
 content_of (content.Text s) = s.now

@@ -1,14 +1,17 @@
 //! The block of a text: its lines, with padding and the lines that alignment adds.
-ghost use Rattle.std.specs.Prelude.{◌≡◌, ◌<◌, IfSome, [], slice_get};
-ghost use Rattle.std.specs.List.{slice_index_or};
+ghost use Rattle.std.specs.Prelude.{◌≡◌, ◌<◌, IfSome, slice_get};
 ghost use Rattle.std.specs.Option.{option_map};
 ghost use Rattle.tabled_text.specs.Measure.{line_columns, lines_of};
 ghost use Rattle.tabled_line.specs.Block.{inner_width};
-ghost use Rattle.tabled_line.specs.Sent.{Sent, Writes};
-ghost use Rattle.tabled_pool.specs.Block.{line_below, pool_block, text_line, without_sides};
+ghost use Rattle.tabled_line.specs.Sent.{Writes, Sent};
+ghost use Rattle.tabled_pool.specs.Block.{leaf_line, text_line, without_sides};
+ghost use Rattle.tabled_pool.specs.Boxes.{part_of};
 ghost use Rattle.tabled_pool.specs.Colours.{marks_of};
+ghost use Rattle.tabled_pool.specs.Plans.{plan_of};
+ghost use Rattle.tabled_pool.specs.declared.pieces.Kind.TheVariants.{Leaf};
 
 use crate::marks::draw_colored_fill;
+use crate::pieces::{Drawing, Rectangle};
 use crate::plain::are_uncolored_sides;
 use tabled_base::TableError;
 use tabled_config::{ANSIStr, CellStyle, Indent, Sides};
@@ -36,24 +39,6 @@ fn line_at<'a>(content: &Content<'a>, index: usize) -> Option<(&'a str, usize)>
     }
     let line = nth_line(content.text, index)?;
     Some((line, line_width(line)))
-}
-
-/// Writes a line below the text: the bottom padding first, then spaces.
-fn draw_line_below<S: TextSink>(
-    sink: &mut S,
-    style: &CellStyle,
-    colors: &Sides<ANSIStr<'static>>,
-    width: usize,
-    index: usize,
-) -> Result<(), TableError>
-    ensures { Writes (S.sent sink.old) result (S.sent sink.new)
-        (line_below style.now (marks_of colors.now) width index) }
-{
-    if index < style.padding.bottom.size {
-        draw_colored_fill(sink, colors.bottom, style.padding.bottom.fill, width)
-    } else {
-        write_fill(sink, ' ', width)
-    }
 }
 
 fn without_sides(style: CellStyle) -> CellStyle
@@ -107,35 +92,41 @@ fn write_text_line<S: TextSink>(
     draw_colored_fill(sink, colors.right, right.fill, right.size)
 }
 
+/// Writes line `index` of the block of a text.
 pub fn draw_block_line<S: TextSink>(
     sink: &mut S,
-    cell: &CellBlock<'_>,
-    colors: &Sides<ANSIStr<'static>>,
+    drawing: &Drawing<'_, '_>,
+    place: Rectangle,
+    text: &str,
     index: usize,
 ) -> Result<(), TableError>
-    requires { index < cell.now.height }
+    requires { index < place.height }
     ensures { Writes (S.sent sink.old) result (S.sent sink.new)
-        (slice_index_or (pool_block cell.now.style (marks_of colors.now) cell.now.width
-        cell.now.height cell.now.content.text.now) index []) }
+        (leaf_line (plan_of drawing.now) (part_of Leaf place text.now) index) }
 {
+    let colors = &drawing.padding_colors;
+    let cell = CellBlock {
+        style: drawing.style,
+        width: place.width,
+        height: place.height,
+        content: Content::new(text),
+    };
     let above = cell.lines_above();
     if index < above {
         return write_fill(sink, ' ', cell.width);
     }
-    let top = cell.style.padding.top;
+    let Sides { top, bottom, .. } = cell.style.padding;
     let padded = index - above;
     if padded < top.size {
         return draw_colored_fill(sink, colors.top, top.fill, cell.width);
     }
     let row = padded - top.size;
-    match line_at(&cell.content, row) {
-        Some((line, columns)) => write_text_line(sink, cell, colors, line, columns),
-        None => draw_line_below(
-            sink,
-            &cell.style,
-            colors,
-            cell.width,
-            row - cell.content.lines,
-        ),
-    }
+    let Some((line, columns)) = line_at(&cell.content, row) else {
+        let below = row - cell.content.lines;
+        if below < bottom.size {
+            return draw_colored_fill(sink, colors.bottom, bottom.fill, cell.width);
+        }
+        return write_fill(sink, ' ', cell.width);
+    };
+    write_text_line(sink, &cell, colors, line, columns)
 }

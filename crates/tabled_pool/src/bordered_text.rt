@@ -1,16 +1,12 @@
 //! The lines of one text in a tree with a zero-width text, with the borders that it draws.
-ghost use Rattle.std.specs.Prelude.{◌≡◌, ◌<◌, ◌+◌, ◌++◌, ◌∷◌, [], map, None, if◌then◌else◌};
-ghost use Rattle.std.specs.Prelude.{IfOk, string_bytes, unwrap_or};
+ghost use Rattle.tabled_pool.specs.Marks.{within_marks};
+ghost use Rattle.std.specs.Prelude.{◌≡◌, ◌<◌, ◌+◌, ◌++◌, [], map, None, IfOk, string_bytes, ◌∷◌};
+ghost use Rattle.std.specs.Prelude.{if◌then◌else◌, unwrap_or};
 ghost use Rattle.std.specs.List.{range_with_len};
 ghost use Rattle.std.specs.Option.{option_map};
-ghost use Rattle.tabled_pool.specs.declared.pieces.Kind.TheVariants.{Leaf};
-ghost use Rattle.tabled_pool.specs.Boxes.{part_of};
-ghost use Rattle.tabled_pool.specs.Marks.{within_marks};
 ghost use Rattle.tabled_pool.specs.Colours.{mark_of};
-ghost use Rattle.tabled_pool.specs.Block.{leaf_line};
-ghost use Rattle.tabled_pool.specs.Inherited.{bordered_block, bottom_text, inner_text};
-ghost use Rattle.tabled_pool.specs.Inherited.{marked_text, outer_line, run_text, text_block};
-ghost use Rattle.tabled_pool.specs.Inherited.{top_text, written};
+ghost use Rattle.tabled_pool.specs.Inherited.{bordered_block, bottom_text, inner_text, marked_text};
+ghost use Rattle.tabled_pool.specs.Inherited.{outer_line, run_text, text_block, top_text, written};
 ghost use Rattle.tabled_pool.specs.Inherited.{inherited_by, inheriting_box, plan_for};
 ghost use Rattle.tabled_pool.specs.DrawnBlocks.{block_sheet_of};
 ghost use Rattle.tabled_pool.specs.Plans.{around_of, plan_of};
@@ -21,11 +17,10 @@ use crate::drawn_blocks::DrawnBlock;
 use crate::flags::{own_borders, own_sides};
 use crate::inheriting_box::{InheritingBox, is_split};
 use crate::marks::{LineColors, Marks, alone, begun, ended, used_after};
-use crate::pieces::{Drawing, Rectangle};
+use crate::pieces::Drawing;
 use crate::pool_table::one_if;
 use std::alloc::{AllocError, Global};
 use tabled_config::Borders;
-use tabled_line::{CellBlock, Content};
 
 /// The character of a border, if that is there. A missing character is a space.
 fn written(there: bool, c: Option<char>) -> Option<char>
@@ -96,27 +91,6 @@ fn outer_line(
     Ok(line)
 }
 
-#[tactic(auto, unfolding(crate::specs::Block::leaf_line))]
-fn push_block_line(
-    line: &mut String,
-    drawing: &Drawing<'_, '_>,
-    place: Rectangle,
-    text: &str,
-    y: usize,
-) -> Result<(), AllocError>
-    requires { y < place.height }
-    ensures { IfOk result (λ _. string_bytes line.new ≡ string_bytes line.old
-        ++ leaf_line (plan_of drawing.now) (part_of Leaf place text.now) y) }
-{
-    let cell = CellBlock {
-        style: drawing.style,
-        width: place.width,
-        height: place.height,
-        content: Content::new(text),
-    };
-    draw_block_line(line, &cell, &drawing.padding_colors, y).map_err(|_| AllocError)
-}
-
 /// A text and the borders that it draws.
 #[derive(Clone, Copy)]
 pub(crate) struct BorderedText<'r, 'd, 'a> {
@@ -185,12 +159,9 @@ impl BorderedText<'_, '_, '_> {
         let colors = &drawing.colors;
         let mut line = String::new(drawing.alloc);
         push_marked(&mut line, alone(colors.left), written(sides.left, first))?;
-        push_block_line(&mut line, drawing, place, self.text, y)?;
-        push_marked(
-            &mut line,
-            alone(colors.right),
-            written(sides.right, own.right),
-        )?;
+        draw_block_line(&mut line, drawing, place, self.text, y).map_err(|_| AllocError)?;
+        let last = written(sides.right, own.right);
+        push_marked(&mut line, alone(colors.right), last)?;
         Ok(line)
     }
 

@@ -1,5 +1,5 @@
 //! The marks around border characters, by the texts that draw them.
-ghost use Rattle.std.specs.Prelude.{◌≡◌, ◌^◌, ◌<◌, ◌≤◌, ◌+◌, ◌-◌, ℕ};
+ghost use Rattle.std.specs.Prelude.{◌≡◌, ◌^◌, ◌<◌, ◌+◌, ◌-◌, ◌≤◌, ℕ};
 ghost use Rattle.std.specs.Option.{option_map};
 ghost use Rattle.tabled_pool.specs.Numbers.{IsEarlier, IsFirst, Skips, SkipsBeside};
 ghost use Rattle.tabled_pool.specs.Shown.{shown};
@@ -7,8 +7,7 @@ ghost use Rattle.tabled_pool.specs.Colours.{mark_of};
 ghost use Rattle.tabled_pool.specs.Marks.{alone, begun, ended, used_after};
 ghost use Rattle.tabled_pool.specs.Plans.{around_of, plan_of};
 ghost use Rattle.tabled_pool.specs.Around.{across, around_at, around_part, beside, is_last_column};
-ghost use Rattle.tabled_pool.specs.Around.{main_around, right_around, run_side};
-ghost use Rattle.tabled_pool.specs.Around.{written_corner};
+ghost use Rattle.tabled_pool.specs.Around.{main_around, right_around, run_side, written_corner};
 
 use crate::line::{Line, ends_at, has_bottom, has_top};
 use crate::marks::{LineColors, Marks, alone, begun, ended, used_after};
@@ -36,17 +35,13 @@ fn run_side(start: usize, size: usize, at: usize) -> RunSide
     if at + 1 == start {
         return RunSide::Before;
     }
-    if at < start {
+    if at < start || at - start > size {
         return RunSide::Outside;
     }
-    let offset = at - start;
-    if offset < size {
-        return RunSide::Inside;
-    }
-    if offset == size {
-        RunSide::Behind
+    if at - start < size {
+        RunSide::Inside
     } else {
-        RunSide::Outside
+        RunSide::Behind
     }
 }
 
@@ -83,9 +78,7 @@ fn main_around(drawing: &Drawing<'_, '_>, line: LineColors, place: Rectangle, x:
     } else {
         Marks::none()
     };
-    let behind = if is_last_column(drawing, place) {
-        ""
-    } else if ends_at(place.x, place.width, x + 1) {
+    let behind = if !is_last_column(drawing, place) && ends_at(place.x, place.width, x + 1) {
         ended(used_after(corner, line.main))
     } else {
         ""

@@ -1,9 +1,9 @@
 //! `TableValue::clone`: copies of trees, without recursion.
-ghost use Rattle.std.specs.Prelude.{◌≡◌, ◌<◌, ◌≤◌, ◌+◌, [], IfErr, IfOk, MatchOption, map};
+ghost use Rattle.std.specs.Prelude.{◌≡◌, ◌<◌, ◌+◌, [], IfErr, IfOk, MatchOption, map, ◌≤◌};
 ghost use Rattle.tabled_base.specs.declared.error.TableError.TheVariants.{Memory};
 ghost use Rattle.tabled_pool.specs.Tree.{tree_of};
 ghost use Rattle.tabled_pool.specs.Nodes.{nodes, nodes_in};
-ghost use Rattle.tabled_pool.specs.Levels.{IsBegun, IsCopied, IsUp, left_in, list, within};
+ghost use Rattle.tabled_pool.specs.Levels.{IsBegun, left_in, list, within};
 
 use crate::tree::TableValue;
 use std::alloc::{AllocError, Global};
@@ -15,12 +15,6 @@ pub(crate) struct Level<'a> {
     is_row: bool,
     copies: Vec<TableValue>,
     left: &'a [TableValue],
-}
-
-/// What comes after a copy: the next value to copy, or the finished copy.
-pub(crate) enum Step<'a> {
-    Next(&'a TableValue),
-    Done(TableValue),
 }
 
 fn list_of(is_row: bool, children: Vec<TableValue>) -> TableValue
@@ -44,7 +38,7 @@ fn begin<'a>(
     ensures { IfOk result (λ first. MatchOption first
         ((children.now ≡ []) × (levels.new.items ≡ levels.old.items))
         (λ v. IsBegun levels.old.items (list is_row (map tree_of children.now))
-        (nodes_in children.now) levels.new.items v.now)) }
+        (nodes_in children.now + 1) levels.new.items v.now)) }
 {
     let Some((first, left)) = children.split_first() else {
         return Ok(None);
@@ -90,37 +84,6 @@ fn copy_first<'a>(
     }
 }
 
-impl<'a> Level<'a> {
-    fn add(&mut self, copy: TableValue) -> Result<Option<&'a TableValue>, AllocError>
-        ensures { IfOk result (λ next. IsCopied self.old (tree_of copy) self.new next) }
-    {
-        self.copies.push(copy)?;
-        let Some((next, left)) = self.left.split_first() else {
-            return Ok(None);
-        };
-        self.left = left;
-        Ok(Some(next))
-    }
-}
-
-/// Adds a copy to the innermost list. A finished list is added to the list above it.
-#[tactic(auto, using(crate::proofs::Levels::within_push, crate::proofs::Levels::left_in_push))]
-fn put_copy<'a>(copy: TableValue, levels: &mut Vec<Level<'a>>) -> Result<Step<'a>, AllocError>
-    ensures { IfOk result (λ step. IsUp levels.old.items (tree_of copy) levels.new.items step) }
-{
-    let mut copy = copy;
-    'levels: loop {
-        let Some(mut level) = levels.pop() else {
-            return Ok(Step::Done(copy));
-        };
-        if let Some(next) = level.add(copy)? {
-            levels.push(level)?;
-            return Ok(Step::Next(next));
-        }
-        copy = list_of(level.is_row, level.copies);
-    }
-}
-
 impl TableValue {
     /// Returns a copy of the tree, whatever its depth: copying doesn't recurse. Fails only with
     /// `Memory`, if an allocation fails.
@@ -131,10 +94,17 @@ impl TableValue {
         let mut levels = Vec::new(self.allocator());
         let mut copy = copy_first(self, &mut levels)?;
         'values: loop {
-            match put_copy(copy, &mut levels)? {
-                Step::Next(value) => copy = copy_first(value, &mut levels)?,
-                Step::Done(whole) => return Ok(whole),
-            }
+            let Some(mut level) = levels.pop() else {
+                return Ok(copy);
+            };
+            level.copies.push(copy)?;
+            let Some((next, left)) = level.left.split_first() else {
+                copy = list_of(level.is_row, level.copies);
+                continue;
+            };
+            level.left = left;
+            levels.push(level)?;
+            copy = copy_first(next, &mut levels)?;
         }
     }
 }

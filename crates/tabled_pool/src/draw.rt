@@ -1,7 +1,7 @@
 //! Writes one line of a drawing, run by run.
-ghost use Rattle.std.specs.Prelude.{◌≡◌, ◌<◌, ◌≤◌, ◌+◌, map, true, ◌++◌, encode_utf8};
+ghost use Rattle.std.specs.Prelude.{◌≡◌, ◌<◌, ◌≤◌, ◌+◌, true, encode_utf8, map, ◌++◌};
 ghost use Rattle.std.specs.List.{flat_map, range_with_len};
-ghost use Rattle.tabled_line.specs.Sent.{Sent, Writes};
+ghost use Rattle.tabled_line.specs.Sent.{Writes, Sent};
 ghost use Rattle.tabled_pool.specs.declared.pieces.Kind.TheVariants.{Leaf};
 ghost use Rattle.tabled_pool.specs.Boxes.{is_line_kind};
 ghost use Rattle.tabled_pool.specs.Marks.{within_marks};
@@ -15,7 +15,7 @@ use crate::line::{Line, Run};
 use crate::marks::Marks;
 use crate::pieces::{Kind, Piece};
 use tabled_base::TableError;
-use tabled_line::{CellBlock, Content, TextSink, write_char, write_fill};
+use tabled_line::{TextSink, write_char, write_fill};
 
 pub(crate) fn draw_marked<S: TextSink>(
     sink: &mut S,
@@ -71,13 +71,7 @@ fn draw_text<S: TextSink>(
     if place.x != x {
         return Ok(());
     }
-    let cell = CellBlock {
-        style: line.drawing.style,
-        width: place.width,
-        height: place.height,
-        content: Content::new(piece.text),
-    };
-    draw_block_line(sink, &cell, &line.drawing.padding_colors, line.y - place.y)
+    draw_block_line(sink, line.drawing, place, piece.text, line.y - place.y)
 }
 
 fn draw_run<S: TextSink>(

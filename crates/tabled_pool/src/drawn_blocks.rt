@@ -1,8 +1,7 @@
 //! `DrawnBlock`: the lines of a drawn box, and how drawn boxes are joined.
-ghost use Rattle.std.specs.Prelude.{◌≡◌, ◌≤◌, ◌^◌, ◌++◌, map, IfOk, MatchOption};
-ghost use Rattle.std.specs.Prelude.{string_bytes};
-ghost use Rattle.std.specs.List.{flat_map};
 ghost use Rattle.tabled_line.specs.Fill.{fill};
+ghost use Rattle.std.specs.Prelude.{◌≡◌, ◌≤◌, ◌^◌, ◌++◌, map, IfOk, MatchOption, string_bytes};
+ghost use Rattle.std.specs.List.{flat_map};
 ghost use Rattle.tabled_pool.specs.DrawnBlocks.{all_columns, most_columns, most_lines};
 ghost use Rattle.tabled_pool.specs.DrawnBlocks.{drawn_block_line, block_sheet_of, side_by_side};
 ghost use Rattle.tabled_pool.specs.DrawnBlocks.{stacked, widened};

@@ -92,27 +92,18 @@ fn either(first: bool, c: Option<char>, d: Option<char>) -> Option<char>
 pub(crate) fn own_borders(borders: &Borders<char>, flags: Flags) -> Borders<char>
     ensures { result ≡ own_borders borders.now flags }
 {
-    let top_right = either(
-        flags.first_row,
-        borders.top_right,
-        borders.right_intersection,
-    );
-    let bottom_left = either(
-        flags.first_column,
-        borders.bottom_left,
-        borders.bottom_intersection,
-    );
+    let right = borders.right_intersection;
+    let bottom = borders.bottom_intersection;
+    let top_right = either(flags.first_row, borders.top_right, right);
+    let bottom_left = either(flags.first_column, borders.bottom_left, bottom);
+    let is_last = flags.last_row && flags.last_column;
     Borders {
         top_left: top_left(borders, flags),
         top_right: either(flags.last_column, top_right, None),
         right: either(flags.last_column, borders.right, None),
         bottom_left: either(flags.last_row, bottom_left, None),
         bottom: either(flags.last_row, borders.bottom, None),
-        bottom_right: either(
-            flags.last_row && flags.last_column,
-            borders.bottom_right,
-            None,
-        ),
+        bottom_right: either(is_last, borders.bottom_right, None),
         ..*borders
     }
 }

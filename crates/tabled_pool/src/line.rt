@@ -1,5 +1,5 @@
 //! `Line`: one line of a drawing, in runs of equal border characters; and these characters.
-ghost use Rattle.std.specs.Prelude.{◌+◌, ◌-◌, ◌<◌, ◌==◌, ◌^◌, ◌≡◌, ◌≤◌, ◌⊎◌, Some, map, true, ℕ};
+ghost use Rattle.std.specs.Prelude.{◌+◌, ◌-◌, ◌<◌, ◌==◌, ◌≡◌, ◌≤◌, ◌⊎◌, Some, map, true, ℕ, ◌^◌};
 ghost use Rattle.tabled_pool.specs.Shown.{shown};
 ghost use Rattle.tabled_pool.specs.Boxes.{is_line_kind};
 ghost use Rattle.tabled_pool.specs.Plans.{plan_of};
@@ -61,12 +61,24 @@ pub(crate) struct Stretch {
     end: usize,
 }
 
-fn stretch_at(drawing: &Drawing<'_, '_>, line: &[usize], x: usize, y: usize) -> Stretch
-    requires { x < drawing.now.width }
+/// The borders of line `y` at a column and after: those that are known, if they reach so far.
+fn stretch_at(
+    drawing: &Drawing<'_, '_>,
+    known: Stretch,
+    line: &[usize],
+    x: usize,
+    y: usize,
+) -> Stretch
+    requires inside { x < drawing.now.width }
+    requires known { (v : ℕ) → x ≤ v → v < known.end
+        → is_border (plan_of drawing.now).parts v y ≡ known.border }
     ensures some { x < result.end }
     ensures same { (v : ℕ) → x ≤ v → v < result.end
         → is_border (plan_of drawing.now).parts v y ≡ result.border }
 {
+    if x < known.end {
+        return known;
+    }
     match piece_at(drawing, line, x, y) {
         Some(piece) => {
             let end = piece.place.x + piece.place.width;
@@ -143,29 +155,14 @@ impl<'l, 's, 'd, 'a> Line<'l, 's, 'd, 'a> {
         ensures same { (v : ℕ) → at.entry.x ≤ v → v < result.end
             → is_border_above (plan_of self.now.drawing.now).parts v self.now.y ≡ result.border }
     {
-        if at.x < at.up.end {
-            return at.up;
-        }
         if self.y == 0 {
             return Stretch {
                 border: false,
                 end: self.drawing.width,
             };
         }
-        stretch_at(self.drawing, self.sweep.above.as_slice(), at.x, self.y - 1)
-    }
-
-    fn below(&self, at: Cursor<'d, 'a>) -> Stretch
-        requires inside { at.x < self.now.drawing.now.width }
-        requires at { IsAt (plan_of self.now.drawing.now) self.now.y at }
-        ensures some { at.entry.x < result.end }
-        ensures same { (v : ℕ) → at.entry.x ≤ v → v < result.end
-            → is_border (plan_of self.now.drawing.now).parts v (self.now.y + 1) ≡ result.border }
-    {
-        if at.x < at.down.end {
-            return at.down;
-        }
-        stretch_at(self.drawing, self.sweep.below.as_slice(), at.x, self.y + 1)
+        let line = self.sweep.above.as_slice();
+        stretch_at(self.drawing, at.up, line, at.x, self.y - 1)
     }
 
     /// The piece at column `end`; up to column `own` it is `piece`.
@@ -191,16 +188,16 @@ impl<'l, 's, 'd, 'a> Line<'l, 's, 'd, 'a> {
         ensures { RunsFrom (plan_of self.now.drawing.now) self.now.y at.entry result }
     {
         let up = self.above(at);
-        let down = self.below(at);
+        let line = self.sweep.below.as_slice();
+        let down = stretch_at(self.drawing, at.down, line, at.x, self.y + 1);
         let own = piece.place.x + piece.place.width;
         let end = own.min(up.end).min(down.end);
         let behind = self.piece_behind(piece, own, end);
         let border = is_line(behind);
         let last = run_end(at.x, end, at.left, border);
-        let right = is_followed(last, end, border);
         let arms = Arms {
             left: at.left,
-            right,
+            right: is_followed(last, end, border),
             up: up.border,
             down: down.border,
         };

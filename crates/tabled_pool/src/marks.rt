@@ -1,11 +1,11 @@
 //! Marks: the prefixes and suffixes of colours around a border character or a run.
-ghost use Rattle.std.specs.Prelude.{◌++◌, ◌≡◌, []};
+ghost use Rattle.std.specs.Prelude.{◌≡◌, ◌++◌, []};
 ghost use Rattle.std.specs.Option.{option_map};
 ghost use Rattle.tabled_pool.specs.Colours.{coloured, mark_of};
 ghost use Rattle.tabled_pool.specs.Marks.{alone, begun, ended, nothing_around, used_after};
 ghost use Rattle.tabled_pool.specs.Plans.{around_of};
 ghost use Rattle.tabled_line.specs.Fill.{fill};
-ghost use Rattle.tabled_line.specs.Sent.{Sent, Writes};
+ghost use Rattle.tabled_line.specs.Sent.{Writes, Sent};
 
 use tabled_base::TableError;
 use tabled_config::ANSIStr;
@@ -50,10 +50,7 @@ pub fn used_after(
     ensures { option_map mark_of result
         ≡ used_after (option_map mark_of used.entry) (option_map mark_of color.entry) }
 {
-    match used {
-        Some(used) => Some(used),
-        None => color,
-    }
+    used.or(color)
 }
 
 /// Returns the marks that start a part in `color`, where `used` is the current colour.
@@ -64,18 +61,14 @@ pub fn begun(used: Option<ANSIStr<'static>>, color: Option<ANSIStr<'static>>) ->
     let Some(color) = color else {
         return Marks::none();
     };
-    let Some(used) = used else {
-        return Marks {
-            close: "",
-            start: color.get_prefix(),
-            behind: "",
-        };
-    };
-    if used.get_prefix() == color.get_prefix() && used.get_suffix() == color.get_suffix() {
+    if let Some(used) = used
+        && used.get_prefix() == color.get_prefix()
+        && used.get_suffix() == color.get_suffix()
+    {
         return Marks::none();
     }
     Marks {
-        close: used.get_suffix(),
+        close: ended(used),
         start: color.get_prefix(),
         behind: "",
     }

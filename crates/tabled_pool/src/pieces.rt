@@ -27,15 +27,12 @@ impl Rectangle {
     pub fn first_part(self, direction: Direction, size: usize) -> Rectangle
         ensures { result ≡ first_part direction size self }
     {
-        match direction {
-            Direction::Across => Rectangle {
-                width: size,
-                ..self
-            },
-            Direction::Down => Rectangle {
-                height: size,
-                ..self
-            },
+        let Rectangle { x, y, .. } = self;
+        Rectangle {
+            x,
+            y,
+            width: direction.pick(size, self.width),
+            height: direction.pick(self.height, size),
         }
     }
 

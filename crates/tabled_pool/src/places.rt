@@ -1,8 +1,7 @@
 //! Places the texts of a tree and the borders between its boxes in rectangles.
 ghost use Rattle.std.specs.Prelude.{◌++◌, ◌+◌, ◌<◌, ◌^◌, ◌∷◌, ◌≡◌, ◌≤◌, IfOk, Some, [], map};
 ghost use Rattle.tabled_pool.specs.Boxes.{behind_border, border_kind, border_part, box_along};
-ghost use Rattle.tabled_pool.specs.Boxes.{IsSize};
-ghost use Rattle.tabled_pool.specs.Boxes.{box_of, first_part, list_box, part_of, share};
+ghost use Rattle.tabled_pool.specs.Boxes.{IsSize, box_of, first_part, list_box, part_of, share};
 ghost use Rattle.tabled_pool.specs.Left.{CanSplit, given_in};
 ghost use Rattle.tabled_pool.specs.Shown.{Fits, shown};
 ghost use Rattle.tabled_pool.specs.Tiling.{framed};
@@ -93,9 +92,7 @@ pub fn split(
         (given_in direction spacing.now child.now left place) place }
     ensures fits { Fits (box_of spacing.now child.now) result.given.place }
 {
-    let Some(size) = own_size(child, spacing) else {
-        unreachable!()
-    };
+    let size = size_within(child, spacing, place);
     let own = direction.pick(size.width, size.height);
     let surplus = direction.pick(place.width, place.height) - left.size;
     let priority = direction.pick(spacing.across, spacing.down);

@@ -21,10 +21,7 @@ use tabled_text::{is_additive_column, is_plain, is_separator_column};
 fn is_uncolored_line(color: Option<ANSIStr<'static>>) -> bool
     ensures { IsTrue result ↔ IsNoMark (option_map mark_of color.entry) }
 {
-    match color {
-        Some(color) => color.is_empty(),
-        None => true,
-    }
+    color.is_none_or(|color| color.is_empty())
 }
 
 pub(crate) fn are_uncolored_lines(colors: &Borders<ANSIStr<'static>>) -> bool

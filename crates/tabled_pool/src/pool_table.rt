@@ -1,24 +1,23 @@
 //! `PoolTable`: its settings, its size, and how it is printed.
-ghost use Rattle.std.specs.Prelude.{◌≡◌, ◌⊎◌, ◌≤◌, IfErr, IfOk, MatchOption, length, map, [], ◌++◌};
-ghost use Rattle.std.specs.Prelude.{◌<◌, ◌^◌, ◌+◌, string_bytes, true};
+ghost use Rattle.std.specs.Prelude.{◌≡◌, ◌⊎◌, IfErr, IfOk, MatchOption, length, map, ◌<◌, [], ◌++◌};
+ghost use Rattle.std.specs.Prelude.{string_bytes};
 ghost use Rattle.tabled_base.specs.declared.error.TableError.TheVariants.{Memory, Range};
 ghost use Rattle.tabled_config.specs.Styles.{ascii};
 ghost use Rattle.tabled_line.specs.Plain.{EachLineTakes};
-ghost use Rattle.tabled_line.specs.Sent.{Sent, Writes};
+ghost use Rattle.tabled_line.specs.Sent.{Writes, Sent};
 ghost use Rattle.tabled_pool.specs.Shown.{shown};
 ghost use Rattle.tabled_priority.specs.Sums.{one_if};
 ghost use Rattle.tabled_pool.specs.Colours.{marks_of};
-ghost use Rattle.tabled_pool.specs.Inherited.{inherited_block, has_zero_width};
+ghost use Rattle.tabled_pool.specs.Inherited.{has_zero_width};
 ghost use Rattle.tabled_pool.specs.DrawnBlocks.{block_sheet_of};
 ghost use Rattle.tabled_pool.specs.Plans.{plan_of};
 ghost use Rattle.tabled_pool.specs.Apart.{IsStraightPool};
 ghost use Rattle.tabled_pool.specs.Drawn.{drawn};
-ghost use Rattle.tabled_pool.specs.Boxes.{box_of};
 ghost use Rattle.tabled_pool.specs.Pool.{HasColumns, IsInRange, IsOutOfRange, IsPadded, WritesPool};
-ghost use Rattle.tabled_pool.specs.Pool.{borders_of, frame_of, frame_place, framed_height};
-ghost use Rattle.tabled_pool.specs.Pool.{framed_width, spacing_of, margin_around};
-ghost use Rattle.tabled_pool.specs.Pool.{marks_for, plan, pool_lines, pool_text, style_of};
-ghost use Rattle.tabled_pool.specs.Pool.{total_height, total_width};
+ghost use Rattle.tabled_pool.specs.Pool.{borders_of, frame_place};
+ghost use Rattle.tabled_pool.specs.Pool.{frame_of, framed_height, framed_width, spacing_of};
+ghost use Rattle.tabled_pool.specs.Pool.{margin_around, marks_for, plan, pool_lines, pool_text};
+ghost use Rattle.tabled_pool.specs.Pool.{style_of, total_height, total_width};
 ghost use Rattle.tabled_pool.specs.NewPool.{IsNewPool};
 ghost use Rattle.tabled_pool.specs.Tiled.{Tiled};
 
@@ -26,7 +25,7 @@ use crate::drawn_blocks::DrawnBlock;
 use crate::line::{has_bottom, has_top};
 use crate::pieces::{Drawing, Piece, Rectangle};
 use crate::places::place_tree;
-use crate::sizes::{BoxSpacing, Size, own_size};
+use crate::sizes::{BoxSpacing, Size, own_size, sum};
 use crate::table_lines::{ColoredMargin, TableLines, draw_lines};
 use crate::tree::TableValue;
 use crate::tree_walk::{draw_tree, has_zero_width};
@@ -41,13 +40,6 @@ pub(crate) fn one_if(there: bool) -> usize
     ensures { result ≡ one_if there }
 {
     if there { 1 } else { 0 }
-}
-
-fn sum(first: usize, second: usize, third: usize) -> Option<usize>
-    ensures { MatchOption result (2 ^ 64 ≤ first + second + third)
-        (λ all. all ≡ first + second + third) }
-{
-    first.checked_add(second)?.checked_add(third)
 }
 
 /// The thickness of each outer border: one column or line if it is there, else 0.
@@ -156,34 +148,13 @@ impl PoolTable {
         }
     }
 
-    /// The width and height without the margin, if both fit in `usize`.
-    fn framed_size(&self) -> Option<Size>
-        ensures { MatchOption result ((2 ^ 64 ≤ framed_width self.now)
-            ⊎ (2 ^ 64 ≤ framed_height self.now))
-            (λ size. (size.width ≡ framed_width self.now)
-            × (size.height ≡ framed_height self.now)) }
-    {
-        let frame = frame_of(self.config.get_borders());
-        let Some(own) = own_size(&self.value, &self.spacing()) else {
-            return None;
-        };
-        let width = sum(frame.left, own.width, frame.right)?;
-        let height = sum(frame.top, own.height, frame.bottom)?;
-        Some(Size { width, height })
-    }
-
     /// A margin with its colours. An empty margin has none.
     fn colored_margin(&self, indent: Sides<Indent>) -> ColoredMargin
         ensures indent { result.indent ≡ indent }
         ensures colors { marks_of result.colors ≡ marks_for self.now indent }
     {
-        let Sides {
-            left,
-            right,
-            top,
-            bottom,
-        } = indent;
-        let colors = if left.size > 0 || right.size > 0 || top.size > 0 || bottom.size > 0 {
+        let has_columns = indent.left.size > 0 || indent.right.size > 0;
+        let colors = if has_columns || indent.top.size > 0 || indent.bottom.size > 0 {
             *self.config.get_margin_color()
         } else {
             Sides::filled(ANSIStr::new("", ""))
@@ -208,11 +179,16 @@ impl PoolTable {
             (λ size. (size.width ≡ framed_width self.now) × (size.height ≡ framed_height self.now)
             × IsInRange self.now) }
     {
-        let size = self.framed_size()?;
+        let frame = frame_of(self.config.get_borders());
         let margin = *self.config.get_margin();
-        sum(margin.left.size, size.width, margin.right.size)?;
-        sum(margin.top.size, size.height, margin.bottom.size)?;
-        Some(size)
+        let Some(own) = own_size(&self.value, &self.spacing()) else {
+            return None;
+        };
+        let width = sum(frame.left, own.width, frame.right)?;
+        let height = sum(frame.top, own.height, frame.bottom)?;
+        sum(margin.left.size, width, margin.right.size)?;
+        sum(margin.top.size, height, margin.bottom.size)?;
+        Some(Size { width, height })
     }
 
     fn pieces(&self, size: Size) -> Result<Vec<Piece<'_>>, AllocError>
@@ -236,7 +212,9 @@ impl PoolTable {
         requires width { size.width ≡ framed_width self.now }
         requires height { size.height ≡ framed_height self.now }
         requires places { map shown pieces.now ≡ (plan self.now).parts }
-        ensures { plan_of result ≡ plan self.now }
+        ensures plan { plan_of result ≡ plan self.now }
+        ensures width { result.width ≡ size.width }
+        ensures height { result.height ≡ size.height }
     {
         Drawing {
             pieces,
@@ -250,48 +228,6 @@ impl PoolTable {
         }
     }
 
-    /// Writes a drawing in which each text has at least one column, and its margin.
-    fn draw_pieces<S: TextSink>(
-        &self,
-        sink: &mut S,
-        drawing: &Drawing<'_, '_>,
-    ) -> Result<(), TableError>
-        requires columns { HasColumns self.now }
-        requires plan { plan_of drawing.now ≡ plan self.now }
-        ensures { Writes (S.sent sink.old) result (S.sent sink.new) (pool_text self.now) }
-    {
-        let margin = self.colored_margin(*self.config.get_margin());
-        draw_lines(sink, TableLines::Placed(drawing), &margin)
-    }
-
-    /// Writes the drawn lines of a tree with a zero-width text, and their margin.
-    fn draw_inherited<S: TextSink>(
-        &self,
-        sink: &mut S,
-        block: &DrawnBlock,
-    ) -> Result<(), TableError>
-        requires bare { has_zero_width (plan self.now).parts ≡ true }
-        requires block { block_sheet_of block.now
-            ≡ inherited_block (plan self.now) (spacing_of self.now) self.now.value }
-        ensures { Writes (S.sent sink.old) result (S.sent sink.new) (pool_text self.now) }
-    {
-        let margin = self.colored_margin(self.margin_around(block));
-        draw_lines(sink, TableLines::Drawn(block), &margin)
-    }
-
-    fn inner_size(&self, size: Size) -> Size
-        requires width { size.width ≡ framed_width self.now }
-        requires height { size.height ≡ framed_height self.now }
-        ensures width { result.width ≡ (box_of (spacing_of self.now) self.now.value).width }
-        ensures height { result.height ≡ (box_of (spacing_of self.now) self.now.value).height }
-    {
-        let frame = frame_of(self.config.get_borders());
-        Size {
-            width: size.width - frame.left - frame.right,
-            height: size.height - frame.top - frame.bottom,
-        }
-    }
-
     /// Writes the table, if its totals fit in `usize`.
     fn write_checked<S: TextSink>(&self, sink: &mut S) -> Result<(), TableError>
         ensures { WritesPool self.now (S.sent sink.old) result (S.sent sink.new) }
@@ -302,15 +238,12 @@ impl PoolTable {
         let pieces = self.pieces(size)?;
         let drawing = self.drawing(pieces.as_slice(), size);
         if !has_zero_width(pieces.as_slice()) {
-            return self.draw_pieces(sink, &drawing);
+            let margin = self.colored_margin(*self.config.get_margin());
+            return draw_lines(sink, TableLines::Placed(&drawing), &margin);
         }
-        let block = draw_tree(
-            &self.value,
-            &self.spacing(),
-            &drawing,
-            self.inner_size(size),
-        )?;
-        self.draw_inherited(sink, &block)
+        let block = draw_tree(&self.value, &self.spacing(), &drawing)?;
+        let margin = self.colored_margin(self.margin_around(&block));
+        draw_lines(sink, TableLines::Drawn(&block), &margin)
     }
 
     /// Writes the boxes with their borders and the margin, line by line. Where borders meet, the

@@ -1,5 +1,5 @@
 //! The sizes that boxes need, and `BoxSpacing`, on which they depend.
-ghost use Rattle.std.specs.Prelude.{◌≡◌, map};
+ghost use Rattle.std.specs.Prelude.{◌≡◌, ◌≤◌, ◌^◌, ◌+◌, MatchOption, map};
 ghost use Rattle.tabled_pool.specs.Boxes.{IsSize, box_of, joined_box, leaf_box, list_box, pick};
 ghost use Rattle.tabled_pool.specs.Boxes.{sized};
 
@@ -53,16 +53,20 @@ impl Direction {
     }
 }
 
+pub fn sum(first: usize, second: usize, third: usize) -> Option<usize>
+    ensures { MatchOption result (2 ^ 64 ≤ first + second + third)
+        (λ all. all ≡ first + second + third) }
+{
+    first.checked_add(second)?.checked_add(third)
+}
+
 fn leaf_size(text: &str, spacing: &BoxSpacing) -> Option<Size>
     ensures { IsSize result (leaf_box spacing.now text.now) }
 {
     let (columns, lines) = text_measures(text);
-    let width = columns
-        .checked_add(spacing.padding.left)?
-        .checked_add(spacing.padding.right)?;
-    let height = lines
-        .checked_add(spacing.padding.top)?
-        .checked_add(spacing.padding.bottom)?;
+    let padding = spacing.padding;
+    let width = sum(columns, padding.left, padding.right)?;
+    let height = sum(lines, padding.top, padding.bottom)?;
     Some(Size { width, height })
 }
 
@@ -77,18 +81,12 @@ fn joined_size(
 {
     match direction {
         Direction::Across => {
-            let width = first
-                .width
-                .checked_add(spacing.bar)?
-                .checked_add(second.width)?;
+            let width = sum(first.width, spacing.bar, second.width)?;
             let height = first.height.max(second.height);
             Some(Size { width, height })
         }
         Direction::Down => {
-            let height = first
-                .height
-                .checked_add(spacing.rule)?
-                .checked_add(second.height)?;
+            let height = sum(first.height, spacing.rule, second.height)?;
             let width = first.width.max(second.width);
             Some(Size { width, height })
         }

@@ -1,9 +1,9 @@
 //! `Sweep`: where to look first for the pieces on a line and on the lines next to it; and the piece
 //! at a position.
+ghost use Rattle.tabled_pool.specs.Tiling.{within};
 ghost use Rattle.std.specs.Prelude.{◌+◌, ◌<◌, ◌≡◌, ◌≤◌, map, true};
 ghost use Rattle.std.specs.Option.{option_map};
 ghost use Rattle.tabled_pool.specs.Shown.{shown};
-ghost use Rattle.tabled_pool.specs.Tiling.{within};
 ghost use Rattle.tabled_pool.specs.Owner.{contains, owner};
 ghost use Rattle.tabled_pool.specs.Numbers.{IsNumber};
 
@@ -104,16 +104,10 @@ fn contains(place: Rectangle, x: usize, y: usize) -> bool
     ensures value { result ≡ contains place x y }
     ensures lines { result ≡ true → (place.y ≤ y) × (y < place.y + place.height) }
 {
-    if x < place.x {
+    if x < place.x || y < place.y {
         return false;
     }
-    if y < place.y {
-        return false;
-    }
-    if x - place.x >= place.width {
-        return false;
-    }
-    y - place.y < place.height
+    x - place.x < place.width && y - place.y < place.height
 }
 
 /// Returns the number of the first piece of a list that contains a position. It is seldom called,

@@ -2,9 +2,9 @@
 ghost use Rattle.std.specs.Prelude.{◌<◌, ◌∷◌, ◌≡◌, [], length, map, replicate};
 ghost use Rattle.std.specs.List.{join_with_byte, slice_index_or};
 ghost use Rattle.tabled_line.specs.Leading.{WritesLines};
-ghost use Rattle.tabled_line.specs.Sent.{Sent, Writes};
-ghost use Rattle.tabled_pool.specs.Colours.{coloured, mark_of, marks_of};
-ghost use Rattle.tabled_pool.specs.Margins.{margin_line, with_margin, within_margin};
+ghost use Rattle.tabled_line.specs.Sent.{Writes, Sent};
+ghost use Rattle.tabled_pool.specs.Colours.{marks_of, coloured};
+ghost use Rattle.tabled_pool.specs.Margins.{with_margin, within_margin};
 ghost use Rattle.tabled_pool.specs.TableLines.{AreSizedLines, content_of, sheet_of};
 ghost use Rattle.tabled_line.specs.Fill.{indent};
 
@@ -35,18 +35,11 @@ pub(crate) enum TableLines<'l, 'd, 'a> {
     Drawn(&'l DrawnBlock),
 }
 
-/// The characters of a line of the top or bottom margin.
-#[derive(Clone, Copy)]
-pub(crate) struct MarginFill {
-    color: ANSIStr<'static>,
-    c: char,
-    width: usize,
-}
-
 /// What is between the side margins of a line.
 #[derive(Clone, Copy)]
 pub(crate) enum LineContent<'l, 's, 'd, 'a> {
-    Fill(MarginFill),
+    /// Copies of a character in a colour, as in the top and bottom margin.
+    Fill(ANSIStr<'static>, char, usize),
     Placed(Line<'l, 's, 'd, 'a>),
     Text(&'l str),
 }
@@ -56,7 +49,7 @@ impl LineContent<'_, '_, '_, '_> {
         ensures { Writes (S.sent sink.old) result (S.sent sink.new) (content_of self.entry) }
     {
         match self {
-            LineContent::Fill(fill) => draw_colored_fill(sink, fill.color, fill.c, fill.width),
+            LineContent::Fill(color, c, width) => draw_colored_fill(sink, color, c, width),
             LineContent::Placed(line) => draw_line(sink, &line),
             LineContent::Text(text) => sink.write_text(text),
         }
@@ -121,15 +114,15 @@ fn draw_margin<S: TextSink>(
     sink: &mut S,
     begun: &mut bool,
     margin: &ColoredMargin,
-    fill: MarginFill,
+    content: LineContent<'_, '_, '_, '_>,
     count: usize,
 ) -> Result<(), TableError>
     ensures { WritesLines (S.sent sink.old) begun.old result (S.sent sink.new) begun.new
-        (replicate count (margin_line margin.now.indent (marks_of margin.now.colors)
-        (mark_of fill.color) fill.c fill.width)) }
+        (replicate count (within_margin margin.now.indent (marks_of margin.now.colors)
+        (content_of content.entry))) }
 {
     'lines: for _i in 0..count {
-        draw_next(sink, begun, margin, LineContent::Fill(fill))?;
+        draw_next(sink, begun, margin, content)?;
     }
     Ok(())
 }
@@ -174,11 +167,9 @@ pub(crate) fn draw_lines<S: TextSink>(
     let ColoredMargin { indent, colors } = *margin;
     let width = lines.size().width;
     let c = indent.top.fill;
-    let color = colors.top;
-    let top = MarginFill { color, c, width };
+    let top = LineContent::Fill(colors.top, c, width);
     let c = indent.bottom.fill;
-    let color = colors.bottom;
-    let bottom = MarginFill { color, c, width };
+    let bottom = LineContent::Fill(colors.bottom, c, width);
     let mut begun = false;
     draw_margin(sink, &mut begun, margin, top, indent.top.size)?;
     draw_inner_lines(sink, &mut begun, margin, lines)?;

@@ -1,6 +1,6 @@
 //! Draws a tree with a zero-width text: boxes are drawn one by one in memory and joined, and each
 //! passes on where borders meet.
-ghost use Rattle.std.specs.Prelude.{◌≡◌, ◌+◌, ◌^◌, ◌<◌, ◌∷◌, [], map, IfOk, string_bytes};
+ghost use Rattle.std.specs.Prelude.{◌≡◌, ◌≤◌, ◌+◌, ◌<◌, [], map, IfOk, ◌^◌, ◌∷◌, string_bytes};
 ghost use Rattle.tabled_pool.specs.Boxes.{box_of, list_box};
 ghost use Rattle.tabled_pool.specs.Shown.{Fits, shown};
 ghost use Rattle.tabled_pool.specs.Inherited.{drawer, inherited_block, has_zero_width, list_drawer};
@@ -12,7 +12,7 @@ use crate::drawn_blocks::DrawnBlock;
 use crate::inheriting_box::{DrawnBoxes, InheritingBox};
 use crate::pieces::{Drawing, Piece, Rectangle, is_line_kind};
 use crate::places::BoxesLeft;
-use crate::sizes::{BoxSpacing, Direction, Size, list_size};
+use crate::sizes::{BoxSpacing, Direction, Size, list_size, own_size};
 use crate::tree::TableValue;
 use std::alloc::AllocError;
 
@@ -111,18 +111,20 @@ pub fn draw_tree(
     value: &TableValue,
     spacing: &BoxSpacing,
     drawing: &Drawing<'_, '_>,
-    own: Size,
 ) -> Result<DrawnBlock, AllocError>
-    requires width { own.width ≡ (box_of spacing.now value.now).width }
-    requires height { own.height ≡ (box_of spacing.now value.now).height }
+    requires wide { (box_of spacing.now value.now).width ≤ drawing.now.width }
+    requires tall { (box_of spacing.now value.now).height ≤ drawing.now.height }
     ensures { IfOk result (λ block. block_sheet_of block
         ≡ inherited_block (plan_of drawing.now) spacing.now value.now) }
 {
+    let Some(Size { width, height }) = own_size(value, spacing) else {
+        unreachable!()
+    };
     let place = Rectangle {
         x: 0,
         y: 0,
-        width: own.width,
-        height: own.height,
+        width,
+        height,
     };
     let mut whole = InheritingBox::new(drawing.alloc, place);
     draw_value(value, TreeSettings { drawing, spacing }, &mut whole)?;

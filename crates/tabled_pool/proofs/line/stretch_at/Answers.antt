@@ -20,4 +20,4 @@ returns-in-Some-clause-same c =
 pub returns-in-None-clause-same : goal.returns-in-None-clause-same
 returns-in-None-clause-same c =
     let d = c.args.drawing.now in
-    λ v a b. nothing (plan_of d) c.args.x c.args.y d.tiles c.requires (sym c.in-None.ensures) v
+    λ v a b. nothing (plan_of d) c.args.x c.args.y d.tiles c.requires.inside (sym c.in-None.ensures) v

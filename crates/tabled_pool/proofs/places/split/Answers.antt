@@ -1,4 +1,4 @@
-use Rattle.tabled_pool.proofs.Names.{Fits, arith, box_of, first_part, place_along, rest_part, rules, subst, sym, ⊎_elim, ◌≡◌, ◌≤◌}
+use Rattle.tabled_pool.proofs.Names.{Fits, arith, box_of, first_part, place_along, rest_part, rules, subst, sym, ◌≡◌, ◌≤◌}
 use Rattle.tabled_pool.specs.Left.{given_in}
 use Rattle.tabled_pool.proofs.Directions.{Cut, cut_facts}
 use Rattle.tabled_pool.proofs.places.split.Goals.{Start, After-rest_part-behind}
@@ -15,11 +15,11 @@ behind : (c : After-rest_part-behind) → c.rest_part-behind.result
     ≡ rest_part c.args.direction (given_in c.args.direction c.args.spacing.now c.args.child.now c.args.left c.args.place) c.args.place
 behind c = search rules
 
-pub unreachable-requires : goal.unreachable-requires
-unreachable-requires c =
+pub size_within-size-requires : goal.size_within-size-requires
+size_within-size-requires c =
     let q = c.requires in
-    let k = cut (goal.at.unreachable-requires c).Start in
-    ⊎_elim (λ h. omega (arith, h, k.wide, q.right)) (λ h. omega (arith, h, k.tall, q.low)) c.in_default.ensures
+    let k = cut (goal.at.size_within-size-requires c).Start in
+    record { wide = k.wide; tall = k.tall; right = q.right; low = q.low }
 
 pub rest_part-requires-clause-within : goal.rest_part-requires-clause-within
 rest_part-requires-clause-within c =

@@ -1,6 +1,10 @@
 use Rattle.tabled_pool.proofs.Names.{lines-further, lines-stopped}
 use Rattle.tabled_line.proofs.Each.{copies-append, copies-rest}
+use Rattle.tabled_line.proofs.Leading.{lines-none}
 use Rattle.tabled_pool.proofs.table_lines.draw_margin.Goals as goal
+
+pub lines-init : goal.lines-init
+lines-init g c = lines-none _ _
 
 pub returns-in_err-draw_next : goal.returns-in_err-draw_next
 returns-in_err-draw_next g c =

@@ -1,7 +1,8 @@
-use Rattle.tabled_pool.proofs.Names.{LineSends, margin_line, mark_of, marks_of, replicate}
+use Rattle.tabled_pool.proofs.Names.{LineSends, marks_of, replicate, within_margin}
+use Rattle.tabled_pool.specs.TableLines.{content_of}
 use Rattle.tabled_pool.proofs.table_lines.draw_margin.Given as goal
 
 abbrev pub invariant-lines : goal.invariant-lines
 invariant-lines g l =
     LineSends (g.S.TextSink.sent l.initial.sink) l.initial.begun (g.S.TextSink.sent l.sink) l.begun
-    (replicate l._i (margin_line l.margin.indent (marks_of l.margin.colors) (mark_of l.fill.color) l.fill.c l.fill.width))
+    (replicate l._i (within_margin l.margin.indent (marks_of l.margin.colors) (content_of l.content)))

@@ -10,8 +10,8 @@ own c =
 pub above-up-requires-clause-inside : goal.above-up-requires-clause-inside
 above-up-requires-clause-inside c = let o = own (goal.at.above-up-requires-clause-inside c).Start in omega (arith, o.to, o.fits)
 
-pub below-down-requires-clause-inside : goal.below-down-requires-clause-inside
-below-down-requires-clause-inside c = let o = own (goal.at.below-down-requires-clause-inside c).Start in omega (arith, o.to, o.fits)
+pub stretch_at-down-requires-clause-inside : goal.stretch_at-down-requires-clause-inside
+stretch_at-down-requires-clause-inside c = let o = own (goal.at.stretch_at-down-requires-clause-inside c).Start in omega (arith, o.to, o.fits)
 
 pub overflow_add-own : goal.overflow_add-own
 overflow_add-own c = let o = own (goal.at.overflow_add-own c).Start in omega (arith, o.to, o.fits)
@@ -19,11 +19,11 @@ overflow_add-own c = let o = own (goal.at.overflow_add-own c).Start in omega (ar
 pub piece_behind-behind-requires : goal.piece_behind-behind-requires
 piece_behind-behind-requires c =
     let o = own (goal.at.piece_behind-behind-requires c).Start in
-    λ h. o.more c.min-end.result (omega (arith, o.to, c.above-up.ensures.some, c.below-down.ensures.some)) (omega (arith, h))
+    λ h. o.more c.min-end.result (omega (arith, o.to, c.above-up.ensures.some, c.stretch_at-down.ensures.some)) (omega (arith, h))
 
 pub run_end-last-requires : goal.run_end-last-requires
 run_end-last-requires c =
-    let o = own (goal.at.run_end-last-requires c).Start in omega (arith, o.to, c.above-up.ensures.some, c.below-down.ensures.some)
+    let o = own (goal.at.run_end-last-requires c).Start in omega (arith, o.to, c.above-up.ensures.some, c.stretch_at-down.ensures.some)
 
 pub returns : goal.returns
 returns c =
@@ -33,22 +33,22 @@ returns c =
     let o = own (goal.at.returns c).Start in
     let ends = c.run_end-last.ensures in
     let arms : Arms t p c.args.at.x l.y c.min-end.result c.args.at.left c.is_line-border.result
-    c.above-up.result.border c.below-down.result.border = record {
+    c.above-up.result.border c.stretch_at-down.result.border = record {
       some = omega (arith, ends.some, ends.within);
       own = λ v a b. o.more v a (omega arith);
       above = λ v a b. c.above-up.ensures.same v a (omega arith);
-      below = λ v a b. c.below-down.ensures.same v a (omega arith);
+      below = λ v a b. c.stretch_at-down.ensures.same v a (omega arith);
       before = sym c.requires.at.left;
       after = sym (ap is_line c.piece_behind-behind.ensures) ∙ sym c.is_line-border.ensures;
     } in
     let stop : Ends c.args.at.x c.min-end.result c.run_end-last.result c.args.at.left c.is_line-border.result
-    c.is_followed-right.result = record {
+    c.is_followed.result = record {
       some = ends.some;
       within = ends.within;
       begun = ends.begun;
       ended = ends.ended;
-      more = c.is_followed-right.ensures.more;
-      all = c.is_followed-right.ensures.all;
+      more = c.is_followed.ensures.more;
+      all = c.is_followed.ensures.all;
     } in
     let next : option_map (λ q. shown q.now) c.if-last-end.next ≡ owner t.parts c.run_end-last.result l.y = elim c.if-last-end.branch [
       | then-last-end w ↦ rw w.next-is
@@ -69,7 +69,7 @@ returns c =
         piece = next;
         left = sym (kind_before t c.args.at.x l.y c.run_end-last.result p o ends.some (omega (arith, ends.within)) ∙ c.requires.kind);
         up = λ v a b. c.above-up.ensures.same v (omega (arith, a, ends.some)) b;
-        down = λ v a b. c.below-down.ensures.same v (omega (arith, a, ends.some)) b;
+        down = λ v a b. c.stretch_at-down.ensures.same v (omega (arith, a, ends.some)) b;
       };
       behind = omega (arith, ends.some);
     }

@@ -1,0 +1,45 @@
+use Rattle.tabled_pool.proofs.Names.{List, TableValue, [], arith, left_in, length, nodes, nodes_in, refl, ◌++◌, ◌+◌, ◌∙◌, ◌∷◌, ◌≡◌}
+use Rattle.tabled_pool.specs.declared.copying.Level.{Level}
+use Rattle.tabled_pool.proofs.Levels.{ended, goes_on, left_in_push}
+use Rattle.tabled_pool.proofs.NodeSums.{nodes_in_cons}
+use Rattle.tabled_pool.proofs.tree.TableValue.clone.Goals as goal
+
+none_left : (xs : List TableValue) → length xs ≡ 0 → xs ≡ []
+none_left [] h = refl
+none_left (x ∷ xs) h = absurd (omega (arith, h))
+
+pub values-preserved-in_default-split_first : goal.values-preserved-in_default-split_first
+values-preserved-in_default-split_first c =
+    let popped : c.values.levels.items ≡ c.pop.new.self.items ++ c.in-Some.level ∷ [] = c.in-Some.ensures.items in
+    ended _ c.in-Some.level _ c.values.copy _ c.in_ok-push.ensures.items (none_left _ c.in_default-split_first.ensures.cases) c.list_of-copy.ensures
+    ∙ (rw popped at c.values.invariant)
+
+pub values-smaller-in_default-split_first : goal.values-smaller-in_default-split_first
+values-smaller-in_default-split_first c =
+    let popped : c.values.levels.items ≡ c.pop.new.self.items ++ c.in-Some.level ∷ [] = c.in-Some.ensures.items in
+    let old : left_in c.values.levels.items ≡ left_in c.pop.new.self.items + nodes_in c.in-Some.level.left.now + 1 =
+    rw popped (left_in_push c.pop.new.self.items c.in-Some.level) in
+    omega (arith, old)
+
+pub values-smaller : goal.values-smaller
+values-smaller c =
+    let l = c.in-Some.level in
+    let m : Level = record { is_row = l.is_row; copies = c.push.new.self; left = c.in-Some-split_first.left } in
+    let popped : c.values.levels.items ≡ c.pop.new.self.items ++ c.in-Some.level ∷ [] = c.in-Some.ensures.items in
+    let cut : l.left.now ≡ c.in-Some-split_first.next.now ∷ c.in-Some-split_first.left.now = c.in-Some-split_first.ensures.cases.0 in
+    let old : left_in c.values.levels.items ≡ left_in c.pop.new.self.items + nodes_in l.left.now + 1 =
+    rw popped (left_in_push c.pop.new.self.items l) in
+    let new : left_in c.push-in-values.new.self.items ≡ left_in c.pop.new.self.items + nodes_in m.left.now + 1 =
+    rw c.in_ok-push-2.ensures.items (left_in_push c.pop.new.self.items m) in
+    let first : nodes_in l.left.now ≡ nodes c.in-Some-split_first.next.now + nodes_in m.left.now =
+    rw cut (nodes_in_cons c.in-Some-split_first.next.now m.left.now) in
+    omega (arith, old, new, first, c.in_ok-copy-2.ensures.left)
+
+pub values-preserved : goal.values-preserved
+values-preserved c =
+    let l = c.in-Some.level in
+    let m : Level = record { is_row = l.is_row; copies = c.push.new.self; left = c.in-Some-split_first.left } in
+    let popped : c.values.levels.items ≡ c.pop.new.self.items ++ c.in-Some.level ∷ [] = c.in-Some.ensures.items in
+    let next = goes_on c.pop.new.self.items l m c.values.copy c.in-Some-split_first.next.now refl c.in_ok-push.ensures.items
+    c.in-Some-split_first.ensures.cases.0 in
+    c.in_ok-copy-2.ensures.copy ∙ (rw c.in_ok-push-2.ensures.items next) ∙ (rw popped at c.values.invariant)
