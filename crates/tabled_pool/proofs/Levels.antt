@@ -1,6 +1,6 @@
 -- A list that is put below others, and those that are left.
 use Rattle.tabled_pool.proofs.Names.{List, TableValue, Tree, [], ap, append_assoc, arith, left_in, map, map-append, nodes, nodes_in, refl, sym, tree_of, ◌++◌, ◌+◌}
-use Rattle.tabled_pool.proofs.Names.{Bool, ◌∙◌, ◌∷◌, ◌≡◌}
+use Rattle.tabled_pool.proofs.Names.{◌∙◌, ◌∷◌, ◌≡◌}
 use Rattle.tabled_pool.specs.declared.copying.Level.{Level}
 use Rattle.tabled_pool.proofs.NodeSums.{nodes_in_cons}
 use Rattle.tabled_pool.specs.Levels.{IsBegun, filled, list, within}
@@ -31,20 +31,11 @@ begun levels l first children e h =
 pub ended : (ls : List Level) (l : Level) (copies : List TableValue) (copy whole : TableValue) → copies ≡ l.copies.items ++ copy ∷ []
     → l.left.now ≡ [] → tree_of whole ≡ list l.is_row (map tree_of copies) → within ls (tree_of whole) ≡ within (ls ++ l ∷ []) (tree_of copy)
 ended ls l copies copy whole e n h =
-    ap (within ls)
-    (h ∙ ap (λ (xs : List TableValue). list l.is_row (map tree_of xs)) e ∙ ap (list l.is_row) (map-append tree_of l.copies.items (copy ∷ []))
-    ∙ ap (λ (xs : List TableValue). list l.is_row (map tree_of l.copies.items ++ tree_of copy ∷ map tree_of xs)) (sym n))
-    ∙ sym (within_push ls l (tree_of copy))
+    rw (within_push ls l (tree_of copy), h, e, n, map-append tree_of l.copies.items (copy ∷ [])) refl
 
 -- a copy is added to a list, whose next value is `next`
 pub goes_on : (ls : List Level) (l m : Level) (copy next : TableValue) → m.is_row ≡ l.is_row → m.copies.items ≡ l.copies.items ++ copy ∷ []
     → l.left.now ≡ next ∷ m.left.now → within (ls ++ m ∷ []) (tree_of next) ≡ within (ls ++ l ∷ []) (tree_of copy)
 goes_on ls l m copy next r e h =
-    within_push ls m (tree_of next)
-    ∙ ap (within ls)
-    (ap (λ (b : Bool). list b (map tree_of m.copies.items ++ tree_of next ∷ map tree_of m.left.now)) r
-    ∙ ap (λ (xs : List TableValue). list l.is_row (map tree_of xs ++ tree_of next ∷ map tree_of m.left.now)) e
-    ∙ ap (λ (ts : List Tree). list l.is_row (ts ++ tree_of next ∷ map tree_of m.left.now)) (map-append tree_of l.copies.items (copy ∷ []))
-    ∙ ap (list l.is_row) (append_assoc (map tree_of l.copies.items) (tree_of copy ∷ []) (tree_of next ∷ map tree_of m.left.now))
-    ∙ ap (λ (xs : List TableValue). list l.is_row (map tree_of l.copies.items ++ tree_of copy ∷ map tree_of xs)) (sym h))
-    ∙ sym (within_push ls l (tree_of copy))
+    rw (within_push ls m (tree_of next), within_push ls l (tree_of copy), r, e, h, map-append tree_of l.copies.items (copy ∷ []))
+    (ap (λ ts. within ls (list l.is_row ts)) (append_assoc (map tree_of l.copies.items) (tree_of copy ∷ []) _))

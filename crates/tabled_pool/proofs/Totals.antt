@@ -36,10 +36,5 @@ plan-height t = refl
 
 pub whole_lines : (t : PoolTable) → HasColumns t → length (pool_lines t) ≡ total_height t
 whole_lines t h =
-    ap length (lined t h)
-    ∙ omega (
-      arith,
-      margin-length (margin_of t) (margin_marks t) (framed_width t) (drawn (plan t)),
-      drawn-length (plan t),
-      plan-height t,
-    )
+    let inside = margin-length (margin_of t) (margin_marks t) (framed_width t) (drawn (plan t)) in
+    ap length (lined t h) ∙ omega (arith, inside, drawn-length (plan t), plan-height t)

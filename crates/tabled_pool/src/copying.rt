@@ -87,6 +87,7 @@ fn copy_first<'a>(
 impl TableValue {
     /// Returns a copy of the tree, whatever its depth: copying doesn't recurse. Fails only with
     /// `Memory`, if an allocation fails.
+    #[tactic(auto, using(crate::proofs::Levels::left_in_push, crate::proofs::NodeSums::nodes_in_cons))]
     pub fn clone(&self) -> Result<TableValue, TableError>
         ensures ok { IfOk result (λ copy. tree_of copy ≡ tree_of self.now) }
         ensures only { IfErr result (λ e. e ≡ Memory) }

@@ -266,6 +266,7 @@ impl PoolTable {
     /// Recurses at each level of several boxes (see `PoolTable`). Drawing takes a time that grows
     /// with the printed text. Without memory to find texts and borders by their columns, each run
     /// of a line, and each coloured border character, takes passes over all of them.
+    #[tactic(auto, using(crate::proofs::Padded::padded_columns, crate::proofs::StraightPools::pool_columns, crate::proofs::StraightPools::pool_tiles, crate::proofs::StraightPools::whole_columns, crate::proofs::Totals::whole_lines))]
     pub fn write_to<S: TextSink>(&self, sink: &mut S) -> Result<(), TableError>
         ensures printed { WritesPool self.now (S.sent sink.old) result (S.sent sink.new) }
         ensures padded { IsPadded self.now → HasColumns self.now }

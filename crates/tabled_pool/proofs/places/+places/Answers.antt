@@ -7,34 +7,22 @@ pub place_list-split-cut-requires : goal.place_list-split-cut-requires
 place_list-split-cut-requires t c =
     let d = c.args.direction in
     let g = c.args.spacing.now in
-    let f = list_facts d g c.in-Some.front.now c.in-Some.last.now c.loop-child.child-index
-    c.child-item.result c.loop-child-test.true c.child-item.is in
+    let f = list_facts d g _ c.in-Some.last.now _ _ c.loop-child-test.true c.child-item.is in
     let i = c.loop-child.invariant in
     can_split d g _ _ _ _ _ f i.placing.fits i.left
 
 pub place_list-overflow_add-left : goal.place_list-overflow_add-left
 place_list-overflow_add-left t c =
     let d = c.args.direction in
-    let g = c.args.spacing.now in
-    let f = list_facts d g c.in-Some.front.now c.in-Some.last.now c.loop-child.child-index
-    c.child-item.result c.loop-child-test.true c.child-item.is in
+    let f = list_facts d c.args.spacing.now _ c.in-Some.last.now _ _ c.loop-child-test.true c.child-item.is in
     let i = c.loop-child.invariant in
-    omega (
-      arith,
-      c.split-cut.ensures.own,
-      c.pick-border.ensures,
-      f.along,
-      i.left.size,
-      fits_along d _ _ i.placing.fits,
-      fits_bound d _ _ i.placing.fits,
-    )
+    let p = i.placing.fits in
+    omega (arith, c.split-cut.ensures.own, c.pick-border.ensures, f.along, i.left.size, fits_along d _ _ p, fits_bound d _ _ p)
 
 pub place_list-overflow_sub-left : goal.place_list-overflow_sub-left
 place_list-overflow_sub-left t c =
     let d = c.args.direction in
-    let g = c.args.spacing.now in
-    let f = list_facts d g c.in-Some.front.now c.in-Some.last.now c.loop-child.child-index
-    c.child-item.result c.loop-child-test.true c.child-item.is in
+    let f = list_facts d c.args.spacing.now _ c.in-Some.last.now _ _ c.loop-child-test.true c.child-item.is in
     let i = c.loop-child.invariant in
     omega (arith, c.split-cut.ensures.own, c.pick-border.ensures, f.along, i.left.size)
 
@@ -42,8 +30,7 @@ pub place_list-loop-child-preserved : goal.place_list-loop-child-preserved
 place_list-loop-child-preserved t c =
     let d = c.args.direction in
     let g = c.args.spacing.now in
-    let f = list_facts d g c.in-Some.front.now c.in-Some.last.now c.loop-child.child-index
-    c.child-item.result c.loop-child-test.true c.child-item.is in
+    let f = list_facts d g _ c.in-Some.last.now _ _ c.loop-child-test.true c.child-item.is in
     let i = c.loop-child.invariant in
     let cut = c.split-cut.ensures in
     let line = rw c.pick-kind.ensures at c.in_ok-place_piece.ensures in
@@ -65,10 +52,9 @@ place_list-loop-child-preserved t c =
 pub place_value-place_list-requires : goal.place_value-place_list-requires
 place_value-place_list-requires t c =
     let g = c.args.spacing.now in
-    let vs = c.as_slice-children.result.now in
     let e = c.inner.ensures.box g in
-    let n : nodes c.inner.result.now ≡ nodes_in vs + 1 = search (rules, the_lemmas) in
-    let fewer : 2 * nodes_in vs + 1 < 2 * nodes c.args.value.now = omega (arith, n, c.inner.ensures.fewer) in
+    let n : nodes c.inner.result.now ≡ nodes_in c.as_slice-children.result.now + 1 = search (rules, the_lemmas) in
+    let fewer : 2 * nodes_in c.as_slice-children.result.now + 1 < 2 * nodes c.args.value.now = omega (arith, n, c.inner.ensures.fewer) in
     let own : IsSize (Some c.args.whole.own) (box_of g c.inner.result.now) = rw e at c.requires.own in
     let fits : Fits (box_of g c.inner.result.now) c.args.whole.place = rw e at c.requires.fits in
     search (rules, the_lemmas)
@@ -76,10 +62,9 @@ place_value-place_list-requires t c =
 pub place_value-place_list-requires-in-Column : goal.place_value-place_list-requires-in-Column
 place_value-place_list-requires-in-Column t c =
     let g = c.args.spacing.now in
-    let vs = c.as_slice-children-in-Column.result.now in
     let e = c.inner.ensures.box g in
-    let n : nodes c.inner.result.now ≡ nodes_in vs + 1 = search (rules, the_lemmas) in
-    let fewer : 2 * nodes_in vs + 1 < 2 * nodes c.args.value.now = omega (arith, n, c.inner.ensures.fewer) in
+    let n : nodes c.inner.result.now ≡ nodes_in c.as_slice-children-in-Column.result.now + 1 = search (rules, the_lemmas) in
+    let fewer : 2 * nodes_in c.as_slice-children-in-Column.result.now + 1 < 2 * nodes c.args.value.now = omega (arith, n, c.inner.ensures.fewer) in
     let own : IsSize (Some c.args.whole.own) (box_of g c.inner.result.now) = rw e at c.requires.own in
     let fits : Fits (box_of g c.inner.result.now) c.args.whole.place = rw e at c.requires.fits in
     search (rules, the_lemmas)

@@ -8,26 +8,21 @@ pub draw_list-pass_to-requires : goal.draw_list-pass_to-requires
 draw_list-pass_to-requires t c =
     let d = c.args.direction in
     let g = c.args.settings.spacing.now in
-    let f = list_facts d g c.in-Some.front.now c.in-Some.last.now c.loop-child.child-index
-    c.child-item.result c.loop-child-test.true c.child-item.is in
+    let f = list_facts d g _ c.in-Some.last.now _ _ c.loop-child-test.true c.child-item.is in
     let i = c.loop-child.invariant in
     can_split d g _ _ _ _ _ f i.fits i.left
 
 pub draw_list-overflow_add-left : goal.draw_list-overflow_add-left
 draw_list-overflow_add-left t c =
     let d = c.args.direction in
-    let g = c.args.settings.spacing.now in
-    let f = list_facts d g c.in-Some.front.now c.in-Some.last.now c.loop-child.child-index
-    c.child-item.result c.loop-child-test.true c.child-item.is in
+    let f = list_facts d c.args.settings.spacing.now _ c.in-Some.last.now _ _ c.loop-child-test.true c.child-item.is in
     let i = c.loop-child.invariant in
     omega (arith, c.in_ok-own.ensures.own, c.pick-border.ensures, f.along, i.left.size, fits_along d _ _ i.fits, fits_bound d _ _ i.fits)
 
 pub draw_list-overflow_sub-left : goal.draw_list-overflow_sub-left
 draw_list-overflow_sub-left t c =
     let d = c.args.direction in
-    let g = c.args.settings.spacing.now in
-    let f = list_facts d g c.in-Some.front.now c.in-Some.last.now c.loop-child.child-index
-    c.child-item.result c.loop-child-test.true c.child-item.is in
+    let f = list_facts d c.args.settings.spacing.now _ c.in-Some.last.now _ _ c.loop-child-test.true c.child-item.is in
     let i = c.loop-child.invariant in
     omega (arith, c.in_ok-own.ensures.own, c.pick-border.ensures, f.along, i.left.size)
 
@@ -35,8 +30,7 @@ pub draw_list-loop-child-preserved : goal.draw_list-loop-child-preserved
 draw_list-loop-child-preserved t c =
     let d = c.args.direction in
     let g = c.args.settings.spacing.now in
-    let f = list_facts d g c.in-Some.front.now c.in-Some.last.now c.loop-child.child-index
-    c.child-item.result c.loop-child-test.true c.child-item.is in
+    let f = list_facts d g _ c.in-Some.last.now _ _ c.loop-child-test.true c.child-item.is in
     let i = c.loop-child.invariant in
     let l = c.loop-child.left in
     let place = ap (λ (u : InheritedSheet). u.place) c.in_ok-add.ensures.others

@@ -1,5 +1,4 @@
-use Rattle.tabled_pool.proofs.Names.{arith, common_steps, framed_height, framed_width, inl, inr, ⊎_elim, ◌≡◌}
-use Rattle.tabled_pool.specs.Pool.{IsInRange}
+use Rattle.tabled_pool.proofs.Names.{arith, inl, inr, ⊎_elim}
 use Rattle.tabled_pool.proofs.pool_table.PoolTable.checked_size.Goals as goal
 
 pub returns-in_default : goal.returns-in_default
@@ -9,13 +8,9 @@ returns-in_default c =
 
 pub returns : goal.returns
 returns c =
-    let t = c.args.self.now in
     let own = rw c.spacing.ensures at c.in-Some.ensures in
-    let width : c.in_ok-width.width ≡ framed_width t =
-    rw (c.frame_of-frame.ensures, c.get_borders.ensures, own.0) at c.in_ok-width.ensures in
-    let height : c.in_ok-height.height ≡ framed_height t =
-    rw (c.frame_of-frame.ensures, c.get_borders.ensures, own.1) at c.in_ok-height.ensures in
+    let width = rw (c.frame_of-frame.ensures, c.get_borders.ensures, own.0) at c.in_ok-width.ensures in
+    let height = rw (c.frame_of-frame.ensures, c.get_borders.ensures, own.1) at c.in_ok-height.ensures in
     let across = rw (c.get_margin-margin.ensures, width) at c.in_ok-sum.ensures in
     let down = rw (c.get_margin-margin.ensures, height) at c.in_ok-sum-2.ensures in
-    let range : IsInRange t = record { width = omega (arith, across); height = omega (arith, down) } in
-    (width, height, range)
+    (width, height, record { width = omega (arith, across); height = omega (arith, down) })

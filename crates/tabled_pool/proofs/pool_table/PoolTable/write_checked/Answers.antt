@@ -1,4 +1,4 @@
-use Rattle.tabled_pool.proofs.Names.{AreSized, DrawingPlan, PoolTable, ap, arith, false, has_zero_width, inr, marks_for, plan, rules, subst, sym, true}
+use Rattle.tabled_pool.proofs.Names.{AreSized, DrawingPlan, PoolTable, ap, arith, common_steps, false, has_zero_width, inr, marks_for, plan, subst, sym, true}
 use Rattle.tabled_pool.proofs.Names.{◌∙◌, ◌≡◌}
 use Rattle.std.specs.Prelude.{Result, Ok, Err}
 use Rattle.tabled_base.specs.declared.error.TableError.{TableError}
@@ -14,19 +14,15 @@ written t old new (Err e) i w = inr (i, inr w)
 
 pub draw_lines-requires : goal.draw_lines-requires
 draw_lines-requires g c =
-    let t = c.args.self.now in
-    let none : c.has_zero_width.result ≡ false = search rules in
-    let columns : has_zero_width (plan t).parts ≡ false = cc (none, c.has_zero_width.ensures, c.as_slice-2.ensures.value, c.in_ok-pieces.ensures) in
-    subst (λ (q : DrawingPlan). AreSized q.parts) (sym c.drawing-drawing.ensures.plan) (sized_parts t columns)
+    let columns : has_zero_width (plan c.args.self.now).parts ≡ false = grind (arith, common_steps) in
+    subst (λ (q : DrawingPlan). AreSized q.parts) (sym c.drawing-drawing.ensures.plan) (sized_parts c.args.self.now columns)
 
 pub returns-then-not-has_zero_width : goal.returns-then-not-has_zero_width
 returns-then-not-has_zero_width g c =
     let t = c.args.self.now in
     let m = c.colored_margin-margin.ensures in
-    let none : c.has_zero_width.result ≡ false = search rules in
-    let columns : has_zero_width (plan t).parts ≡ false = cc (none, c.has_zero_width.ensures, c.as_slice-2.ensures.value, c.in_ok-pieces.ensures) in
-    let range : IsInRange t = search rules in
-    written t _ _ _ range
+    let columns : has_zero_width (plan t).parts ≡ false = grind (arith, common_steps) in
+    written t _ _ _ c.in-Some.ensures.2
     (rw (text_of t _ _ _ columns c.drawing-drawing.ensures.plan (m.indent ∙ c.get_margin.ensures)
     (m.colors ∙ ap (marks_for t) c.get_margin.ensures)) c.draw_lines.ensures)
 
@@ -40,9 +36,7 @@ pub returns : goal.returns
 returns g c =
     let t = c.args.self.now in
     let m = c.colored_margin-margin-2.ensures in
-    let some : c.has_zero_width.result ≡ true = search rules in
-    let bare : has_zero_width (plan t).parts ≡ true = cc (some, c.has_zero_width.ensures, c.as_slice-2.ensures.value, c.in_ok-pieces.ensures) in
+    let bare : has_zero_width (plan t).parts ≡ true = grind (arith, common_steps) in
     let block = rw (c.drawing-drawing.ensures.plan, c.spacing.ensures) at c.in_ok-block.ensures in
-    let range : IsInRange t = search rules in
-    written t _ _ _ range
+    written t _ _ _ c.in-Some.ensures.2
     (rw (inherited_text t _ _ _ bare block (m.indent ∙ c.margin_around.ensures) (m.colors ∙ ap (marks_for t) (sym m.indent))) c.draw_lines-2.ensures)

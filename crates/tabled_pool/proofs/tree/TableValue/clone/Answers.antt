@@ -14,27 +14,6 @@ values-preserved-in_default-split_first c =
     ended _ c.in-Some.level _ c.values.copy _ c.in_ok-push.ensures.items (none_left _ c.in_default-split_first.ensures.cases) c.list_of-copy.ensures
     ∙ (rw popped at c.values.invariant)
 
-pub values-smaller-in_default-split_first : goal.values-smaller-in_default-split_first
-values-smaller-in_default-split_first c =
-    let popped : c.values.levels.items ≡ c.pop.new.self.items ++ c.in-Some.level ∷ [] = c.in-Some.ensures.items in
-    let old : left_in c.values.levels.items ≡ left_in c.pop.new.self.items + nodes_in c.in-Some.level.left.now + 1 =
-    rw popped (left_in_push c.pop.new.self.items c.in-Some.level) in
-    omega (arith, old)
-
-pub values-smaller : goal.values-smaller
-values-smaller c =
-    let l = c.in-Some.level in
-    let m : Level = record { is_row = l.is_row; copies = c.push.new.self; left = c.in-Some-split_first.left } in
-    let popped : c.values.levels.items ≡ c.pop.new.self.items ++ c.in-Some.level ∷ [] = c.in-Some.ensures.items in
-    let cut : l.left.now ≡ c.in-Some-split_first.next.now ∷ c.in-Some-split_first.left.now = c.in-Some-split_first.ensures.cases.0 in
-    let old : left_in c.values.levels.items ≡ left_in c.pop.new.self.items + nodes_in l.left.now + 1 =
-    rw popped (left_in_push c.pop.new.self.items l) in
-    let new : left_in c.push-in-values.new.self.items ≡ left_in c.pop.new.self.items + nodes_in m.left.now + 1 =
-    rw c.in_ok-push-2.ensures.items (left_in_push c.pop.new.self.items m) in
-    let first : nodes_in l.left.now ≡ nodes c.in-Some-split_first.next.now + nodes_in m.left.now =
-    rw cut (nodes_in_cons c.in-Some-split_first.next.now m.left.now) in
-    omega (arith, old, new, first, c.in_ok-copy-2.ensures.left)
-
 pub values-preserved : goal.values-preserved
 values-preserved c =
     let l = c.in-Some.level in
