@@ -41,29 +41,6 @@ fn line_at<'a>(content: &Content<'a>, index: usize) -> Option<(&'a str, usize)>
     Some((line, line_width(line)))
 }
 
-fn without_sides(style: CellStyle) -> CellStyle
-    ensures { result ≡ without_sides style }
-{
-    CellStyle {
-        padding: Sides {
-            left: Indent::zero(),
-            right: Indent::zero(),
-            top: style.padding.top,
-            bottom: style.padding.bottom,
-        },
-        ..style
-    }
-}
-
-/// The content width: what the side padding leaves of a width.
-fn inner_width(style: &CellStyle, width: usize) -> usize
-    ensures { result ≡ inner_width style.now width }
-{
-    width
-        .saturating_sub(style.padding.left.size)
-        .saturating_sub(style.padding.right.size)
-}
-
 fn write_text_line<S: TextSink>(
     sink: &mut S,
     cell: &CellBlock<'_>,
@@ -79,11 +56,17 @@ fn write_text_line<S: TextSink>(
     if are_uncolored_sides(colors) {
         return cell.write_text_line(sink, line, columns);
     }
-    let left = cell.style.padding.left;
-    let right = cell.style.padding.right;
+    let Sides { left, right, .. } = cell.style.padding;
+    let Sides { top, bottom, .. } = cell.style.padding;
+    let zero = Indent::zero();
+    let padding = Sides::new(zero, zero, top, bottom);
+    let width = cell.width.saturating_sub(left.size);
     let inner = CellBlock {
-        style: without_sides(cell.style),
-        width: inner_width(&cell.style, cell.width),
+        style: CellStyle {
+            padding,
+            ..cell.style
+        },
+        width: width.saturating_sub(right.size),
         height: cell.height,
         content: cell.content,
     };

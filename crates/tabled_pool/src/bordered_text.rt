@@ -74,11 +74,7 @@ fn outer_line(
 {
     let first = if start.is_some() { colors.corner } else { None };
     let used = used_after(first, colors.main);
-    let last = if end.is_some() {
-        used_after(used, colors.right)
-    } else {
-        used
-    };
+    let last = if end.is_some() { colors.right } else { None };
     let mut line = String::new(alloc);
     push_marked(&mut line, begun(None, colors.corner), start)?;
     let main = begun(first, colors.main);
@@ -87,7 +83,7 @@ fn outer_line(
     line.push_str(run)?;
     line.push_str(main.behind)?;
     push_marked(&mut line, begun(used, colors.right), end)?;
-    line.push_str(ended(last))?;
+    line.push_str(ended(used_after(used, last)))?;
     Ok(line)
 }
 

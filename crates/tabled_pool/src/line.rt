@@ -80,13 +80,10 @@ fn stretch_at(
         return known;
     }
     match piece_at(drawing, line, x, y) {
-        Some(piece) => {
-            let end = piece.place.x + piece.place.width;
-            Stretch {
-                border: is_line_kind(piece.kind),
-                end,
-            }
-        }
+        Some(piece) => Stretch {
+            border: is_line_kind(piece.kind),
+            end: piece.place.x + piece.place.width,
+        },
         None => Stretch {
             border: false,
             end: drawing.width,

@@ -8,13 +8,13 @@ returns-in_err-draw_colored_fill g c = stopped-first _ _ _ c.in_err-draw_colored
 
 pub returns-in_err-write_text_line : goal.returns-in_err-write_text_line
 returns-in_err-write_text_line g c =
-    let line = rw (c.without_sides.ensures, c.inner_width.ensures) at c.in_err-write_text_line.ensures in
+    let line = rw (c.new-padding.ensures, c.zero-zero.ensures, c.saturating_sub.ensures, c.saturating_sub-width.ensures) at c.in_err-write_text_line.ensures in
     stopped _ _ (coloured (mark_of c.args.colors.now.right) (indent c.args.cell.now.style.padding.right))
     c.in_ok-draw_colored_fill.ensures line c.from_residual-in_err-write_text_line.ensures.1 refl
 
 pub returns : goal.returns
 returns g c =
-    let line = rw (c.without_sides.ensures, c.inner_width.ensures) at c.in_ok-write_text_line.ensures in
+    let line = rw (c.new-padding.ensures, c.zero-zero.ensures, c.saturating_sub.ensures, c.saturating_sub-width.ensures) at c.in_ok-write_text_line.ensures in
     finished _ _ _ _ (further c.in_ok-draw_colored_fill.ensures line refl) c.draw_colored_fill-2.ensures
     (sym (append_assoc (coloured (mark_of c.args.colors.now.left) (indent c.args.cell.now.style.padding.left)) _ _))
 

@@ -6,8 +6,8 @@ use Rattle.tabled_pool.proofs.line.stretch_at.Goals as goal
 own : (c : In-Some) → Owns (plan_of c.args.drawing.now) c.args.x c.args.y (shown c.in-Some.piece.now)
 own c = let d = c.args.drawing.now in owns (plan_of d) c.args.x c.args.y (shown c.in-Some.piece.now) d.tiles (sym c.in-Some.ensures)
 
-pub overflow_add-end : goal.overflow_add-end
-overflow_add-end c = let o = own (goal.at.overflow_add-end c).In-Some in omega (arith, o.fits)
+pub overflow_add-result : goal.overflow_add-result
+overflow_add-result c = let o = own (goal.at.overflow_add-result c).In-Some in omega (arith, o.fits)
 
 pub returns-in-Some-clause-some : goal.returns-in-Some-clause-some
 returns-in-Some-clause-some c = let o = own (goal.at.returns-in-Some-clause-some c).In-Some in omega (arith, o.to)
