@@ -17,7 +17,7 @@ pub record IsAt (t : DrawingPlan) (y : ℕ) (at : Cursor) : Type 0 where
   pub down : (v : ℕ) → at.x ≤ v → v < at.down.end → is_border t.parts v (y + 1) ≡ at.down.border
 
 -- the run from a column on, and the column after it
-pub record RunsFrom (t : DrawingPlan) (y : ℕ) (at : Cursor) (r : Run) : Type 0 where
+pub record RunsFrom (t : DrawingPlan) (y : ℕ) (at : Cursor) (r : Run) (after : Cursor) : Type 0 where
   pub run : IsRun t at.x y r.count r.c (shown r.piece.now)
-  pub next : IsAt t y r.next
-  pub behind : r.next.x ≡ at.x + r.count
+  pub next : IsAt t y after
+  pub behind : after.x ≡ at.x + r.count

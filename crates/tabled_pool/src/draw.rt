@@ -102,9 +102,9 @@ pub(crate) fn draw_line<S: TextSink>(
 {
     let mut at = line.start();
     'runs: while let Some(piece) = at.piece {
-        let run = line.run_at(piece, at);
-        draw_run(sink, line, &run, at.x)?;
-        at = run.next;
+        let x = at.x;
+        let run = line.next_run(piece, &mut at);
+        draw_run(sink, line, &run, x)?;
     }
     Ok(())
 }

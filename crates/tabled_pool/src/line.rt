@@ -36,8 +36,6 @@ pub(crate) struct Run<'d, 'a> {
     pub c: char,
     /// The number of columns.
     pub count: usize,
-    /// The column after it.
-    pub next: Cursor<'d, 'a>,
 }
 
 /// A column of a line, and what is known there.
@@ -145,11 +143,11 @@ impl<'l, 's, 'd, 'a> Line<'l, 's, 'd, 'a> {
         }
     }
 
-    fn above(&self, at: Cursor<'d, 'a>) -> Stretch
-        requires inside { at.x < self.now.drawing.now.width }
-        requires at { IsAt (plan_of self.now.drawing.now) self.now.y at }
-        ensures some { at.entry.x < result.end }
-        ensures same { (v : ℕ) → at.entry.x ≤ v → v < result.end
+    fn above(&self, at: &Cursor<'d, 'a>) -> Stretch
+        requires inside { at.now.x < self.now.drawing.now.width }
+        requires at { IsAt (plan_of self.now.drawing.now) self.now.y at.now }
+        ensures some { at.now.x < result.end }
+        ensures same { (v : ℕ) → at.now.x ≤ v → v < result.end
             → is_border_above (plan_of self.now.drawing.now).parts v self.now.y ≡ result.border }
     {
         if self.y == 0 {
@@ -177,12 +175,12 @@ impl<'l, 's, 'd, 'a> Line<'l, 's, 'd, 'a> {
 
     /// The run of a border: as long as the same pieces are above and below, and borders are on
     /// both sides.
-    fn border_run(&self, piece: &'d Piece<'a>, at: Cursor<'d, 'a>) -> Run<'d, 'a>
-        requires at { IsAt (plan_of self.now.drawing.now) self.now.y at }
+    fn border_run(&self, piece: &'d Piece<'a>, at: &mut Cursor<'d, 'a>) -> Run<'d, 'a>
+        requires at { IsAt (plan_of self.now.drawing.now) self.now.y at.old }
         requires kind { is_line_kind piece.now.kind ≡ true }
-        requires here { owner (plan_of self.now.drawing.now).parts at.x self.now.y
+        requires here { owner (plan_of self.now.drawing.now).parts at.old.x self.now.y
             ≡ Some (shown piece.now) }
-        ensures { RunsFrom (plan_of self.now.drawing.now) self.now.y at.entry result }
+        ensures { RunsFrom (plan_of self.now.drawing.now) self.now.y at.old result at.new }
     {
         let up = self.above(at);
         let line = self.sweep.below.as_slice();
@@ -199,42 +197,40 @@ impl<'l, 's, 'd, 'a> Line<'l, 's, 'd, 'a> {
             down: down.border,
         };
         let next = if last < end { Some(piece) } else { behind };
-        Run {
+        let run = Run {
             piece,
             c: border_char(self.drawing, piece, arms),
             count: last - at.x,
-            next: Cursor {
-                x: last,
-                piece: next,
-                left: true,
-                up,
-                down,
-            },
-        }
+        };
+        *at = Cursor {
+            x: last,
+            piece: next,
+            left: true,
+            up,
+            down,
+        };
+        run
     }
 
-    /// The run at a cursor, where `piece` is.
-    pub(crate) fn run_at(&self, piece: &'d Piece<'a>, at: Cursor<'d, 'a>) -> Run<'d, 'a>
-        requires at { IsAt (plan_of self.now.drawing.now) self.now.y at }
-        requires here { owner (plan_of self.now.drawing.now).parts at.x self.now.y
+    /// The run at a cursor, where `piece` is. The cursor goes to the column after it.
+    pub(crate) fn next_run(&self, piece: &'d Piece<'a>, at: &mut Cursor<'d, 'a>) -> Run<'d, 'a>
+        requires at { IsAt (plan_of self.now.drawing.now) self.now.y at.old }
+        requires here { owner (plan_of self.now.drawing.now).parts at.old.x self.now.y
             ≡ Some (shown piece.now) }
-        ensures { RunsFrom (plan_of self.now.drawing.now) self.now.y at.entry result }
+        ensures { RunsFrom (plan_of self.now.drawing.now) self.now.y at.old result at.new }
     {
         if is_line_kind(piece.kind) {
             return self.border_run(piece, at);
         }
+        let x = at.x;
         let end = piece.place.x + piece.place.width;
-        let next = Cursor {
-            x: end,
-            piece: piece_at(self.drawing, self.sweep.here.as_slice(), end, self.y),
-            left: false,
-            ..at
-        };
+        at.x = end;
+        at.piece = piece_at(self.drawing, self.sweep.here.as_slice(), end, self.y);
+        at.left = false;
         Run {
             piece,
             c: ' ',
-            count: end - at.x,
-            next,
+            count: end - x,
         }
     }
 }

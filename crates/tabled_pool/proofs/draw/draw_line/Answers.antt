@@ -11,7 +11,7 @@ unfolding drawn_line
 returns-in_err-draw_run g c =
     let line = c.args.line.now in
     stopped _ _ _ c.runs.invariant.sent c.in_err-draw_run.ensures c.from_residual.ensures.1
-    (places_rest (place_text (plan_of line.drawing.now) line.y) c.runs.at.x _ _ c.run_at-run.ensures.run.within)
+    (places_rest (place_text (plan_of line.drawing.now) line.y) c.runs.at.x _ _ c.next_run-run.ensures.run.within)
 
 pub runs-preserved : goal.runs-preserved
 runs-preserved g c =
@@ -19,13 +19,13 @@ runs-preserved g c =
     let f = place_text (plan_of line.drawing.now) line.y in
     record {
       sent = further c.runs.invariant.sent c.in_ok-draw_run.ensures
-          (ap (λ n. flat_map f (range_with_len 0 n)) c.run_at-run.ensures.behind ∙ places_more f c.runs.at.x _);
-      at = c.run_at-run.ensures.next;
+          (ap (λ n. flat_map f (range_with_len 0 n)) c.next_run-run.ensures.behind ∙ places_more f c.runs.at.x _);
+      at = c.next_run-run.ensures.next;
     }
 
 pub runs-smaller : goal.runs-smaller
 runs-smaller g c =
-    let run = c.run_at-run.ensures.run in omega (arith, run.some, run.within, c.run_at-run.ensures.behind)
+    let run = c.next_run-run.ensures.run in omega (arith, run.some, run.within, c.next_run-run.ensures.behind)
 
 pub returns : goal.returns
 unfolding drawn_line

@@ -3,9 +3,9 @@ use Rattle.tabled_pool.proofs.Runs.{Arms, Ends, Owns, kind_before, owns, run_cha
 use Rattle.tabled_pool.proofs.line.Line.border_run.Goals.{Start, then-last-end, else-last-end}
 use Rattle.tabled_pool.proofs.line.Line.border_run.Goals as goal
 
-own : (c : Start) → Owns (plan_of c.args.self.now.drawing.now) c.args.at.x c.args.self.now.y (shown c.args.piece.now)
+own : (c : Start) → Owns (plan_of c.args.self.now.drawing.now) c.args.at.now.x c.args.self.now.y (shown c.args.piece.now)
 own c =
-    let l = c.args.self.now in owns (plan_of l.drawing.now) c.args.at.x l.y (shown c.args.piece.now) l.drawing.now.tiles c.requires.here
+    let l = c.args.self.now in owns (plan_of l.drawing.now) c.args.at.now.x l.y (shown c.args.piece.now) l.drawing.now.tiles c.requires.here
 
 pub above-up-requires-clause-inside : goal.above-up-requires-clause-inside
 above-up-requires-clause-inside c = let o = own (goal.at.above-up-requires-clause-inside c).Start in omega (arith, o.to, o.fits)
@@ -32,7 +32,7 @@ returns c =
     let p = shown c.args.piece.now in
     let o = own (goal.at.returns c).Start in
     let ends = c.run_end-last.ensures in
-    let arms : Arms t p c.args.at.x l.y c.min-end.result c.args.at.left c.is_line-border.result
+    let arms : Arms t p c.args.at.now.x l.y c.min-end.result c.args.at.now.left c.is_line-border.result
     c.above-up.result.border c.stretch_at-down.result.border = record {
       some = omega (arith, ends.some, ends.within);
       own = λ v a b. o.more v a (omega arith);
@@ -41,7 +41,7 @@ returns c =
       before = sym c.requires.at.left;
       after = sym (ap is_line c.piece_behind-behind.ensures) ∙ sym c.is_line-border.ensures;
     } in
-    let stop : Ends c.args.at.x c.min-end.result c.run_end-last.result c.args.at.left c.is_line-border.result
+    let stop : Ends c.args.at.now.x c.min-end.result c.run_end-last.result c.args.at.now.left c.is_line-border.result
     c.is_followed.result = record {
       some = ends.some;
       within = ends.within;
@@ -62,12 +62,12 @@ returns c =
         some = omega (arith, ends.some);
         within = omega (arith, ends.some, ends.within, o.fits);
         owned = λ v a b. o.more v a (omega (arith, ends.some, ends.within));
-        alike = λ k v a b. run_chars t p c.args.at.x l.y _ _ _ _ _ _ _ arms stop k v a (omega (arith, ends.some)) ∙ sym c.border_char.ensures;
+        alike = λ k v a b. run_chars t p c.args.at.now.x l.y _ _ _ _ _ _ _ arms stop k v a (omega (arith, ends.some)) ∙ sym c.border_char.ensures;
       };
       next = record {
         within = omega (arith, ends.some, ends.within, o.fits);
         piece = next;
-        left = sym (kind_before t c.args.at.x l.y c.run_end-last.result p o ends.some (omega (arith, ends.within)) ∙ c.requires.kind);
+        left = sym (kind_before t c.args.at.now.x l.y c.run_end-last.result p o ends.some (omega (arith, ends.within)) ∙ c.requires.kind);
         up = λ v a b. c.above-up.ensures.same v (omega (arith, a, ends.some)) b;
         down = λ v a b. c.stretch_at-down.ensures.same v (omega (arith, a, ends.some)) b;
       };

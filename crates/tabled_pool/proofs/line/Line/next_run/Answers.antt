@@ -1,11 +1,11 @@
 use Rattle.tabled_pool.proofs.Names.{arith, plan_of, shown, sym, ◌+◌}
 use Rattle.tabled_pool.proofs.Runs.{Owns, kind_before, owns}
-use Rattle.tabled_pool.proofs.line.Line.run_at.Goals.{Start}
-use Rattle.tabled_pool.proofs.line.Line.run_at.Goals as goal
+use Rattle.tabled_pool.proofs.line.Line.next_run.Goals.{Start}
+use Rattle.tabled_pool.proofs.line.Line.next_run.Goals as goal
 
-own : (c : Start) → Owns (plan_of c.args.self.now.drawing.now) c.args.at.x c.args.self.now.y (shown c.args.piece.now)
+own : (c : Start) → Owns (plan_of c.args.self.now.drawing.now) c.args.at.now.x c.args.self.now.y (shown c.args.piece.now)
 own c =
-    let l = c.args.self.now in owns (plan_of l.drawing.now) c.args.at.x l.y (shown c.args.piece.now) l.drawing.now.tiles c.requires.here
+    let l = c.args.self.now in owns (plan_of l.drawing.now) c.args.at.now.x l.y (shown c.args.piece.now) l.drawing.now.tiles c.requires.here
 
 pub overflow_add-end : goal.overflow_add-end
 overflow_add-end c = let o = own (goal.at.overflow_add-end c).Start in omega (arith, o.to, o.fits)
@@ -26,7 +26,7 @@ returns c =
       };
       next = record {
         within = omega (arith, o.fits);
-        piece = c.piece_at.ensures;
+        piece = c.piece_at-at.ensures;
         left = cc (before, c.is_line_kind.ensures, c.if-is_line_kind.false);
         up = λ v a b. c.requires.at.up v (omega (arith, a, o.to)) b;
         down = λ v a b. c.requires.at.down v (omega (arith, a, o.to)) b;
