@@ -1,7 +1,6 @@
-use Rattle.tabled_pool.proofs.Names.{List, TableValue, [], arith, left_in, length, nodes, nodes_in, refl, ◌++◌, ◌+◌, ◌∙◌, ◌∷◌, ◌≡◌}
+use Rattle.tabled_pool.proofs.Names.{List, TableValue, [], arith, length, refl, ◌++◌, ◌∙◌, ◌∷◌, ◌≡◌}
 use Rattle.tabled_pool.specs.declared.copying.Level.{Level}
-use Rattle.tabled_pool.proofs.Levels.{ended, goes_on, left_in_push}
-use Rattle.tabled_pool.proofs.NodeSums.{nodes_in_cons}
+use Rattle.tabled_pool.proofs.Levels.{ended, goes_on}
 use Rattle.tabled_pool.proofs.tree.TableValue.clone.Goals as goal
 
 none_left : (xs : List TableValue) → length xs ≡ 0 → xs ≡ []
