@@ -3,7 +3,8 @@ use Rattle.tabled.proofs.Names.{Advances, Appends, Appends-nil, Begins, Block, B
 use Rattle.tabled.proofs.Names.{List, None, Ok, OnOk, Option, Puts, Result, Sends, Sent, Some, TableError, Writer, Writes, [], ap}
 use Rattle.tabled.proofs.Names.{append-nil, append_assoc, arith, block_sent, drop, false, if◌then◌else◌, inl, inr, length, nat_tests, refl}
 use Rattle.tabled.proofs.Names.{sent_since, subst, sym, take, true, ℕ, ⊎_elim, ◌++◌, ◌+◌, ◌==◌, ◌∙◌, ◌∷◌, ◌≡◌, ◌≤◌}
-use Rattle.std.proofs.Common.{◌&&◌, MatchResult}
+use Rattle.std.proofs.Common.{◌&&◌}
+use Rattle.std.proofs.lemmas.Bool.{and_from}
 use Rattle.std.proofs.lemmas.List.{append_cancel_left, drop-append-le, length-take-le, take-append-drop, take-take}
 use Rattle.std.specs.Io.KnownBytes.{append_known}
 use Rattle.tabled_line.specs.Sent.{Rose, Stops}
@@ -82,20 +83,16 @@ both_true : (a b : Bool) → (a && b) ≡ true → (a ≡ true) × (b ≡ true)
 both_true true b h = (refl, h)
 both_true false b h = let bad : ⊥ = cc in absurd bad
 
-true_both : (a b : Bool) → a ≡ true → b ≡ true → (a && b) ≡ true
-true_both true b h k = k
-true_both false b h k = h
-
 begins_self : (xs : List ℕ) → begins xs xs ≡ true
 begins_self [] = refl
-begins_self (x ∷ xs) = true_both (x == x) (begins xs xs) (grind (arith, nat_tests)) (begins_self xs)
+begins_self (x ∷ xs) = and_from (x == x) (begins xs xs) (grind (arith, nat_tests)) (begins_self xs)
 
 begins_more : (xs ys zs : List ℕ) → begins xs ys ≡ true → begins xs (ys ++ zs) ≡ true
 begins_more [] ys zs h = refl
 begins_more (x ∷ xs) [] zs h = let bad : ⊥ = cc in absurd bad
 begins_more (x ∷ xs) (y ∷ ys) zs h =
     let (first, rest) = both_true (x == y) (begins xs ys) h in
-    true_both (x == y) (begins xs (ys ++ zs)) first (begins_more xs ys zs rest)
+    and_from (x == y) (begins xs (ys ++ zs)) first (begins_more xs ys zs rest)
 
 begins_rest : (xs ys : List ℕ) → begins xs ys ≡ true → (rest : List ℕ) × (ys ≡ xs ++ rest)
 begins_rest [] ys h = (ys, refl)
@@ -112,7 +109,7 @@ kept_test : (start : ℕ) (held : List ℕ) (na nb : ℕ) (xs ys more : List ℕ
     → ((start == na) && begins held xs) ≡ true → ((start == nb) && begins held ys) ≡ true
 kept_test start held na nb xs ys more e w h =
     let (name, front) = both_true (start == na) (begins held xs) h in
-    true_both (start == nb) (begins held ys) (ap (λ n. start == n) e ∙ name) (ap (λ u. begins held u) w ∙ begins_more held xs more front)
+    and_from (start == nb) (begins held ys) (ap (λ n. start == n) e ∙ name) (ap (λ u. begins held u) w ∙ begins_more held xs more front)
 
 tested : (t u : Bool) (xs ys wa wb text : List ℕ) → (t ≡ true → u ≡ true)
     → Appends (append_known (Some xs) wa) (append_known (Some ys) wb) text
@@ -195,7 +192,7 @@ left_some start held na nb cb wa wb (Err d) text e h =
 
 start_known : (start : ℕ) (held : List ℕ) (na : ℕ) → na ≡ start → since start held na (Some held) ≡ Some held
 start_known start held na e =
-    ap (λ t. if t then Some held else None) (true_both (start == na) (begins held held) (grind (arith, nat_tests)) (begins_self held))
+    ap (λ t. if t then Some held else None) (and_from (start == na) (begins held held) (grind (arith, nat_tests)) (begins_self held))
 
 left_none : {T E : Type 0} (new : Option (List ℕ)) (r : Result T E) (text : List ℕ) → Puts None r new text
 left_none new (Ok x) text = tt
@@ -239,13 +236,6 @@ begun (Some xs) (Some ys) wa wb text front rest more e p h w =
 
 -- ---- a writer that fails
 
--- a write that took no bytes
-pub took_none : (a b : Option (List ℕ)) (n : ℕ) (buffer : List ℕ) → n ≤ 0 → Appends a b (take n buffer) → Keeps a b
-took_none None b n buffer h p = tt
-took_none (Some xs) None n buffer h p = absurd p
-took_none (Some xs) (Some ys) n buffer h p =
-    let e : n ≡ 0 = omega arith in p ∙ ap (λ k. xs ++ take k buffer) e ∙ append-nil xs
-
 -- a writer failed that had taken what was handed to it before
 pub failed : (a : Sent) (cb cc : Option (List ℕ)) (w : List ℕ) (f : ℕ) (d : Sent) (e : TableError)
     → Sends a (record { bytes = append_known cb w; failures = f; grows = true }) [] → Keeps cb cc
@@ -269,11 +259,6 @@ took a b old buffer new n e w h =
     let P : List ℕ → Type 0 = λ u. Appends a b (take n u) in
     let Q : List ℕ → Type 0 = λ u. Appends (append_known a old) (append_known b u) [] in
     subst Q (sym w) (handed_over a b old n (subst P e h))
-
--- a call that answered no count took nothing
-pub kept_so : {E : Type 0} (r : Result ℕ E) (P : ℕ → Type 0) (K : Type 0) → ((x : ℕ) → r ≡ Ok x → ⊥) → MatchResult r P (λ _. K) → K
-kept_so (Ok x) P K never h = absurd (never x refl)
-kept_so (Err e) P K never h = h
 
 -- ---- texts and their beginnings
 

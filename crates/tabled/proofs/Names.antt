@@ -15,7 +15,7 @@ pub use Rattle.std.specs.Str.{IsUtf8}
 pub use Rattle.std.specs.Str.Parse.{digits_value}
 pub use Rattle.tabled.specs.Arguments.{SpellsPlan}
 pub use Rattle.tabled.specs.BlockSent.{Advances, Block, block, block_sent, sent_since, waiting}
-pub use Rattle.tabled.specs.Faults.{fault_of}
+pub use Rattle.tabled.specs.declared.fault.Fault.TheVariants.{Table}
 pub use Rattle.tabled.specs.Headline.{HasFewestBreaks, HasLeastGreatestWidth, HasLongestBeginnings, HasWantedTotal, IsAsBuffered, IsBestOf}
 pub use Rattle.tabled.specs.Headline.{IsBestPlanned, IsLeastBy}
 pub use Rattle.tabled.specs.Orders.{Shrinks}

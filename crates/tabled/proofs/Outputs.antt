@@ -4,7 +4,7 @@ use Rattle.tabled.proofs.Names.{FitsInto, Halts, IfSome, IsBegunOn, IsBestPlanne
 use Rattle.tabled.proofs.Names.{IsPlanned, IsRectangular, IsRendered, IsUtf8, List, MatchBool-at_false, MatchBool-at_true, MatchResult}
 use Rattle.tabled.proofs.Names.{Memory, Narrow, Ok, Option, OrderShrinks, Plan, PutsOutput, Range, Result, Sent, Sheet, ShortHeights}
 use Rattle.tabled.proofs.Names.{ShortWidths, Shortened, SpellsPlan, Streamed, TableError, Wrapped, Writer, Writes, [], ap, append_assoc}
-use Rattle.tabled.proofs.Names.{arith, block_sent, cases_Bool, cells_of, changed_empty, cond, false, fault_of, for_content_size, if_wider}
+use Rattle.tabled.proofs.Names.{Table, arith, block_sent, cases_Bool, cells_of, changed_empty, cond, false, for_content_size, if_wider}
 use Rattle.tabled.proofs.Names.{inl, inner_width, inr, is_empty, length, lengthened, lines_of, map, most_cells, nat_le, nat_tests}
 use Rattle.tabled.proofs.Names.{new_config, new_sheet, picture, refl, row_lines, sent_since, sheet_lines, subst, sym, table_text, text_rows}
 use Rattle.tabled.proofs.Names.{total_width, true, truncating, with_feed, without_last_feed, wrapping, ℕ, ⊎_elim, ◌++◌, ◌<◌, ◌==◌, ◌∙◌, ◌∷◌}
@@ -222,7 +222,7 @@ begun_nothing a b output e h = subst (Appends a b) (front_none h.front h.rest (h
 -- by the refusal
 pub failed_by : {O : Type 0} (contents : O → Option (List ℕ)) (words : List (List ℕ)) (old left : Option (List ℕ)) (out now : O) (plan : Plan)
     (text output : List ℕ) (e : TableError) → SpellsPlan words plan → HasRead old left text → IsBegunOn plan text output e
-    → Begins (contents out) (contents now) output → HasFailed contents words old left out now (fault_of e)
+    → Begins (contents out) (contents now) output → HasFailed contents words old left out now (Table e)
 failed_by contents words old left out now plan text output refusal.Memory s input b h =
     ⊎_elim (λ n. inl (begun_nothing (contents out) (contents now) output n h))
     (λ o. inr (plan, s, record { text = text; input = input; output = output; is_output = o; begun = h })) b

@@ -1,18 +1,8 @@
--- The fault for each error, and its message. A word and a line are lists of bytes.
+-- The message of each fault. A word and a line are lists of bytes.
 use Rattle.std.specs.Prelude.{ℕ, List, [], ◌∷◌, ◌++◌, codes}
-use Rattle.tabled_base.specs.declared.error.TableError.{TableError}
 use Rattle.tabled_base.specs.declared.error.TableError.TheVariants.{Memory, ShortWidths, ShortHeights, Narrow, Range, Writer}
 use Rattle.tabled.specs.declared.fault.Fault.{Fault}
-use Rattle.tabled.specs.declared.fault.Fault.TheVariants as fault
-
--- the fault of the same name
-abbrev pub fault_of : TableError → Fault
-fault_of Memory = fault.Memory
-fault_of ShortWidths = fault.ShortWidths
-fault_of ShortHeights = fault.ShortHeights
-fault_of (Narrow row column) = fault.Narrow
-fault_of Range = fault.Range
-fault_of Writer = fault.Writer
+use Rattle.tabled.specs.declared.fault.Fault.TheVariants.{Usage, Input, Table}
 
 -- the message for wrong arguments
 abbrev pub usage : List ℕ
@@ -20,14 +10,14 @@ usage = codes "usage: tabprint [--wrap N | --cut N] [--priority none|min|max|lef
 
 -- the message of each fault: its name, or the usage
 abbrev pub word_of : Fault → List ℕ
-word_of fault.Usage = usage
-word_of fault.Input = codes "Input"
-word_of fault.Memory = codes "Memory"
-word_of fault.ShortWidths = codes "ShortWidths"
-word_of fault.ShortHeights = codes "ShortHeights"
-word_of fault.Narrow = codes "Narrow"
-word_of fault.Range = codes "Range"
-word_of fault.Writer = codes "Writer"
+word_of Usage = usage
+word_of Input = codes "Input"
+word_of (Table Memory) = codes "Memory"
+word_of (Table ShortWidths) = codes "ShortWidths"
+word_of (Table ShortHeights) = codes "ShortHeights"
+word_of (Table (Narrow row column)) = codes "Narrow"
+word_of (Table Range) = codes "Range"
+word_of (Table Writer) = codes "Writer"
 
 -- a word and a line feed
 abbrev pub line_of : List ℕ → List ℕ

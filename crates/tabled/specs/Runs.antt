@@ -2,7 +2,8 @@
 use Rattle.std.specs.Prelude.{◌≡◌, ◌⊎◌, ℕ, List, [], Option, IfSome, IsUtf8}
 use Rattle.std.specs.Io.KnownBytes.{Appends, IsAtEnd}
 use Rattle.tabled.specs.declared.fault.Fault.{Fault}
-use Rattle.tabled.specs.declared.fault.Fault.TheVariants.{Input, Memory, Range, Writer}
+use Rattle.tabled_base.specs.declared.error.TableError.TheVariants.{Memory, Range, Writer}
+use Rattle.tabled.specs.declared.fault.Fault.TheVariants.{Input, Table}
 use Rattle.tabled.specs.declared.plan.Plan.{Plan}
 use Rattle.tabled.specs.Output.{Begins, IsOutput, Overflows}
 use Rattle.tabled.specs.Arguments.{SpellsPlan}
@@ -41,11 +42,11 @@ pub record HasOverflowed (plan : Plan) (old left held holds : Option (List ℕ))
 -- Other faults don't occur with valid arguments
 abbrev pub HasFailed : {O : Type 0} → (O → Option (List ℕ)) → List (List ℕ) → Option (List ℕ) → Option (List ℕ) → O → O → Fault → Type 0
 HasFailed contents words old left out now Input = now ≡ out
-HasFailed contents words old left out now Memory =
+HasFailed contents words old left out now (Table Memory) =
     Appends (contents out) (contents now) []
     ⊎ ((plan : Plan) × SpellsPlan words plan × HasBegun plan old left (contents out) (contents now))
-HasFailed contents words old left out now Range =
+HasFailed contents words old left out now (Table Range) =
     (plan : Plan) × SpellsPlan words plan × HasOverflowed plan old left (contents out) (contents now)
-HasFailed contents words old left out now Writer =
+HasFailed contents words old left out now (Table Writer) =
     (plan : Plan) × SpellsPlan words plan × HasBegun plan old left (contents out) (contents now)
 HasFailed contents words old left out now _ = ⊥

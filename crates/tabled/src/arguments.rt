@@ -89,33 +89,19 @@ fn first_argument(words: &[String]) -> Option<(Argument, &[String])>
 
 impl Arguments {
     /// Adds a setting, unless one of that name is there.
-    fn with(self, setting: Argument) -> Option<Arguments>
+    fn with(mut self, setting: Argument) -> Option<Arguments>
         ensures { MatchOption result (NotesName self setting)
             (λ settings. Adds self setting settings) }
     {
         match setting {
-            Argument::Wrap(target) if self.wrap.is_none() => Some(Arguments {
-                wrap: Some(target),
-                ..self
-            }),
-            Argument::Cut(target) if self.cut.is_none() => Some(Arguments {
-                cut: Some(target),
-                ..self
-            }),
-            Argument::Priority(order) if self.order.is_none() => Some(Arguments {
-                order: Some(order),
-                ..self
-            }),
-            Argument::Words if !self.words => Some(Arguments {
-                words: true,
-                ..self
-            }),
-            Argument::Stream if !self.stream => Some(Arguments {
-                stream: true,
-                ..self
-            }),
-            _ => None,
+            Argument::Wrap(target) if self.wrap.is_none() => self.wrap = Some(target),
+            Argument::Cut(target) if self.cut.is_none() => self.cut = Some(target),
+            Argument::Priority(order) if self.order.is_none() => self.order = Some(order),
+            Argument::Words if !self.words => self.words = true,
+            Argument::Stream if !self.stream => self.stream = true,
+            _ => return None,
         }
+        Some(self)
     }
 
     /// Returns the plan of the settings, if they go together.

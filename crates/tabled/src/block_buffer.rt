@@ -3,7 +3,7 @@ ghost use Rattle.std.specs.Prelude.{◌≡◌, ◌+◌, ◌≤◌, ◌^◌, [], 
 
 use std::alloc::{AllocError, Global};
 
-/// The size of the buffer, in bytes.
+/// The bytes of the buffer, and of one read.
 pub(crate) const BLOCK: usize = 1 << 16;
 
 /// A buffer of `BLOCK` bytes. The first `used` are filled, and the writer took the first `taken`.

@@ -1,6 +1,7 @@
 //! Why a run of the program failed.
 ghost use Rattle.std.specs.Prelude.{◌≡◌};
-ghost use Rattle.tabled.specs.Faults.{fault_of, line_of, word_of};
+ghost use Rattle.tabled.specs.declared.fault.Fault.TheVariants.{Table};
+ghost use Rattle.tabled.specs.Faults.{line_of, word_of};
 
 use tabled_base::TableError;
 
@@ -10,12 +11,8 @@ pub(crate) enum Fault {
     Usage,
     /// Reading failed, or the input is not UTF-8.
     Input,
-    Memory,
-    ShortWidths,
-    ShortHeights,
-    Narrow,
-    Range,
-    Writer,
+    /// An error of the library.
+    Table(TableError),
 }
 
 impl Fault {
@@ -28,27 +25,20 @@ impl Fault {
                 "usage: tabprint [--wrap N | --cut N] [--priority none|min|max|left|right] [--words] [--stream]\n"
             }
             Fault::Input => "Input\n",
-            Fault::Memory => "Memory\n",
-            Fault::ShortWidths => "ShortWidths\n",
-            Fault::ShortHeights => "ShortHeights\n",
-            Fault::Narrow => "Narrow\n",
-            Fault::Range => "Range\n",
-            Fault::Writer => "Writer\n",
+            Fault::Table(TableError::Memory) => "Memory\n",
+            Fault::Table(TableError::ShortWidths) => "ShortWidths\n",
+            Fault::Table(TableError::ShortHeights) => "ShortHeights\n",
+            Fault::Table(TableError::Narrow { .. }) => "Narrow\n",
+            Fault::Table(TableError::Range) => "Range\n",
+            Fault::Table(TableError::Writer) => "Writer\n",
         }
     }
 }
 
 impl From<TableError> for Fault {
-    ghost from_gives = { λ error fault. fault ≡ fault_of error };
+    ghost from_gives = { λ error fault. fault ≡ Table error };
 
     fn from(error: TableError) -> Fault {
-        match error {
-            TableError::Memory => Fault::Memory,
-            TableError::ShortWidths => Fault::ShortWidths,
-            TableError::ShortHeights => Fault::ShortHeights,
-            TableError::Narrow { .. } => Fault::Narrow,
-            TableError::Range => Fault::Range,
-            TableError::Writer => Fault::Writer,
-        }
+        Fault::Table(error)
     }
 }

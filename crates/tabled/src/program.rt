@@ -2,8 +2,9 @@
 ghost use Rattle.std.specs.Prelude.{◌≡◌, ◌≤◌, ◌↔◌, ◌⊎◌, IfErr, IfOk, IfSome, IsErrOf, OnOk, map};
 ghost use Rattle.std.specs.Prelude.{string_bytes};
 ghost use Rattle.std.specs.Io.KnownBytes.{IsAtEnd};
+ghost use Rattle.tabled_base.specs.declared.error.TableError.TheVariants.{Memory};
 ghost use Rattle.tabled.specs.declared.fault.Fault.{Fault};
-ghost use Rattle.tabled.specs.declared.fault.Fault.TheVariants.{Input, Memory, Usage};
+ghost use Rattle.tabled.specs.declared.fault.Fault.TheVariants.{Input, Table, Usage};
 ghost use Rattle.tabled.specs.declared.plan.Plan.{Plan};
 ghost use Rattle.tabled.specs.BlockSent.{Advances, block, block_sent};
 ghost use Rattle.tabled.specs.Faults.{line_of, usage, word_of};
@@ -12,7 +13,7 @@ ghost use Rattle.tabled.specs.Runs.{HasFailed, HasPrinted, HasRead};
 ghost use Rattle.tabled.specs.Arguments.{SpellsPlan};
 
 use crate::arguments::plan_of;
-use crate::block_buffer::BlockBuffer;
+use crate::block_buffer::{BLOCK, BlockBuffer};
 use crate::block_sink::{BlockSink, BytesSince, WriterStart};
 use crate::fault::Fault;
 use crate::plan::Plan;
@@ -24,9 +25,6 @@ use std::marker::{Brand, PhantomData};
 use tabled_base::TableError;
 use tabled_grid::TextSink;
 
-/// The bytes of one read.
-const BLOCK: usize = 1 << 16;
-
 /// The number of reads after which reading fails.
 const READS: u64 = 1 << 40;
 
@@ -34,7 +32,7 @@ const READS: u64 = 1 << 40;
 fn read_text<I: Read>(alloc: Global, input: &mut I) -> Result<String, Fault>
     ensures text { IfOk result (λ text. HasRead (I.remaining input.old) (I.remaining input.new)
         (string_bytes text)) }
-    ensures failed { IfErr result (λ fault. (fault ≡ Input) ⊎ (fault ≡ Memory)) }
+    ensures failed { IfErr result (λ fault. (fault ≡ Input) ⊎ (fault ≡ Table Memory)) }
 {
     let mut bytes = Vec::new(alloc);
     let mut block = [0u8; BLOCK];
@@ -50,7 +48,7 @@ fn read_text<I: Read>(alloc: Global, input: &mut I) -> Result<String, Fault>
             return Ok(unsafe { String::from_utf8_unchecked(bytes) });
         }
         if bytes.extend_from_slice(&block[..count]).is_err() {
-            return Err(Fault::Memory);
+            return Err(Fault::Table(TableError::Memory));
         }
     }
     Err(Fault::Input)
