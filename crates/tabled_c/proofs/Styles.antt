@@ -19,7 +19,7 @@ use Rattle.tabled_text.proofs.PlainLines.{plain_column-printable, plain_column-s
 use Rattle.unicode_width.proofs.Computing.{unicode_width}
 use Rattle.unicode_width.proofs.Rules.{is_simple}
 use Rattle.tabled.specs.Headline.{KeepsApart}
-use Rattle.tabled_c.specs.declared.arguments.StyleName.TheVariants.{Ascii, Modern, Extended, Markdown, Psql, Empty}
+use Rattle.tabled_c.specs.Asked.{Ascii, Modern, Extended, Markdown, Psql, Empty}
 
 -- ---- horizontal lines that may be there
 

@@ -6,8 +6,14 @@ use Rattle.tabled.specs.declared.plan.Order.{Order}
 use Rattle.tabled.specs.declared.plan.Order.TheVariants.{Round, Least, Greatest, Leftmost, Rightmost}
 use Rattle.tabled.specs.declared.plan.Plan.{Plan}
 use Rattle.tabled.specs.declared.plan.Plan.TheVariants.{Buffered, Streamed, Wrapped, Shortened}
-use Rattle.tabled_c.specs.declared.arguments.StyleName.{StyleName}
-use Rattle.tabled_c.specs.declared.arguments.StyleName.TheVariants.{Ascii, Modern, Extended, Markdown, Psql, Empty}
+
+pub data StyleName : Type 0 where
+  Ascii : StyleName
+  Modern : StyleName
+  Extended : StyleName
+  Markdown : StyleName
+  Psql : StyleName
+  Empty : StyleName
 
 -- the name of a style
 abbrev pub style_word : StyleName → List ℕ

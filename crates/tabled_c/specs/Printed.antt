@@ -16,11 +16,10 @@ use Rattle.tabled.specs.declared.plan.Plan.{Plan}
 use Rattle.tabled.specs.Headline.{IsBestOf}
 use Rattle.tabled.specs.Planned.{IsPlannedOf}
 use Rattle.tabled.specs.Rendered.{PassesRange}
-use Rattle.tabled_c.specs.declared.arguments.StyleName.{StyleName}
 use Rattle.tabled_c.specs.declared.error_code.ErrorCode.{ErrorCode}
 use Rattle.tabled_c.specs.declared.error_code.ErrorCode.TheVariants.{Memory, Range, NoText, NoStyle, NoPlan}
 use Rattle.tabled_c.specs.ReturnsText.{code_of}
-use Rattle.tabled_c.specs.Asked.{Asks, style_of, style_word}
+use Rattle.tabled_c.specs.Asked.{Asks, StyleName, style_of, style_word}
 
 -- the table of a text in a style, with estimated sizes
 abbrev pub whole_table : List ℕ → StyleName → Sheet

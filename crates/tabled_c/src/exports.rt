@@ -5,7 +5,7 @@ ghost use Rattle.tabled_c.specs.ReturnsText.{ReturnsText, IsPut};
 ghost use Rattle.tabled_c.specs.Printed.{IsCutText, IsMeasured, IsTable, IsTableCause, IsTextCause};
 ghost use Rattle.tabled_c.specs.Printed.{IsWrappedText};
 
-use crate::arguments::{plan_of, style_named, style_of};
+use crate::arguments::{plan_of, style_named};
 use crate::error_code::ErrorCode;
 use simdutf8::compat::from_utf8;
 use std::alloc::Global;
@@ -45,7 +45,7 @@ pub extern "C" fn fanlightnard_print(
         (IsTableCause text.now style.now kind order columns)
         buffer.old result buffer.new }
 {
-    let Some(name) = style_named(style) else {
+    let Some(style) = style_named(style) else {
         return ErrorCode::NoStyle.code();
     };
     let Some(plan) = plan_of(kind, order, columns) else {
@@ -55,7 +55,7 @@ pub extern "C" fn fanlightnard_print(
         return ErrorCode::NoText.code();
     };
     let mut out = String::new(alloc);
-    match render_styled(alloc, text, style_of(name), plan, &mut out) {
+    match render_styled(alloc, text, style, plan, &mut out) {
         Ok(()) => put(out.as_str(), buffer),
         Err(TableError::Range) => ErrorCode::Range.code(),
         Err(_) => ErrorCode::Memory.code(),

@@ -15,12 +15,12 @@ returns-in_default-from_utf8 c =
 pub returns-in-Ok-render_styled : goal.returns-in-Ok-render_styled
 returns-in-Ok-render_styled c =
     let a = c.args in
-    let name = c.in-Some.name in
+    let named = c.in-Some.ensures in
     let plan = c.in-Some-plan_of.plan in
-    let asked : IsAsked a.text.now a.style.now a.kind a.order a.columns name plan =
-    record { named = (c.in-Some.ensures name).0 refl; asks = (c.in-Some-plan_of.ensures plan).0 refl; utf8 = c.in-Ok.ensures.cases.1 } in
-    let table = given a.text.now a.style.now a.kind a.order a.columns name plan asked c.in-Ok.text.now c.style_of.result c.in-Ok.ensures.cases.0
-    c.style_of.ensures (string_bytes c.new-out.result) (string_bytes c.render_styled.new.sink) c.new-out.ensures.bytes c.in-Ok-render_styled.ensures.rendered in inl (
+    let asked : IsAsked a.text.now a.style.now a.kind a.order a.columns named.0 plan =
+    record { named = named.1; asks = (c.in-Some-plan_of.ensures plan).0 refl; utf8 = c.in-Ok.ensures.cases.1 } in
+    let table = given a.text.now a.style.now a.kind a.order a.columns named.0 plan asked c.in-Ok.text.now c.in-Some.style c.in-Ok.ensures.cases.0
+    named.2 (string_bytes c.new-out.result) (string_bytes c.render_styled.new.sink) c.new-out.ensures.bytes c.in-Ok-render_styled.ensures.rendered in inl (
       c.as_str.result.now,
       subst (IsTable a.text.now a.style.now a.kind a.order a.columns) (sym c.as_str.ensures.value) table,
       record { count = search rules; buffer = c.put.ensures.buffer },
@@ -29,12 +29,12 @@ returns-in-Ok-render_styled c =
 pub returns-in-Err-Range : goal.returns-in-Err-Range
 returns-in-Err-Range c =
     let a = c.args in
-    let name = c.in-Some.name in
+    let named = c.in-Some.ensures in
     let plan = c.in-Some-plan_of.plan in
-    let asked : IsAsked a.text.now a.style.now a.kind a.order a.columns name plan =
-    record { named = (c.in-Some.ensures name).0 refl; asks = (c.in-Some-plan_of.ensures plan).0 refl; utf8 = c.in-Ok.ensures.cases.1 } in inr (
+    let asked : IsAsked a.text.now a.style.now a.kind a.order a.columns named.0 plan =
+    record { named = named.1; asks = (c.in-Some-plan_of.ensures plan).0 refl; utf8 = c.in-Ok.ensures.cases.1 } in inr (
       Range,
-      passed a.text.now a.style.now a.kind a.order a.columns name plan asked c.in-Ok.text.now c.style_of.result c.in-Ok.ensures.cases.0 c.style_of.ensures
+      passed a.text.now a.style.now a.kind a.order a.columns named.0 plan asked c.in-Ok.text.now c.in-Some.style c.in-Ok.ensures.cases.0 named.2
           (Unit {0}) (text_sent (string_bytes c.new-out.result)) (text_sent (string_bytes c.render_styled.new.sink)) c.in-Err-Range.field-0
           c.in-Err-Range.field-0-is c.in-Err-Range.ensures.rendered,
       record { code = rw c.code-in-Err-Range.ensures refl; buffer = refl },
