@@ -1,11 +1,8 @@
 -- Escaped texts: control characters, quotes and backslashes are written as visible characters.
-use Rattle.std.specs.Prelude.{ℕ, Bool, ◌==◌, ◌||◌, ◌&&◌, nat_le, nat_lt, false, List, [], ◌∷◌, ◌++◌, if◌then◌else◌, chars, codes, encode_utf8}
+use Rattle.std.specs.Prelude.{ℕ, ◌==◌, ◌||◌, false, List, [], ◌∷◌, ◌++◌, if◌then◌else◌, chars, codes, encode_utf8}
+use Rattle.std.specs.Char.{is_control}
 use Rattle.std.specs.Fmt.{digits}
 use Rattle.std.specs.List.{flat_map}
-
--- U+0001 to U+001F and U+007F to U+009F
-abbrev pub is_control : ℕ → Bool
-is_control c = nat_lt c 32 || (nat_le 127 c && nat_le c 159)
 
 -- an escaped character: quotes and backslashes after a backslash; tab, carriage return, line feed
 -- and U+0000 as a letter or 0; other control characters as lower-case hexadecimal numbers

@@ -1,18 +1,11 @@
 //! Escaping of control characters, quotes and backslashes.
 ghost use Rattle.std.specs.Prelude.{◌≡◌, ◌++◌, map, IfOk, OnOk, string_bytes};
 ghost use Rattle.std.specs.Cow.{cow_str_bytes};
-ghost use Rattle.tabled_extended.specs.Escaped.{escape, escaped, is_control};
+ghost use Rattle.tabled_extended.specs.Escaped.{escape, escaped};
 
 use std::alloc::{AllocError, Global};
 use std::borrow::CowStr;
 use tabled_base::Text;
-
-fn is_control(c: char) -> bool
-    ensures { result ≡ is_control c }
-{
-    let code = c as u32;
-    code < 0x20 || (code >= 0x7F && code <= 0x9F)
-}
 
 fn push_escaped(text: &mut String, c: char) -> Result<(), AllocError>
     ensures { OnOk result (string_bytes text.new ≡ string_bytes text.old ++ escape c) }
@@ -26,7 +19,7 @@ fn push_escaped(text: &mut String, c: char) -> Result<(), AllocError>
         '\r' => text.push_str("\\r"),
         '\n' => text.push_str("\\n"),
         '\0' => text.push_str("\\0"),
-        _ if is_control(c) => {
+        _ if c.is_control() => {
             let code = format!(in *text.allocator(); "\\u{{{:x}}}", c as u32)?;
             text.push_str(&code)
         }
