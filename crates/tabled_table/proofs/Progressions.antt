@@ -2,7 +2,7 @@
 use Rattle.tabled_table.proofs.Names.{LayoutIterator, List, None, Some, [], ap, arith, batches_left, cases_lt, cond, false, length, min}
 use Rattle.tabled_table.proofs.Names.{nat_lt, refl, subst, suc, sym, true, zero, ℕ, ⊎_elim, ◌&&◌, ◌*◌, ◌+◌, ◌-◌, ◌<◌, ◌==◌, ◌^◌, ◌∙◌, ◌∷◌}
 use Rattle.tabled_table.proofs.Names.{◌≡◌, ◌≤◌}
-use Rattle.std.proofs.Common.{◌/◌, slice_get}
+use Rattle.std.proofs.Common.{◌/◌, add-one, slice_get}
 use Rattle.std.proofs.Math.Nat.{add-div_right, div-eq_of_lt}
 use Rattle.std.proofs.lemmas.Bool.{le-ltb, lt-ltb, ne_eqb}
 use Rattle.tabled_table.specs.Batches.{batch_at, batch_count, progression}
@@ -43,18 +43,15 @@ count_step from to batch k h = count_some from to batch k ∙ ⊎_elim last more
     apart : (n m : ℕ) → n + (batch - 1) ≡ m + batch → rounded n batch ≡ m / batch + 1
     apart n m e = ap (λ x. x / batch) e ∙ add-div_right m k
 
-    one_more : (m : ℕ) → m + 1 ≡ suc m
-    one_more m = omega arith
-
     last : (to - from) < batch → rounded (to - from) batch ≡ suc (rounded (to - (from + batch)) batch)
     last few =
         let first : rounded (to - from) batch ≡ ((to - from) - 1) / batch + 1 = apart (to - from) ((to - from) - 1) (omega arith) in
         let small : ((to - from) - 1) / batch ≡ 0 = div-eq_of_lt (omega arith) in
         let none : rounded (to - (from + batch)) batch ≡ 0 = div-eq_of_lt (omega arith) in
-        first ∙ ap (λ n. n + 1) small ∙ one_more 0 ∙ ap (λ n. suc n) (sym none)
+        first ∙ ap (λ n. n + 1) small ∙ add-one 0 ∙ ap (λ n. suc n) (sym none)
 
     more : batch ≤ (to - from) → rounded (to - from) batch ≡ suc (rounded (to - (from + batch)) batch)
-    more many = apart (to - from) ((to - (from + batch)) + (batch - 1)) (omega arith) ∙ one_more _
+    more many = apart (to - from) ((to - (from + batch)) + (batch - 1)) (omega arith) ∙ add-one _
 
 -- ---- the beginnings
 

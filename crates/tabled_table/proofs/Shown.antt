@@ -6,7 +6,7 @@ use Rattle.tabled_table.proofs.Names.{arith, cells_of, column_width, columns, co
 use Rattle.tabled_table.proofs.Names.{heights_of, inl, inr, is_empty, is_some, length, max, nat_lt, not, picture, refl, rule_at, sheet}
 use Rattle.tabled_table.proofs.Names.{shown, shown_config, style_at, subst, sym, total_width, true, widths_of, ℕ, ⊎_elim, ◌&&◌, ◌+◌, ◌-◌}
 use Rattle.tabled_table.proofs.Names.{◌<◌, ◌==◌, ◌||◌, ◌∙◌, ◌≡◌, ◌≤◌, ◌⊎◌}
-use Rattle.std.proofs.lemmas.Bool.{eqb-true, ltb-false}
+use Rattle.std.proofs.lemmas.Bool.{eqb-true, ltb-false, or_right}
 use Rattle.tabled_config.specs.declared.sides.Indent.{Indent}
 use Rattle.tabled_config.specs.declared.sides.Sides.{Sides}
 use Rattle.tabled_config.specs.declared.alignment.AlignmentHorizontal.TheVariants.{Left, Center, Right}
@@ -200,10 +200,6 @@ pub prints_more : {T : Type 0} (b c : Bool) (t : Sheet) (old new : Sent) (r : Re
 prints_more b c t old new (Ok x) grown p = p
 prints_more b c t old new (Err e) grown p =
     (p.0, ⊎_elim (λ r. inl r) (λ h. ⊎_elim (λ m. inr (inl (grown m.0, m.1, m.2))) (λ s. inr (inr s)) h) p.1)
-
-or_right : (a b : Bool) → b ≡ true → (a || b) ≡ true
-or_right true b h = refl
-or_right false b h = h
 
 -- what isn't changed takes no more memory than the table does by itself
 pub takes_alike : (table : Table) (width : Option ℕ) (align : Option AlignmentHorizontal) → (is_some align || nat_lt 0 (missing_columns table width)) ≡ false

@@ -226,17 +226,13 @@ where
         ensures alike { OnOk result (PrintsLikeTable self.settings self.config
             (Came (I.begins self.records) I.Cell.text) (S.sent sink.old) (S.sent sink.new)) }
     {
-        let IterTable {
-            records,
-            config,
-            settings,
-        } = self;
+        let (config, settings) = (self.config, self.settings);
         let printer = Printer {
             alloc,
             settings: &settings,
             config: &config,
         };
-        let mut rows = records.iter_rows().into_iter();
+        let mut rows = self.records.iter_rows().into_iter();
         printer.print_stream(sink, &mut rows)
     }
 

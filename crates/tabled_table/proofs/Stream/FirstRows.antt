@@ -7,6 +7,7 @@ use Rattle.tabled_table.proofs.Names.{left_of, length, length-append, length-map
 use Rattle.tabled_table.proofs.Names.{map, max, picture, range_with_len, reaches, refl, sends-along, sniffed, spanned_of_compact}
 use Rattle.tabled_table.proofs.Names.{stream_height, stream_widths, subst, suc, sym, take, take_all, true, unwrap_or, zero, ℕ, ⊎_elim, ◌++◌}
 use Rattle.tabled_table.proofs.Names.{◌-◌, ◌<◌, ◌==◌, ◌||◌, ◌∙◌, ◌∷◌, ◌≡◌, ◌≢◌, ◌≤◌, ◌⊎◌}
+use Rattle.std.proofs.lemmas.Bool.{or_right}
 use Rattle.std.proofs.lemmas.List.{take-append-le}
 use Rattle.tabled_table.specs.Stream.Streams.{shown_rows, IsFilled}
 use Rattle.tabled_table.proofs.Stream.Measures.{not-zero}
@@ -171,16 +172,12 @@ blank-streamed settings config ahead_rows rows none =
       heights = λ k b. get_or-map-range_with_len (λ k. stream_height settings config ahead_rows k (get_or rows k [])) 0 (length rows) k k 0 b (omega arith);
     }
 
-or-true : (b : Bool) → (b || true) ≡ true
-or-true true = refl
-or-true false = refl
-
 blank-empty : (settings : StreamSettings) (config : CompactConfig) (ahead_rows rows : List (List (List ℕ))) → picture (blank settings config ahead_rows rows) ≡ []
 unfolding picture blank
 blank-empty settings config ahead_rows [] = refl
 blank-empty settings config ahead_rows (row ∷ rows) =
     let t = blank settings config ahead_rows (row ∷ rows) in
-    ap (λ b. if b then [] else filled_picture t (filled_width t.config (columns t.cells) t.widths)) (or-true (length t.cells == 0))
+    ap (λ b. if b then [] else filled_picture t (filled_width t.config (columns t.cells) t.widths)) (or_right (length t.cells == 0) true refl)
 
 longest-none : (n : ℕ) → longest (take n []) ≡ 0
 longest-none zero = refl

@@ -7,6 +7,7 @@ use Rattle.tabled_table.proofs.Names.{is_some, left_of, length, length-append, l
 use Rattle.tabled_table.proofs.Names.{reads-both, refl, stream_total, subst, sym, take, take_more, tallest, true, unwrap_or, ℕ, ⊎_elim}
 use Rattle.tabled_table.proofs.Names.{◌++◌, ◌+◌, ◌-◌, ◌<◌, ◌||◌, ◌∙◌, ◌∷◌, ◌≡◌, ◌≤◌, ◌⊎◌}
 use Rattle.std.proofs.Common.{IfErr}
+use Rattle.std.proofs.lemmas.Bool.{or_right}
 use Rattle.tabled_table.specs.Stream.Progress.{FinishesBehind, HaltsMore, ReadsOn, PutsRows}
 use Rattle.tabled_table.proofs.Stream.Steps.{halts-before}
 
@@ -135,10 +136,6 @@ kept-next {settings = settings} {config} {ahead_rows} {start} texts k lines row 
     let P : List (List (List ℕ)) → Type 0 = λ rows. PutsRows settings config ahead_rows rows start layout r first' new begun' in
     subst P (sym whole) (next settings config ahead_rows (take k texts) start p lines_are)
 
-or-true : (b : Bool) → (b || true) ≡ true
-or-true true = refl
-or-true false = refl
-
 past : (i n : ℕ) → n ≤ i → nat_lt i n ≡ false
 past i n h = grind (arith, nat_tests)
 
@@ -148,7 +145,7 @@ later-height settings ahead_rows index lines row h l =
     let t = tallest (column_count settings ahead_rows) row in
     l
     ∙ sym (ap (λ b. unwrap_or settings.height (if is_some settings.width || not b then 1 else t)) (past index (length ahead_rows) h)
-    ∙ ap (λ b. unwrap_or settings.height (if b then 1 else t)) (or-true (is_some settings.width)))
+    ∙ ap (λ b. unwrap_or settings.height (if b then 1 else t)) (or_right (is_some settings.width) true refl))
 
 module _ {layout : Layout} {lines : ℕ} {more : List (List (List ℕ))} {first first' begun begun' : Bool} {old mid : Sent} where
   pub more-next : (row : List (List ℕ)) (first'' begun'' : Bool) (new : Sent) → HasPutMore lines more layout first old begun first' mid begun'

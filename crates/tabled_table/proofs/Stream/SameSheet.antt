@@ -9,7 +9,7 @@ use Rattle.tabled_table.proofs.Names.{stream_width, stream_widths, style_at, sub
 use Rattle.tabled_table.proofs.Names.{text_columns, true, unwrap_or, widest, zero, ℕ, ◌&&◌, ◌++◌, ◌+◌, ◌-◌, ◌<◌, ◌==◌, ◌||◌, ◌∙◌, ◌≡◌, ◌≤◌}
 use Rattle.std.proofs.Common.{OnOk}
 use Rattle.std.proofs.lemmas.List.{ext_get_or}
-use Rattle.std.proofs.lemmas.List.Splits.{length-slice_split}
+use Rattle.tabled_text.proofs.Bridge.{some_line}
 use Rattle.tabled_size.specs.Estimates.{needed_height, row_height}
 use Rattle.tabled_size.specs.Sheet.{estimated}
 use Rattle.tabled_size.proofs.Greatest.{greatest_below, greatest_ge, greatest_more}
@@ -21,9 +21,6 @@ use Rattle.tabled_table.proofs.Stream.Measures.{greatest-next}
 -- ---- lists
 
 -- a text has a line
-lines-some : (text : List ℕ) → 0 < length (lines_of text)
-lines-some text = omega (arith, length-slice_split (λ b. b == 10) text)
-
 -- the greatest of what a function makes of a list, by its places
 greatest-listed : {A : Type 0} (f : A → ℕ) (xs : List A) (d : A) (n : ℕ) → n ≤ length xs → greatest_below (λ k. f (get_or xs k d)) n ≡ greatest (map f (take n xs))
 greatest-listed f xs d zero h = refl
@@ -139,7 +136,7 @@ module _ {settings : StreamSettings} {rows : List (List (List ℕ))} (a : AreMea
         let n : columns rows - 1 + 1 ≡ columns rows = omega arith in
         let listed : greatest_below g (columns rows) ≡ greatest (map f (take (columns rows) row)) = greatest-listed f row [] (columns rows) (omega arith) in
         let first = greatest_ge g (columns rows - 1 + 1) 0 (omega arith) in
-        let line = lines-some (get_or row 0 []) in
+        let line = some_line (get_or row 0 []) in
         let one : 1 ≤ greatest_below g (columns rows - 1 + 1) = omega arith in
         ap (λ m. max 1 (greatest (map f (take m row)))) counted-columns ∙ ap (λ m. max 1 m) (sym listed ∙ ap (greatest_below g) (sym n))
         ∙ (let e : max 1 (greatest_below g (columns rows - 1 + 1)) ≡ greatest_below g (columns rows - 1 + 1) = omega arith in e)

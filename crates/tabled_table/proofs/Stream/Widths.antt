@@ -4,6 +4,7 @@ use Rattle.tabled_table.proofs.Names.{ap, arith, column_count, filled_width, fra
 use Rattle.tabled_table.proofs.Names.{range_with_len, refl, slice_index, spanned_of_compact, stream_total, stream_width, stream_widths, suc}
 use Rattle.tabled_table.proofs.Names.{sum_below, sum_step, sym, width_at, zero, ℕ, ◌*◌, ◌+◌, ◌-◌, ◌<◌, ◌^◌, ◌∙◌, ◌∷◌, ◌≡◌, ◌≤◌}
 use Rattle.std.proofs.Common.{zero-add}
+use Rattle.tabled_priority.specs.Laws.Sums.{sum_below-same}
 use Rattle.tabled_priority.specs.Sums.{one_if}
 use Rattle.tabled_table.specs.Stream.Row.{layout_total}
 
@@ -50,10 +51,6 @@ pub width-in-total : (layout : Layout) (column : ℕ) → column < layout.count 
 unfolding layout_total
 width-in-total layout column h = let s = sum_step (width_at layout) column layout.count h in omega arith
 
-sum-each : (f g : ℕ → ℕ) (n : ℕ) → ((k : ℕ) → k < n → f k ≡ g k) → sum_below f n ≡ sum_below g n
-sum-each f g zero h = refl
-sum-each f g (suc n) h = let so_far = sum-each f g n (λ k l. h k (omega arith)) in let here = h n (omega arith) in omega arith
-
 module _ {settings : StreamSettings} {config : CompactConfig} {ahead_rows : List (List (List ℕ))} where
   -- the columns of a layout are those of the whole table
   pub total-laid : {layout : Layout} → IsLaidOut settings config ahead_rows layout → layout_total layout ≡ stream_total settings config ahead_rows
@@ -61,10 +58,10 @@ module _ {settings : StreamSettings} {config : CompactConfig} {ahead_rows : List
   total-laid {layout} l =
       let same : sum_below (width_at layout) layout.count
       ≡ sum_below (slice_index (stream_widths settings config ahead_rows)) (column_count settings ahead_rows) =
-      sum-each (width_at layout) (stream_width settings config ahead_rows) layout.count
+      sum_below-same (width_at layout) (stream_width settings config ahead_rows) layout.count
       (λ k h. let e = l.contents k h in let s = l.side in omega arith)
       ∙ ap (sum_below (stream_width settings config ahead_rows)) l.count
-      ∙ sum-each (stream_width settings config ahead_rows) (slice_index (stream_widths settings config ahead_rows)) (column_count settings ahead_rows)
+      ∙ sum_below-same (stream_width settings config ahead_rows) (slice_index (stream_widths settings config ahead_rows)) (column_count settings ahead_rows)
       (λ k h. sym (listed (stream_width settings config ahead_rows) (column_count settings ahead_rows) k h)) in
       let F : Frame → ℕ → ℕ → ℕ = λ f n s.
       (f.margin.left.size + one_if f.left.there) + ((s + (n - 1) * one_if f.inner.there) + (one_if f.right.there + f.margin.right.size)) in

@@ -10,12 +10,12 @@ ghost use Rattle.tabled_table.specs.Stream.Streams.{ArePermitted, Streams, strea
 use crate::iter_table::layout::Layout;
 use crate::iter_table::next_rows::Stream;
 use crate::iter_table::row::StreamColumns;
-use crate::iter_table::settings::{StreamSettings, ahead, first_rows, up_to};
+use crate::iter_table::settings::{StreamSettings, first_rows, up_to};
 use crate::iter_table::sniff::widest_cells;
 use std::alloc::{AllocError, Global};
 use tabled_base::{CellText, TableError};
 use tabled_config::{AlignmentVertical, CellStyle, CompactConfig, SpannedConfig};
-use tabled_line::{ColumnSeparator, TextSink, UniformPlacement};
+use tabled_line::{ColumnSeparator, LinePrinter, TextSink, UniformPlacement};
 use tabled_records::flat_rows::{FlatRows, take_flat_rows};
 
 #[derive(Drop)]
@@ -38,10 +38,10 @@ impl<'a> Printer<'a> {
     {
         match self.settings.width {
             Some(width) => Ok((Vec::new(self.alloc), width)),
-            None => {
-                let ahead = ahead(self.settings);
-                Ok((widest_cells(self.alloc, rows, ahead, count)?, 0))
-            }
+            None => Ok((
+                widest_cells(self.alloc, rows, self.settings.sniff, count)?,
+                0,
+            )),
         }
     }
 
@@ -117,6 +117,11 @@ impl<'a> Printer<'a> {
             settings,
             total,
         };
-        Stream::new(self.alloc, columns).write_all(sink, rows, &taken)
+        let mut stream = Stream {
+            alloc: self.alloc,
+            lines: LinePrinter::new(columns, Some(self.alloc)),
+            first: true,
+        };
+        stream.write_all(sink, rows, &taken)
     }
 }

@@ -4,7 +4,7 @@ ghost use Rattle.std.specs.Prelude.{length, map, take, true, unwrap_or};
 ghost use Rattle.std.proofs.Props.{props};
 ghost use Rattle.tabled_line.specs.LineCache.{IsCacheOf};
 ghost use Rattle.tabled_records.specs.Reading.{MayGive, Reads, ReadsTo};
-ghost use Rattle.tabled_table.specs.Stream.Progress.{AreFirst, AreFurther, FinishesBehind};
+ghost use Rattle.tabled_table.specs.Stream.Progress.{AreFirst, AreFurther};
 ghost use Rattle.tabled_table.specs.Stream.Progress.{HaltsMore, HasPutMore, IsLimited, IsPermitted};
 ghost use Rattle.tabled_table.specs.Stream.Progress.{PutsBottom, PutsFirst, PutsNext};
 ghost use Rattle.tabled_table.specs.Stream.Progress.{StreamsLaidOut, left_of, ReadsOn};
@@ -23,29 +23,16 @@ use tabled_records::reading::{Taken, append_cells};
 
 #[derive(Drop)]
 pub(crate) struct Stream<'a> {
-    alloc: Global,
-    // The columns come with the settings and the total width.
-    lines: LinePrinter<StreamColumns<'a>>,
-    // Whether no row was printed so far.
-    first: bool,
+    pub alloc: Global,
+    /// The columns come with the settings and the total width.
+    pub lines: LinePrinter<StreamColumns<'a>>,
+    /// Whether no row was printed so far.
+    pub first: bool,
     ghost kept: { IsCacheOf (layout_columns lines.columns.layout.now) lines.kept } by { Prim.hlevel
         props },
 }
 
 impl<'a> Stream<'a> {
-    /// Returns a stream of which no line is printed yet.
-    pub fn new(alloc: Global, columns: StreamColumns<'a>) -> Stream<'a>
-        ensures columns { result.lines.columns ≡ columns.entry }
-        ensures begun { result.lines.begun ≡ false }
-        ensures first { result.first ≡ true }
-    {
-        Stream {
-            alloc,
-            lines: LinePrinter::new(columns, Some(alloc)),
-            first: true,
-        }
-    }
-
     /// Writes a row of cut cells below its horizontal line. Allocates if the row has several lines,
     /// which may fail with `Memory` before the first byte.
     fn write_cut_row<'c, C: CellText, S: TextSink>(
@@ -187,42 +174,8 @@ impl<'a> Stream<'a> {
         }
     }
 
-    /// Writes what follows the rows that were read first: the next rows, unless there are none, and
-    /// what is below the last row.
-    fn write_after_first<
-        I: Iterator<Item = W>,
-        W: IntoIterator<Item = C>,
-        C: CellText + Drop,
-        S: TextSink,
-    >(&mut self, sink: &mut S, rows: &mut I, taken: &Taken<FlatRows<C>>) -> Result<(), TableError>
-        requires { taken.now.whole ≡ false
-            → MayGive I.can_next I.next_gives I.remaining
-            W.into_iter_gives W.IntoIter.can_next W.IntoIter.remaining rows.old }
-        ensures { (more : List (List C)) × (whole : Bool)
-            × AreFurther self.old.lines.columns.settings.now.rows (length taken.now.rows)
-            taken.now.whole (length more) whole
-            × ReadsOn I.next_gives W.into_iter_gives W.IntoIter.next_gives
-            taken.now.rows taken.now.whole rows.old more whole
-            rows.new
-            × FinishesBehind
-            (left_of self.old.lines.columns.settings.now.rows (length taken.now.rows))
-            (unwrap_or self.old.lines.columns.settings.now.height 1)
-            self.old.lines.columns.total whole (map (map C.text) more)
-            self.old.lines.columns.layout.now self.old.first (S.sent sink.old)
-            self.old.lines.begun result (S.sent sink.new) }
-    {
-        let settings = self.lines.columns.settings;
-        let left = fewer(settings.rows, taken.rows.len());
-        if taken.whole || is_none_left(left) {
-            return self.write_bottom(sink);
-        }
-        let lines = settings.height.unwrap_or(1);
-        self.write_next_rows(sink, rows, left, lines)?;
-        self.write_bottom(sink)
-    }
-
-    /// Writes the entire table: of the rows that were read first those that are shown, and what
-    /// follows them.
+    /// Writes the entire table: of the rows that were read first those that are shown, the next
+    /// rows, unless there are none, and what is below the last row.
     pub fn write_all<
         I: Iterator<Item = W>,
         W: IntoIterator<Item = C>,
@@ -258,6 +211,12 @@ impl<'a> Stream<'a> {
         let total = self.lines.columns.total;
         self.lines.write_margin(sink, margin.top, total)?;
         self.write_first_rows(sink, ahead, &taken.rows, shown)?;
-        self.write_after_first(sink, rows, taken)
+        let left = fewer(settings.rows, count);
+        if taken.whole || is_none_left(left) {
+            return self.write_bottom(sink);
+        }
+        let lines = settings.height.unwrap_or(1);
+        self.write_next_rows(sink, rows, left, lines)?;
+        self.write_bottom(sink)
     }
 }
