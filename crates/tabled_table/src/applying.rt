@@ -3,9 +3,8 @@ ghost use Rattle.std.specs.Prelude.{◌≡◌, ◌⊎◌, ◌<◌, IfErr, IfOk, 
 ghost use Rattle.std.specs.Borrow.{RestsIfErr, sem};
 ghost use Rattle.tabled_base.specs.Cells.{columns};
 ghost use Rattle.tabled_base.specs.declared.error.TableError.TheVariants.{Memory, Range};
-ghost use Rattle.tabled_table.specs.Applied.{ChangesEach, IsApplied, IsModified, FailsBy};
-ghost use Rattle.tabled_table.specs.Applied.{named_in, ModifyingFails, IsPutBack, IsStopped};
-ghost use Rattle.tabled_table.specs.Applied.{kept_config};
+ghost use Rattle.tabled_table.specs.Applied.{ChangesEach, IsApplied, IsModified, FailsBy, named_in};
+ghost use Rattle.tabled_table.specs.Applied.{ModifyingFails, IsPutBack, IsStopped, kept_config};
 ghost use Rattle.tabled_table.specs.declared.table.Table.{Table};
 
 use crate::table::Table;

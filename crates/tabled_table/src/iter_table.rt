@@ -165,24 +165,6 @@ impl<I> IterTable<I> {
     }
 }
 
-fn collect_rows<I: Iterator<Item = W>, W: IntoIterator<Item = C>, C: Drop>(
-    alloc: Global,
-    rows: &mut I,
-) -> Result<Vec<Vec<C>>, TableError>
-    requires { MayGive I.can_next I.next_gives I.remaining
-        W.into_iter_gives W.IntoIter.can_next W.IntoIter.remaining rows.old }
-    ensures ok { IfOk result (λ kept. ReadsTo I.next_gives W.into_iter_gives
-        W.IntoIter.next_gives rows.old
-        (map (λ row. row.items) kept.items) true rows.new) }
-    ensures only { IfErr result (λ e. e ≡ Memory) }
-{
-    let mut kept = Vec::new(alloc);
-    'rows: while let Some(cells) = next_cells(alloc, rows)? {
-        kept.push(cells)?;
-    }
-    Ok(kept)
-}
-
 impl<T: CellText + Drop> IterTable<Vec<Vec<T>>> {
     /// Returns a table that stores all rows of a source. Fails only if an allocation fails
     /// (`Memory`).
@@ -195,7 +177,10 @@ impl<T: CellText + Drop> IterTable<Vec<Vec<T>>> {
         ensures only { IfErr result (λ e. e ≡ Memory) }
     {
         let mut rows = rows.iter_rows().into_iter();
-        let records = collect_rows(alloc, &mut rows)?;
+        let mut records = Vec::new(alloc);
+        'rows: while let Some(cells) = next_cells(alloc, &mut rows)? {
+            records.push(cells)?;
+        }
         Ok(IterTable::new(records))
     }
 }

@@ -6,7 +6,7 @@ use Rattle.tabled_table.proofs.Names.{filled_width, get_or, get_or-map, get_or-m
 use Rattle.tabled_table.proofs.Names.{left_of, length, length-append, length-map, length-map-range_with_len, length-take, limited, longest}
 use Rattle.tabled_table.proofs.Names.{map, max, picture, range_with_len, reaches, refl, sends-along, sniffed, spanned_of_compact}
 use Rattle.tabled_table.proofs.Names.{stream_height, stream_widths, subst, suc, sym, take, take_all, true, unwrap_or, zero, ℕ, ⊎_elim, ◌++◌}
-use Rattle.tabled_table.proofs.Names.{◌-◌, ◌<◌, ◌==◌, ◌||◌, ◌∙◌, ◌∷◌, ◌≡◌, ◌≢◌, ◌≤◌, ◌⊎◌}
+use Rattle.tabled_table.proofs.Names.{◌-◌, ◌<◌, ◌==◌, ◌∙◌, ◌∷◌, ◌≡◌, ◌≢◌, ◌≤◌, ◌⊎◌}
 use Rattle.std.proofs.lemmas.Bool.{or_right}
 use Rattle.std.proofs.lemmas.List.{take-append-le}
 use Rattle.tabled_table.specs.Stream.Streams.{shown_rows, IsFilled}

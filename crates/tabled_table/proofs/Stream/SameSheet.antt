@@ -6,7 +6,7 @@ use Rattle.tabled_table.proofs.Names.{get_or-map-range_with_len, greatest, if◌
 use Rattle.tabled_table.proofs.Names.{length-map-range_with_len, limited, lines_of, longest, map, mapped_same, max, nat_lt, nat_tests, not}
 use Rattle.tabled_table.proofs.Names.{range_with_len, reaches, refl, replicate, slice_index, sniffed, spanned_of_compact, stream_height}
 use Rattle.tabled_table.proofs.Names.{stream_width, stream_widths, style_at, subst, suc, sym, table_text, take, take_all, tallest}
-use Rattle.tabled_table.proofs.Names.{text_columns, true, unwrap_or, widest, zero, ℕ, ◌&&◌, ◌++◌, ◌+◌, ◌-◌, ◌<◌, ◌==◌, ◌||◌, ◌∙◌, ◌≡◌, ◌≤◌}
+use Rattle.tabled_table.proofs.Names.{text_columns, true, unwrap_or, widest, zero, ℕ, ◌&&◌, ◌++◌, ◌+◌, ◌-◌, ◌<◌, ◌||◌, ◌∙◌, ◌≡◌, ◌≤◌}
 use Rattle.std.proofs.Common.{OnOk}
 use Rattle.std.proofs.lemmas.List.{ext_get_or}
 use Rattle.tabled_text.proofs.Bridge.{some_line}

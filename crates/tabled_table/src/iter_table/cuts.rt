@@ -1,6 +1,5 @@
 //! Finds out whether the cells of a row fit in their columns, and cuts them to these.
-ghost use Rattle.std.specs.Prelude.{◌≡◌, ◌<◌, [], ℕ, IfOk, length, map, true};
-ghost use Rattle.std.specs.Prelude.{slice_index_or};
+ghost use Rattle.std.specs.Prelude.{◌≡◌, ◌<◌, [], ℕ, IfOk, length, map, true, slice_index_or};
 ghost use Rattle.tabled_table.specs.Stream.Row.{content_at};
 ghost use Rattle.tabled_text.specs.Cut.{IsCut};
 

@@ -4,10 +4,9 @@ ghost use Rattle.std.specs.Prelude.{length, map, take, true, unwrap_or};
 ghost use Rattle.std.proofs.Props.{props};
 ghost use Rattle.tabled_line.specs.LineCache.{IsCacheOf};
 ghost use Rattle.tabled_records.specs.Reading.{MayGive, Reads, ReadsTo};
-ghost use Rattle.tabled_table.specs.Stream.Progress.{AreFirst, AreFurther};
-ghost use Rattle.tabled_table.specs.Stream.Progress.{HaltsMore, HasPutMore, IsLimited, IsPermitted};
-ghost use Rattle.tabled_table.specs.Stream.Progress.{PutsBottom, PutsFirst, PutsNext};
-ghost use Rattle.tabled_table.specs.Stream.Progress.{StreamsLaidOut, left_of, ReadsOn};
+ghost use Rattle.tabled_table.specs.Stream.Progress.{AreFirst, AreFurther, HaltsMore, HasPutMore};
+ghost use Rattle.tabled_table.specs.Stream.Progress.{IsLimited, IsPermitted, PutsBottom, PutsFirst};
+ghost use Rattle.tabled_table.specs.Stream.Progress.{PutsNext, StreamsLaidOut, left_of, ReadsOn};
 ghost use Rattle.tabled_table.specs.Stream.Row.{PutsCut, layout_columns, rule_of};
 ghost use Rattle.tabled_table.specs.Stream.Streamed.{limited};
 
