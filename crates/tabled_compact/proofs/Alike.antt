@@ -1,7 +1,9 @@
 -- Widths that are alike: what a dimension tells of them, and what they are in all.
 use Rattle.tabled_compact.proofs.Names.{IfSome, None, Option, Some, ap, arith, length, slice_index, suc, sum_below, sym, zero, ℕ, ◌*◌, ◌+◌}
 use Rattle.tabled_compact.proofs.Names.{◌<◌, ◌∙◌, ◌≡◌, ◌≤◌}
-use Rattle.std.proofs.Common.{unwrap_or}
+use Rattle.std.proofs.Common.{Bool, false, refl, true, unwrap_or}
+use Rattle.std.specs.Int.{from_bool}
+use Rattle.tabled_priority.specs.Sums.{one_if}
 use Rattle.tabled_size.specs.Reached.{reached}
 use Rattle.tabled_size.proofs.Reaching.{reached_at}
 
@@ -13,6 +15,10 @@ sum-alike f n (suc k) w h =
     let so_far = sum-alike f n k w (λ j l m. h j l (omega arith)) in
     let here = h (n + k) (omega arith) (omega arith) in
     ap (sum_below f) step ∙ (let e : sum_below f (n + k) + f (n + k) ≡ sum_below f n + suc k * w = omega arith in e)
+
+pub as_number : (there : Bool) → from_bool there ≡ one_if there
+as_number true = refl
+as_number false = refl
 
 same-some : {m n : ℕ} → Some m ≡ Some n → m ≡ n
 same-some h = cc

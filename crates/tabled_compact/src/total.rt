@@ -1,15 +1,9 @@
 //! The total width of a compact table.
 ghost use Rattle.std.specs.Prelude.{◌≡◌, ◌+◌, ◌*◌, ◌≤◌, ◌<◌, ◌^◌, MatchOption};
-ghost use Rattle.tabled_priority.specs.Sums.{one_if, sum_below};
+ghost use Rattle.tabled_priority.specs.Sums.{sum_below};
 ghost use Rattle.tabled_line.specs.Apart.{line_total};
 
 use tabled_line::TableColumns;
-
-fn one_if(there: bool) -> usize
-    ensures { result ≡ one_if there }
-{
-    if there { 1 } else { 0 }
-}
 
 /// Returns `sum + times * each`; `None` if it exceeds `usize::MAX`.
 fn add_times(sum: usize, times: usize, each: usize) -> Option<usize>
@@ -41,16 +35,16 @@ fn sum_widths<C: TableColumns>(columns: &C) -> Option<usize>
 
 /// Returns the columns of each line: all widths, the vertical lines and the side margins. `None` if
 /// that exceeds `usize::MAX`.
-#[tactic(auto, unfolding(tabled_line::specs::Apart::line_total))]
+#[tactic(auto, unfolding(tabled_line::specs::Apart::line_total), using(crate::proofs::Alike::as_number))]
 pub(crate) fn line_total<C: TableColumns>(columns: &C) -> Option<usize>
     ensures { let whole = line_total (C.sheet columns.now) in MatchOption result (2 ^ 64 ≤ whole)
         (λ n. (n ≡ whole) × (whole < 2 ^ 64)) }
 {
     let frame = columns.frame();
     let margin = frame.margin;
-    let left = margin.left.size.checked_add(one_if(frame.left.there))?;
-    let right = one_if(frame.right.there).checked_add(margin.right.size)?;
-    let bars = columns.count_columns().saturating_sub(1) * one_if(frame.inner.there);
+    let left = margin.left.size.checked_add(usize::from(frame.left.there))?;
+    let right = usize::from(frame.right.there).checked_add(margin.right.size)?;
+    let bars = columns.count_columns().saturating_sub(1) * usize::from(frame.inner.there);
     let inside = sum_widths(columns)?.checked_add(bars)?;
     left.checked_add(inside.checked_add(right)?)
 }

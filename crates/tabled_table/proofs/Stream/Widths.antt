@@ -3,7 +3,8 @@ use Rattle.tabled_table.proofs.Names.{CompactConfig, Frame, IsLaidOut, Layout, L
 use Rattle.tabled_table.proofs.Names.{ap, arith, column_count, filled_width, frame, get_or, get_or-map-range_with_len, length, map, min}
 use Rattle.tabled_table.proofs.Names.{range_with_len, refl, slice_index, spanned_of_compact, stream_total, stream_width, stream_widths, suc}
 use Rattle.tabled_table.proofs.Names.{sum_below, sum_step, sym, width_at, zero, ℕ, ◌*◌, ◌+◌, ◌-◌, ◌<◌, ◌^◌, ◌∙◌, ◌∷◌, ◌≡◌, ◌≤◌}
-use Rattle.std.proofs.Common.{zero-add}
+use Rattle.std.proofs.Common.{Bool, false, true, zero-add}
+use Rattle.std.specs.Int.{from_bool}
 use Rattle.tabled_priority.specs.Laws.Sums.{sum_below-same}
 use Rattle.tabled_priority.specs.Sums.{one_if}
 use Rattle.tabled_table.specs.Stream.Row.{layout_total}
@@ -50,6 +51,10 @@ sum-widths layout known (suc more) k m =
 pub width-in-total : (layout : Layout) (column : ℕ) → column < layout.count → width_at layout column ≤ layout_total layout
 unfolding layout_total
 width-in-total layout column h = let s = sum_step (width_at layout) column layout.count h in omega arith
+
+pub as_number : (there : Bool) → from_bool there ≡ one_if there
+as_number true = refl
+as_number false = refl
 
 module _ {settings : StreamSettings} {config : CompactConfig} {ahead_rows : List (List (List ℕ))} where
   -- the columns of a layout are those of the whole table

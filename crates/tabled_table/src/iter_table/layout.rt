@@ -3,7 +3,7 @@ ghost use Rattle.std.specs.Prelude.{◌≡◌, ◌+◌, ◌*◌, ◌<◌, ◌≤
 ghost use Rattle.std.specs.Prelude.{if◌then◌else◌};
 ghost use Rattle.std.proofs.Props.{props};
 ghost use Rattle.tabled_line.specs.Placements.{IsUniform};
-ghost use Rattle.tabled_priority.specs.Sums.{one_if, sum_below};
+ghost use Rattle.tabled_priority.specs.Sums.{sum_below};
 
 use tabled_config::{CellStyle, Frame, HorizontalLine};
 use tabled_line::{ColumnSeparator, UniformPlacement};
@@ -35,12 +35,6 @@ pub(crate) struct Layout {
     pub uniform: Option<UniformPlacement>,
     ghost bar: { separator.bar ≡ frame.inner },
     ghost uniform_is: { IfSome uniform (IsUniform style) } by { Prim.hlevel props },
-}
-
-fn one_if(there: bool) -> usize
-    ensures { result ≡ one_if there }
-{
-    if there { 1 } else { 0 }
 }
 
 /// Returns `sum + times * (first + second)`; `None` if it exceeds `usize::MAX`.
@@ -129,16 +123,16 @@ impl Layout {
 
     /// Returns the total width: all widths, the vertical lines and the side margins. `None` if it
     /// exceeds `usize::MAX`.
-    #[tactic(auto, unfolding(crate::specs::Stream::Row::layout_total))]
+    #[tactic(auto, unfolding(crate::specs::Stream::Row::layout_total), using(crate::proofs::Stream::Widths::as_number))]
     pub fn total_width(&self) -> Option<usize>
         ensures { MatchOption result (2 ^ 64 ≤ layout_total self.now)
             (λ n. (n ≡ layout_total self.now) × (layout_total self.now < 2 ^ 64)) }
     {
         let frame = self.frame;
         let margin = frame.margin;
-        let left = margin.left.size.checked_add(one_if(frame.left.there))?;
-        let right = one_if(frame.right.there).checked_add(margin.right.size)?;
-        let bars = self.count.saturating_sub(1) * one_if(frame.inner.there);
+        let left = margin.left.size.checked_add(usize::from(frame.left.there))?;
+        let right = usize::from(frame.right.there).checked_add(margin.right.size)?;
+        let bars = self.count.saturating_sub(1) * usize::from(frame.inner.there);
         let inside = self.sum_widths()?.checked_add(bars)?;
         left.checked_add(inside.checked_add(right)?)
     }
