@@ -29,13 +29,6 @@ impl<T: CellText, const COLUMNS: usize, const ROWS: usize> CellRows<COLUMNS, ROW
     }
 }
 
-fn cell_width<T: CellText, const COLUMNS: usize>(row: &[T; COLUMNS], column: usize) -> usize
-    requires { column < COLUMNS }
-    ensures { result ≡ text_columns (slice_index_or (map T.text row.now) column []) }
-{
-    row[column].width()
-}
-
 fn widest_cell<T: CellText, const COLUMNS: usize, const ROWS: usize>(
     rows: &[[T; COLUMNS]; ROWS],
     column: usize,
@@ -45,7 +38,7 @@ fn widest_cell<T: CellText, const COLUMNS: usize, const ROWS: usize>(
 {
     let mut widest: usize = 0;
     'rows: for row in rows {
-        widest = widest.max(cell_width(row, column));
+        widest = widest.max(row[column].width());
     }
     widest
 }

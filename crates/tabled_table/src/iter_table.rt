@@ -251,9 +251,7 @@ where
             × (new.failures ≡ 0) × IfOk result (λ text. new.bytes ≡ Some (string_bytes text)) }
     {
         let mut text = String::new(alloc);
-        match self.fmt(alloc, &mut text) {
-            Ok(()) => Ok(text),
-            Err(error) => Err(error),
-        }
+        self.fmt(alloc, &mut text)?;
+        Ok(text)
     }
 }
