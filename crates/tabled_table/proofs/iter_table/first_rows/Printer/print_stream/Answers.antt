@@ -45,10 +45,9 @@ returns-then-count-eq0 g c =
     ] in
     let sent = g.S.TextSink.sent c.args.sink.now in
     let now = c.take_flat_rows.new.rows in
-    let P : List (List (List ℕ)) → Type 0 = ArePermitted settings in
     let Q : List (List (List ℕ)) → Type 0 = λ rows. StreamSends settings config rows taken.whole sent sent in
     all-read {R = Unit {0}} settings config sent sent (Ok tt) text items [] taken.whole taken.whole c.args.rows.now now now h.ok
-    (reads-no-more items taken.whole now) (subst P (sym (append-nil kept)) (permitted-first first))
+    (reads-no-more items taken.whole now) (subst (ArePermitted settings) (sym (append-nil kept)) (permitted-first first))
     (subst Q (sym (append-nil kept)) (unshown settings config kept taken.whole sent (unshown-enough taken.whole first none) none))
 
 -- nothing was printed, since an allocation failed or the total width is out of range
@@ -67,10 +66,9 @@ returns-in_err-layout g c =
     c.first_rows.ensures.needed c.first_rows.ensures.none in
     let count = columns-first text items c.columns.result c.unwrap_or-count.result first c.columns.ensures c.unwrap_or-count.ensures in
     let now = c.take_flat_rows.new.rows in
-    let P : List (List (List ℕ)) → Type 0 = ArePermitted settings in
     let sent = g.S.TextSink.sent c.args.sink.now in
     all-read settings config sent sent c.from_residual-in_err-layout.result text items [] taken.whole taken.whole c.args.rows.now now now h.ok
-    (reads-no-more items taken.whole now) (subst P (sym (append-nil kept)) (permitted-first first))
+    (reads-no-more items taken.whole now) (subst (ArePermitted settings) (sym (append-nil kept)) (permitted-first first))
     (unplanned config sent c.from_residual-in_err-layout.result c.in_err-layout.field-0.0 first
     (omega (arith, count, c.if-count-eq0.false)) (omega (arith, shown, c.if-up_to-eq0.false)) c.from_residual-in_err-layout.ensures.1
     c.in_err-layout.ensures.err)
@@ -91,10 +89,9 @@ returns-in_default g c =
     let count = columns-first text items c.columns.result c.unwrap_or-count.result first c.columns.ensures c.unwrap_or-count.ensures in
     let now = c.take_flat_rows.new.rows in
     let over = total-laid c.in_ok-layout.ensures.ok in
-    let P : List (List (List ℕ)) → Type 0 = ArePermitted settings in
     let sent = g.S.TextSink.sent c.args.sink.now in
     all-read {R = Unit {0}} settings config sent sent (Err Range) text items [] taken.whole taken.whole c.args.rows.now now now h.ok
-    (reads-no-more items taken.whole now) (subst P (sym (append-nil kept)) (permitted-first first))
+    (reads-no-more items taken.whole now) (subst (ArePermitted settings) (sym (append-nil kept)) (permitted-first first))
     (unplanned {R = Unit {0}} config sent (Err Range) Range first
     (omega (arith, count, c.if-count-eq0.false)) (omega (arith, shown, c.if-up_to-eq0.false)) refl (inl (refl, omega (arith, over, c.in_default.ensures))))
 
