@@ -20,7 +20,7 @@ use Rattle.tabled_size.specs.Entries.{clears_heights, clears_widths, unless_clea
 use Rattle.tabled_size.specs.Estimates.{IsTooWide}
 use Rattle.tabled_text.proofs.StayLemmas.{text_columns-stays}
 use Rattle.tabled.specs.Orders.{Shrinks-takes, IsShrunk}
-use Rattle.tabled.specs.declared.order_priority.OrderPriority.{OrderPriority}
+use Rattle.tabled.specs.declared.arguments.OrderPriority.{OrderPriority}
 use Rattle.tabled_set.specs.BestNarrowing.{HasLeastWidth}
 use Rattle.tabled.proofs.RenderedTables.{fitted_empty, fitted_holds, fitted_lines, fitted_sized, no_text_plain, whole_wider}
 

@@ -15,7 +15,7 @@ pub use Rattle.std.specs.Str.{IsUtf8}
 pub use Rattle.std.specs.Str.Parse.{digits_value}
 pub use Rattle.tabled.specs.Arguments.{SpellsPlan}
 pub use Rattle.tabled.specs.BlockSent.{Advances, Block, block, block_sent, sent_since, waiting}
-pub use Rattle.tabled.specs.declared.fault.Fault.TheVariants.{Table}
+pub use Rattle.tabled.specs.declared.program.Fault.TheVariants.{Table}
 pub use Rattle.tabled.specs.Headline.{HasFewestBreaks, HasLeastGreatestWidth, HasLongestBeginnings, HasWantedTotal, IsAsBuffered, IsBestOf}
 pub use Rattle.tabled.specs.Headline.{IsBestPlanned, IsLeastBy}
 pub use Rattle.tabled.specs.Orders.{Shrinks}
@@ -23,10 +23,10 @@ pub use Rattle.tabled.specs.Output.{Begins, IsBegunOn, IsOutput, IsPartlyWritten
 unfoldable pub use Rattle.tabled.specs.Output.{with_feed}
 pub use Rattle.tabled.specs.Planned.{Cells, FitsInto, IsNarrowedTo, IsPlanned, IsPlannedOf, OrderShrinks, cut_to, is_plain_byte, measured}
 pub use Rattle.tabled.specs.Rendered.{BreaksOff, Halts, IsMade, IsRendered, IsRenderedOf}
-pub use Rattle.tabled.specs.declared.plan.Order.{Order}
-pub use Rattle.tabled.specs.declared.plan.Order.TheVariants.{Greatest, Least, Leftmost, Rightmost, Round}
-pub use Rattle.tabled.specs.declared.plan.Plan.{Plan}
-pub use Rattle.tabled.specs.declared.plan.Plan.TheVariants.{Buffered, Shortened, Streamed, Wrapped}
+pub use Rattle.tabled.specs.declared.arguments.Order.{Order}
+pub use Rattle.tabled.specs.declared.arguments.Order.TheVariants.{Greatest, Least, Leftmost, Rightmost, Round}
+pub use Rattle.tabled.specs.declared.arguments.Plan.{Plan}
+pub use Rattle.tabled.specs.declared.arguments.Plan.TheVariants.{Buffered, Shortened, Streamed, Wrapped}
 pub use Rattle.tabled_base.specs.Cells.{IsInside, IsRectangular, cell_at, columns, lengthened}
 pub use Rattle.tabled_base.specs.declared.error.TableError.{TableError}
 pub use Rattle.tabled_base.specs.declared.error.TableError.TheVariants.{Memory, Narrow, Range, ShortHeights, ShortWidths, Writer}

@@ -14,7 +14,7 @@ use Rattle.tabled.specs.Output.{Overflows}
 use Rattle.tabled.specs.Rendered.{SendsTable}
 use Rattle.tabled.proofs.BytesSince.{begun_none, left, left_advances}
 use Rattle.tabled.specs.Runs.{HasFailed, HasRead}
-use Rattle.tabled.specs.declared.fault.Fault.{Fault}
+use Rattle.tabled.specs.declared.program.Fault.{Fault}
 use Rattle.std.specs.List.{join_with_byte}
 use Rattle.std.proofs.lemmas.List.{length-map}
 use Rattle.std.proofs.lemmas.List.Splits.{length-slice_split}

@@ -3,10 +3,10 @@ use Rattle.std.specs.Prelude.{◌≡◌, ◌≢◌, ◌<◌, ◌^◌, ◌↔◌,
 use Rattle.std.specs.List.{All, AllPairs, Contains}
 use Rattle.std.specs.Char.{IsAsciiDigit}
 use Rattle.std.specs.Str.Parse.{digits_value}
-use Rattle.tabled.specs.declared.plan.Order.{Order}
-use Rattle.tabled.specs.declared.plan.Order.TheVariants.{Round, Least, Greatest, Leftmost, Rightmost}
-use Rattle.tabled.specs.declared.plan.Plan.{Plan}
-use Rattle.tabled.specs.declared.plan.Plan.TheVariants.{Buffered, Streamed, Wrapped, Shortened}
+use Rattle.tabled.specs.declared.arguments.Order.{Order}
+use Rattle.tabled.specs.declared.arguments.Order.TheVariants.{Round, Least, Greatest, Leftmost, Rightmost}
+use Rattle.tabled.specs.declared.arguments.Plan.{Plan}
+use Rattle.tabled.specs.declared.arguments.Plan.TheVariants.{Buffered, Streamed, Wrapped, Shortened}
 use Rattle.tabled.specs.declared.arguments.Argument.{Argument}
 use Rattle.tabled.specs.declared.arguments.Argument.TheVariants.{Wrap, Cut, Priority, Words, Stream}
 use Rattle.tabled.specs.declared.arguments.Arguments.{Arguments}

@@ -1,8 +1,8 @@
 -- The message of each fault. A word and a line are lists of bytes.
 use Rattle.std.specs.Prelude.{ℕ, List, [], ◌∷◌, ◌++◌, codes}
 use Rattle.tabled_base.specs.declared.error.TableError.TheVariants.{Memory, ShortWidths, ShortHeights, Narrow, Range, Writer}
-use Rattle.tabled.specs.declared.fault.Fault.{Fault}
-use Rattle.tabled.specs.declared.fault.Fault.TheVariants.{Usage, Input, Table}
+use Rattle.tabled.specs.declared.program.Fault.{Fault}
+use Rattle.tabled.specs.declared.program.Fault.TheVariants.{Usage, Input, Table}
 
 -- the message for wrong arguments
 abbrev pub usage : List ℕ

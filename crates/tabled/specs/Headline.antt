@@ -11,10 +11,10 @@ use Rattle.tabled_line.specs.Plain.{EachLineTakes}
 use Rattle.tabled_size.specs.Sheet.{Sheet}
 use Rattle.tabled_size.specs.Totals.{total_height, total_width}
 use Rattle.tabled_table.specs.TableSheet.{new_sheet}
-use Rattle.tabled.specs.declared.plan.Order.{Order}
-use Rattle.tabled.specs.declared.plan.Order.TheVariants.{Round, Least, Greatest, Leftmost, Rightmost}
-use Rattle.tabled.specs.declared.plan.Plan.{Plan}
-use Rattle.tabled.specs.declared.plan.Plan.TheVariants.{Buffered, Streamed, Wrapped, Shortened}
+use Rattle.tabled.specs.declared.arguments.Order.{Order}
+use Rattle.tabled.specs.declared.arguments.Order.TheVariants.{Round, Least, Greatest, Leftmost, Rightmost}
+use Rattle.tabled.specs.declared.arguments.Plan.{Plan}
+use Rattle.tabled.specs.declared.arguments.Plan.TheVariants.{Buffered, Streamed, Wrapped, Shortened}
 use Rattle.tabled.specs.Planned.{Cells}
 
 -- a wider table that is wrapped or truncated to n takes n columns, or as many as the empty table if

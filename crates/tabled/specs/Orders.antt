@@ -2,9 +2,9 @@
 use Rattle.std.specs.Prelude.{◌≡◌, ℕ, List, true, Option, MatchOption, length}
 use Rattle.tabled_priority.specs.Peak.{IsGreatest, IsLeast, IsLeftmost, IsNext, IsRightmost, NoneAbove}
 use Rattle.tabled_priority.specs.Shrunk.{IsLeftShrunk, IsMaxShrunk, IsMinShrunk, IsRightShrunk, IsRoundShrunk, place_after}
-use Rattle.tabled.specs.declared.order_priority.OrderPriority.{OrderPriority}
-use Rattle.tabled.specs.declared.plan.Order.{Order}
-use Rattle.tabled.specs.declared.plan.Order.TheVariants.{Round, Least, Greatest, Leftmost, Rightmost}
+use Rattle.tabled.specs.declared.arguments.OrderPriority.{OrderPriority}
+use Rattle.tabled.specs.declared.arguments.Order.{Order}
+use Rattle.tabled.specs.declared.arguments.Order.TheVariants.{Round, Least, Greatest, Leftmost, Rightmost}
 use Rattle.std.proofs.Common.{◌∙◌, ◌+◌, ℕ, List, None, Some, refl, subst, sym, true}
 use Rattle.tabled_priority.specs.Permitted.{IsTakenFrom, lowered}
 use Rattle.tabled_priority.specs.Laws.Round.{IsRoundShrunk-done, IsRoundShrunk-none, IsRoundShrunk-step}

@@ -7,7 +7,7 @@ use Rattle.tabled_records.specs.TextRows.{text_rows}
 use Rattle.tabled_grid.specs.Picture.{table_text}
 use Rattle.tabled_size.specs.Sheet.{Sheet}
 use Rattle.tabled_table.specs.TableSheet.{new_sheet}
-use Rattle.tabled.specs.declared.plan.Plan.{Plan}
+use Rattle.tabled.specs.declared.arguments.Plan.{Plan}
 use Rattle.tabled.specs.Headline.{IsBestPlanned}
 use Rattle.tabled.specs.Planned.{IsPlanned}
 use Rattle.tabled.specs.Rendered.{PassesRange}

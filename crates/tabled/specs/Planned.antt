@@ -12,9 +12,9 @@ use Rattle.tabled_size.specs.Sheet.{Sheet}
 use Rattle.tabled_size.specs.Totals.{total_width}
 use Rattle.tabled_table.specs.TableSheet.{new_sheet}
 use Rattle.tabled_text.specs.Cut.{IsCut}
-use Rattle.tabled.specs.declared.plan.Order.{Order}
-use Rattle.tabled.specs.declared.plan.Plan.{Plan}
-use Rattle.tabled.specs.declared.plan.Plan.TheVariants.{Buffered, Streamed, Wrapped, Shortened}
+use Rattle.tabled.specs.declared.arguments.Order.{Order}
+use Rattle.tabled.specs.declared.arguments.Plan.{Plan}
+use Rattle.tabled.specs.declared.arguments.Plan.TheVariants.{Buffered, Streamed, Wrapped, Shortened}
 use Rattle.tabled.specs.Orders.{IsShrunk}
 
 -- printable ASCII, a tab or a line feed

@@ -9,8 +9,8 @@ use Rattle.tabled_line.specs.Sent.{IsCause, Sends, Sent}
 use Rattle.tabled_size.specs.Holds.{Holds, IsSized}
 use Rattle.tabled_size.specs.Sheet.{Sheet, is_empty}
 use Rattle.tabled_table.specs.TableSheet.{new_sheet}
-use Rattle.tabled.specs.declared.plan.Plan.{Plan}
-use Rattle.tabled.specs.declared.plan.Plan.TheVariants.{Streamed}
+use Rattle.tabled.specs.declared.arguments.Plan.{Plan}
+use Rattle.tabled.specs.declared.arguments.Plan.TheVariants.{Streamed}
 use Rattle.tabled.specs.Headline.{IsBestOf, IsBestPlanned}
 use Rattle.tabled.specs.Planned.{Cells, IsPlanned, IsPlannedOf}
 

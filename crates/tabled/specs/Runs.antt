@@ -1,10 +1,10 @@
 -- What a run of the program leaves in its reader and its writer.
 use Rattle.std.specs.Prelude.{◌≡◌, ◌⊎◌, ℕ, List, [], Option, IfSome, IsUtf8}
 use Rattle.std.specs.Io.KnownBytes.{Appends, IsAtEnd}
-use Rattle.tabled.specs.declared.fault.Fault.{Fault}
+use Rattle.tabled.specs.declared.program.Fault.{Fault}
 use Rattle.tabled_base.specs.declared.error.TableError.TheVariants.{Memory, Range, Writer}
-use Rattle.tabled.specs.declared.fault.Fault.TheVariants.{Input, Table}
-use Rattle.tabled.specs.declared.plan.Plan.{Plan}
+use Rattle.tabled.specs.declared.program.Fault.TheVariants.{Input, Table}
+use Rattle.tabled.specs.declared.arguments.Plan.{Plan}
 use Rattle.tabled.specs.Output.{Begins, IsOutput, Overflows}
 use Rattle.tabled.specs.Arguments.{SpellsPlan}
 

@@ -1,14 +1,127 @@
-//! The arguments of the program, and the plan they make.
-ghost use Rattle.std.specs.Prelude.{◌≡◌, ◌↔◌, ◌∷◌, ℕ, IfSome, List, [], map, IfNone, MatchOption};
-ghost use Rattle.std.specs.Prelude.{Some, string_bytes};
-ghost use Rattle.tabled.specs.declared.plan.Plan.{Plan};
-ghost use Rattle.tabled.specs.declared.plan.Order.{Order};
-ghost use Rattle.tabled.specs.declared.arguments.Argument.{Argument};
-ghost use Rattle.tabled.specs.Arguments.{Adds, Notes, NotesName, NotesWords, Begins, GoTogether};
-ghost use Rattle.tabled.specs.Arguments.{HasValues, IsNumber, IsOnce, Makes, Spells, SpellsPlan};
+//! The plan of `render`, which is how a text becomes a table; its priority, which is chosen at run
+//! time; and the arguments of the program, which make a plan.
+ghost use Rattle.std.specs.Prelude.{IfNone, IfSome, List, MatchOption, Some, [], map, string_bytes};
+ghost use Rattle.std.specs.Prelude.{ℕ, ◌↔◌, ◌∷◌, ◌≡◌};
+ghost use Rattle.tabled.specs.Arguments.{Adds, Begins, GoTogether, HasValues, IsNumber, IsOnce};
+ghost use Rattle.tabled.specs.Arguments.{Makes, Notes, NotesName, NotesWords, Spells, SpellsPlan};
 ghost use Rattle.tabled.specs.Arguments.{name_of, order_word};
+ghost use Rattle.tabled.specs.Orders.{Names, Shrinks, Shrinks-done, Shrinks-none, Shrinks-step};
+ghost use Rattle.tabled.specs.Orders.{Shrinks-takes};
+ghost use Rattle.tabled.specs.declared.arguments.Argument.{Argument};
+ghost use Rattle.tabled.specs.declared.arguments.Order.{Order};
+ghost use Rattle.tabled.specs.declared.arguments.Plan.{Plan};
 
-use crate::plan::{Order, Plan};
+use tabled_size::{
+    Peaker, PriorityLeft, PriorityMax, PriorityMin, PriorityNone, PriorityRight, Steps, TakesAll,
+};
+
+/// The order in which the columns of a table shrink, as `--priority` names it.
+#[derive(Clone, Copy, Debug)]
+pub enum Order {
+    /// `none`: each column in turn, by one column at a time.
+    Round,
+    /// `min`: the narrowest column first, the rightmost of equal ones.
+    Least,
+    /// `max`: the widest column first, the rightmost of equal ones.
+    Greatest,
+    /// `left`: from the left.
+    Leftmost,
+    /// `right`: from the right.
+    Rightmost,
+}
+
+/// How `render` prints a table.
+#[derive(Clone, Copy, Debug)]
+pub enum Plan {
+    /// Measures the whole table, and then prints it.
+    Buffered,
+    /// Cuts each cell to its column, as an `IterTable` that reads all rows ahead.
+    Streamed,
+    /// Wraps the cells of a table that is wider than `target` columns, with `words` between words
+    /// where possible.
+    Wrapped {
+        target: usize,
+        words: bool,
+        order: Order,
+    },
+    /// Truncates the cells of a table that is wider than `target` columns.
+    Shortened {
+        target: usize,
+        order: Order,
+    },
+}
+
+#[derive(Clone, Copy)]
+pub(crate) struct OrderPriority {
+    order: Order,
+    /// Stores the next index for `Order::Round`.
+    round: PriorityNone,
+}
+
+impl OrderPriority {
+    /// Returns a priority that hasn't shrunk anything.
+    pub fn new(order: Order) -> Self
+        ensures order { result.order ≡ order }
+        ensures kept { result.round.kept ≡ 0 }
+    {
+        OrderPriority {
+            order,
+            round: PriorityNone::new(),
+        }
+    }
+}
+
+impl Peaker for OrderPriority {
+    ghost peaks = { Names };
+
+    ghost shrinks = { Shrinks };
+
+    // Plans only shrink, so nothing is known about growing.
+    ghost grows = { λ s old by new t. Unit };
+
+    fn peak(&mut self, mins: &[usize], values: &[usize]) -> Option<usize> {
+        match self.order {
+            Order::Round => self.round.peak(mins, values),
+            Order::Least => PriorityMin::right().peak(mins, values),
+            Order::Greatest => PriorityMax::right().peak(mins, values),
+            Order::Leftmost => PriorityLeft::new().peak(mins, values),
+            Order::Rightmost => PriorityRight::new().peak(mins, values),
+        }
+    }
+
+    fn shrink(
+        &mut self,
+        mins: &[usize],
+        values: &mut [usize],
+        by: usize,
+        steps: &mut Steps,
+    ) -> usize {
+        match self.order {
+            Order::Round => self.round.shrink(mins, values, by, steps),
+            Order::Least => PriorityMin::right().shrink(mins, values, by, steps),
+            Order::Greatest => PriorityMax::right().shrink(mins, values, by, steps),
+            Order::Leftmost => PriorityLeft::new().shrink(mins, values, by, steps),
+            Order::Rightmost => PriorityRight::new().shrink(mins, values, by, steps),
+        }
+    }
+
+    ghost nothing = { λ s values mins. Shrinks-none s values mins };
+
+    ghost ends = { λ s t values mins by fits named. Shrinks-done s t values mins by named };
+
+    ghost goes_on = { λ s t u values mins new by i fits above named rest. Shrinks-step s t u values
+        mins new by i named rest };
+
+    ghost grows_nothing = { λ s values. tt };
+
+    ghost growing_ends = { λ s t values by named. tt };
+
+    ghost growing_goes_on = { λ s t u values new by i above named rest. tt };
+}
+
+impl TakesAll for OrderPriority {
+    ghost takes_all = { λ s t old mins new by h. Shrinks-takes s t old mins new by h };
+}
 
 #[derive(Clone, Copy)]
 enum Argument {

@@ -9,21 +9,19 @@
 //!
 //! Each module below has an example, which the programs `docs_tour` and `docs_gallery` run.
 //!
-//! - `rendering.rt`: `render`; `plan.rt`: its plans; `order_priority.rt`: the order of shrinking.
-//! - `program.rt`: `run`; `arguments.rt`, `fault.rt`: its arguments and failures.
-//! - `block_sink.rt`, `block_buffer.rt`: output in blocks.
+//! - `rendering`: `render`
+//! - `arguments`: the plan of `render`, and the arguments that make one
+//! - `program`: the command-line program over any reader and writers, and why a run failed
+//! - `block_sink`, `block_buffer`: output in blocks.
 #![tactic(auto)]
 
 mod arguments;
 mod block_buffer;
 mod block_sink;
-mod fault;
-mod order_priority;
-mod plan;
 mod program;
 mod rendering;
 
-pub use plan::{Order, Plan};
+pub use arguments::{Order, Plan};
 pub use program::run;
 pub use rendering::{render, render_styled};
 pub use tabled_base::{TableError, Text};

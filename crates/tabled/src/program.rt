@@ -1,22 +1,20 @@
-//! The command-line program over any reader and writers.
-ghost use Rattle.std.specs.Prelude.{◌≡◌, ◌≤◌, ◌↔◌, ◌⊎◌, IfErr, IfOk, IfSome, IsErrOf, OnOk, map};
-ghost use Rattle.std.specs.Prelude.{string_bytes};
+//! The command-line program over any reader and writers, and why a run of it failed.
 ghost use Rattle.std.specs.Io.KnownBytes.{IsAtEnd};
-ghost use Rattle.tabled_base.specs.declared.error.TableError.TheVariants.{Memory};
-ghost use Rattle.tabled.specs.declared.fault.Fault.{Fault};
-ghost use Rattle.tabled.specs.declared.fault.Fault.TheVariants.{Input, Table, Usage};
-ghost use Rattle.tabled.specs.declared.plan.Plan.{Plan};
+ghost use Rattle.std.specs.Prelude.{IfErr, IfOk, IfSome, IsErrOf, OnOk, map, string_bytes, ◌↔◌};
+ghost use Rattle.std.specs.Prelude.{◌≡◌, ◌≤◌, ◌⊎◌};
+ghost use Rattle.tabled.specs.Arguments.{SpellsPlan};
 ghost use Rattle.tabled.specs.BlockSent.{Advances, block, block_sent};
 ghost use Rattle.tabled.specs.Faults.{line_of, usage, word_of};
 ghost use Rattle.tabled.specs.Output.{Begins, PutsOutput};
 ghost use Rattle.tabled.specs.Runs.{HasFailed, HasPrinted, HasRead};
-ghost use Rattle.tabled.specs.Arguments.{SpellsPlan};
+ghost use Rattle.tabled.specs.declared.arguments.Plan.{Plan};
+ghost use Rattle.tabled.specs.declared.program.Fault.{Fault};
+ghost use Rattle.tabled.specs.declared.program.Fault.TheVariants.{Input, Table, Usage};
+ghost use Rattle.tabled_base.specs.declared.error.TableError.TheVariants.{Memory};
 
-use crate::arguments::plan_of;
+use crate::arguments::{Plan, plan_of};
 use crate::block_buffer::{BLOCK, BlockBuffer};
 use crate::block_sink::{BlockSink, BytesSince, WriterStart};
-use crate::fault::Fault;
-use crate::plan::Plan;
 use crate::rendering::render;
 use simdutf8::is_utf8;
 use std::alloc::Global;
@@ -194,5 +192,43 @@ pub fn run<I: Read, O: Write, E: Write>(
     match fault {
         Fault::Usage => 2,
         _ => 1,
+    }
+}
+
+#[derive(Debug, Drop)]
+pub(crate) enum Fault {
+    /// The arguments are wrong.
+    Usage,
+    /// Reading failed, or the input is not UTF-8.
+    Input,
+    /// An error of the library.
+    Table(TableError),
+}
+
+impl Fault {
+    /// Returns the message as a line: the name of the failure, or the usage.
+    pub fn line(&self) -> &'static str
+        ensures { result.now ≡ line_of (word_of self.now) }
+    {
+        match self {
+            Fault::Usage => {
+                "usage: tabprint [--wrap N | --cut N] [--priority none|min|max|left|right] [--words] [--stream]\n"
+            }
+            Fault::Input => "Input\n",
+            Fault::Table(TableError::Memory) => "Memory\n",
+            Fault::Table(TableError::ShortWidths) => "ShortWidths\n",
+            Fault::Table(TableError::ShortHeights) => "ShortHeights\n",
+            Fault::Table(TableError::Narrow { .. }) => "Narrow\n",
+            Fault::Table(TableError::Range) => "Range\n",
+            Fault::Table(TableError::Writer) => "Writer\n",
+        }
+    }
+}
+
+impl From<TableError> for Fault {
+    ghost from_gives = { λ error fault. fault ≡ Table error };
+
+    fn from(error: TableError) -> Fault {
+        Fault::Table(error)
     }
 }

@@ -12,12 +12,11 @@ ghost use Rattle.tabled_size.specs.Effective.{effective};
 ghost use Rattle.tabled_size.specs.Sheet.{estimated, is_empty};
 ghost use Rattle.tabled_size.specs.TextCells.{AreTexts};
 ghost use Rattle.tabled_table.specs.NewConfig.{new_config};
-ghost use Rattle.tabled.specs.declared.plan.Plan.TheVariants.{Streamed};
+ghost use Rattle.tabled.specs.declared.arguments.Plan.TheVariants.{Streamed};
 ghost use Rattle.tabled.specs.Planned.{is_plain_byte, measured};
 ghost use Rattle.tabled.specs.Rendered.{IsMade, IsRendered, IsRenderedOf};
 
-use crate::order_priority::OrderPriority;
-use crate::plan::Plan;
+use crate::arguments::{OrderPriority, Plan};
 use std::alloc::Global;
 use tabled_base::{Entity, PeekableRecords, Position, RecordsMut, TableError, TableOption};
 use tabled_config::{ColoredConfig, SpannedConfig, Style};

@@ -1,8 +1,8 @@
 -- A string that is stored inline if it is short.
 use Rattle.std.specs.Prelude.{ℕ, ◌-◌, ◌≤◌, List, length}
-use Rattle.tabled_base.specs.declared.short_or.TheConstants.{SHORT_TEXT}
-use Rattle.tabled_base.specs.declared.short_or.ShortOr.{ShortOr}
-use Rattle.tabled_base.specs.declared.short_or.ShortOr.TheVariants.{Short, Other}
+use Rattle.tabled_base.specs.declared.text.TheConstants.{SHORT_TEXT}
+use Rattle.tabled_base.specs.declared.text.ShortOr.{ShortOr}
+use Rattle.tabled_base.specs.declared.text.ShortOr.TheVariants.{Short, Other}
 
 -- the bytes of the text, by a function that gives the bytes of the other type
 abbrev pub bytes_of : {S : Type 0} → (S → List ℕ) → ShortOr S → List ℕ

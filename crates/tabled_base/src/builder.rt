@@ -10,8 +10,7 @@ ghost use Rattle.tabled_base.specs.Given.{Given};
 ghost use Rattle.tabled_base.specs.declared.error.TableError.TheVariants.{Memory};
 
 use crate::error::TableError;
-use crate::into_records::IntoRecords;
-use crate::records::CellText;
+use crate::records::{CellText, IntoRecords};
 use crate::text::Text;
 use crate::vec_records::{VecRecords, first_length};
 use std::alloc::{AllocError, Global};

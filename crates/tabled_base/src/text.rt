@@ -1,17 +1,20 @@
-//! `Text`, a string with its width and number of lines.
+//! `Text`, a string with its width and number of lines, and `ShortOr`, a string that is stored
+//! inline if it is short.
 ghost use Rattle.std.specs.Cmp.{partial_equiv_from_equiv};
 ghost use Rattle.std.specs.Cmp.Lexicographic.{nat_list_eq_equiv, pointwise};
-ghost use Rattle.std.specs.Prelude.{◌≡◌, ◌++◌, ◌<◌, ℕ, List, length, nat_eq, take, IfErr, IfOk};
+ghost use Rattle.std.specs.Prelude.{IfErr, IfOk, List, length, nat_eq, string_bytes, take, ℕ, ◌++◌};
+ghost use Rattle.std.specs.Prelude.{◌+◌, ◌<◌, ◌≡◌, ◌≤◌};
 ghost use Rattle.std.specs.Str.{IsCharBoundary};
-ghost use Rattle.tabled_base.specs.ShortOr.{FitsBehind};
+ghost use Rattle.tabled_base.specs.ShortOr.{FitsBehind, bytes_of};
 ghost use Rattle.tabled_base.specs.declared.error.TableError.TheVariants.{Memory};
 ghost use Rattle.tabled_text.specs.Measure.{lines_of, text_columns};
 
 use crate::error::TableError;
 use crate::records::CellText;
-use crate::short_or::{SHORT_TEXT, ShortOr};
-use std::alloc::Global;
+use arrayvec::ArrayString;
+use std::alloc::{AllocError, Global};
 use std::convert::AsStr;
+use std::fmt;
 use std::marker::Model;
 use tabled_text::text_measures;
 
@@ -137,4 +140,95 @@ impl<S: AsStr> PartialEq for Text<S> {
 
 impl<S: AsStr> Eq for Text<S> {
     ghost laws = { nat_list_eq_equiv };
+}
+
+/// The most bytes of a string that is stored inline. With its length it is as large as a `String`.
+pub const SHORT_TEXT: usize = 16;
+
+/// A string that is stored inline, or one of another type.
+#[derive(Drop)]
+pub(crate) enum ShortOr<S> {
+    Short(ArrayString<SHORT_TEXT>),
+    Other(S),
+}
+
+impl<S: AsStr> ShortOr<S> {
+    /// Returns the text.
+    #[inline(always)]
+    pub fn as_str(&self) -> &str
+        ensures { result.now ≡ bytes_of S.text self.now }
+    {
+        match self {
+            ShortOr::Short(short) => short.as_str(),
+            ShortOr::Other(other) => other.as_str(),
+        }
+    }
+}
+
+impl<S: AsStr + Drop> ShortOr<S> {
+    /// Truncates the text to `bytes` bytes and appends an ending. The result is stored inline.
+    pub fn end_with(&mut self, bytes: usize, ending: &str)
+        requires boundary { IsCharBoundary (bytes_of S.text self.old) bytes }
+        requires few { bytes + length ending.now ≤ SHORT_TEXT }
+        ensures { bytes_of S.text self.new ≡ take bytes (bytes_of S.text self.old) ++ ending.now }
+    {
+        let (front, _) = self.as_str().split_at(bytes);
+        let mut short = ArrayString::new();
+        short.push_str(front);
+        short.push_str(ending);
+        *self = ShortOr::Short(short);
+    }
+
+    /// Stores a short text inline and drops `text`. Stores any other as it is.
+    pub fn kept(text: S) -> ShortOr<S>
+        ensures { bytes_of S.text result ≡ S.text text }
+    {
+        match ArrayString::from(text.as_str()) {
+            Ok(short) => ShortOr::Short(short),
+            Err(_) => ShortOr::Other(text),
+        }
+    }
+}
+
+impl ShortOr<String> {
+    /// Truncates the text to `length` bytes. Never allocates.
+    pub fn shorten(&mut self, length: usize)
+        requires { IsCharBoundary (bytes_of string_bytes self.old) length }
+        ensures { bytes_of string_bytes self.new ≡ take length (bytes_of string_bytes self.old) }
+    {
+        match self {
+            ShortOr::Short(short) => short.truncate(length),
+            ShortOr::Other(other) => other.truncate(length),
+        }
+    }
+
+    /// Copies a text. Allocates only if it has more than 16 bytes, and may then fail with `Memory`.
+    pub fn copied(alloc: Global, text: &str) -> Result<ShortOr<String>, AllocError>
+        ensures ok { IfOk result (λ copy. bytes_of string_bytes copy ≡ text.now) }
+        ensures long { IfErr result (λ _. SHORT_TEXT < length text.now) }
+    {
+        match ArrayString::from(text) {
+            Ok(short) => Ok(ShortOr::Short(short)),
+            Err(_) => Ok(ShortOr::Other(String::from_str(alloc, text)?)),
+        }
+    }
+
+    /// Returns a copy. Allocates only if the text has more than 16 bytes, and may then fail with
+    /// `Memory`.
+    pub fn clone(&self) -> Result<ShortOr<String>, AllocError>
+        ensures ok { IfOk result (λ copy.
+            bytes_of string_bytes copy ≡ bytes_of string_bytes self.now) }
+        ensures long { IfErr result (λ _. SHORT_TEXT < length (bytes_of string_bytes self.now)) }
+    {
+        match self {
+            ShortOr::Short(short) => Ok(ShortOr::Short(*short)),
+            ShortOr::Other(other) => ShortOr::copied(*other.allocator(), other.as_str()),
+        }
+    }
+}
+
+impl<S: AsStr> fmt::Debug for ShortOr<S> {
+    fn fmt<W: fmt::Write>(&self, f: &mut fmt::Formatter<W>) -> fmt::Result {
+        fmt::Debug::fmt(&self.as_str(), f)
+    }
 }

@@ -7,8 +7,8 @@ use Rattle.tabled_records.specs.TextRows.{text_rows}
 use Rattle.tabled_grid.specs.Picture.{table_text}
 use Rattle.tabled_line.specs.Sent.{Sent}
 use Rattle.tabled_size.specs.Sheet.{Sheet, estimated}
-use Rattle.tabled.specs.declared.plan.Plan.{Plan}
-use Rattle.tabled.specs.declared.plan.Plan.TheVariants.{Buffered, Streamed, Wrapped, Shortened}
+use Rattle.tabled.specs.declared.arguments.Plan.{Plan}
+use Rattle.tabled.specs.declared.arguments.Plan.TheVariants.{Buffered, Streamed, Wrapped, Shortened}
 use Rattle.tabled.specs.Headline.{IsBestOf}
 use Rattle.tabled.specs.Planned.{IsPlannedOf, measured}
 use Rattle.tabled.specs.Rendered.{IsRenderedOf, PassesRange, SendsTable}

@@ -2,10 +2,10 @@
 use Rattle.std.specs.Prelude.{◌≡◌, ℕ, Bool, true, false, List, codes}
 use Rattle.tabled_config.specs.Styles.{ascii, extended, markdown, modern, no_style, psql}
 use Rattle.tabled_config.specs.declared.style.Style.{Style}
-use Rattle.tabled.specs.declared.plan.Order.{Order}
-use Rattle.tabled.specs.declared.plan.Order.TheVariants.{Round, Least, Greatest, Leftmost, Rightmost}
-use Rattle.tabled.specs.declared.plan.Plan.{Plan}
-use Rattle.tabled.specs.declared.plan.Plan.TheVariants.{Buffered, Streamed, Wrapped, Shortened}
+use Rattle.tabled.specs.declared.arguments.Order.{Order}
+use Rattle.tabled.specs.declared.arguments.Order.TheVariants.{Round, Least, Greatest, Leftmost, Rightmost}
+use Rattle.tabled.specs.declared.arguments.Plan.{Plan}
+use Rattle.tabled.specs.declared.arguments.Plan.TheVariants.{Buffered, Streamed, Wrapped, Shortened}
 
 pub data StyleName : Type 0 where
   Ascii : StyleName

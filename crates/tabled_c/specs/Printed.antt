@@ -12,7 +12,7 @@ use Rattle.tabled_text.specs.Cut.{IsCut}
 use Rattle.tabled_text.specs.Measure.{text_columns}
 use Rattle.tabled_text.specs.Breaking.{HasFewestLines}
 use Rattle.tabled_text.specs.Wrapping.{IsWrapped}
-use Rattle.tabled.specs.declared.plan.Plan.{Plan}
+use Rattle.tabled.specs.declared.arguments.Plan.{Plan}
 use Rattle.tabled.specs.Headline.{IsBestOf}
 use Rattle.tabled.specs.Planned.{IsPlannedOf}
 use Rattle.tabled.specs.Rendered.{PassesRange}

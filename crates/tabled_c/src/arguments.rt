@@ -1,7 +1,7 @@
 //! Styles by name, and plans by number.
 ghost use Rattle.std.specs.Prelude.{◌≡◌, ◌↔◌, MatchOption, Some};
-ghost use Rattle.tabled.specs.declared.plan.Order.{Order};
-ghost use Rattle.tabled.specs.declared.plan.Plan.{Plan};
+ghost use Rattle.tabled.specs.declared.arguments.Order.{Order};
+ghost use Rattle.tabled.specs.declared.arguments.Plan.{Plan};
 ghost use Rattle.tabled_c.specs.Asked.{Asks, StyleName, order_number, style_of, style_word};
 
 use tabled::settings::Style;

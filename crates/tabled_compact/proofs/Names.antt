@@ -19,7 +19,7 @@ pub use Rattle.tabled_compact.specs.Fitting.{fitting_width, widest_cell}
 pub use Rattle.tabled_compact.specs.Printed.{IsFailure, PrintsCompact}
 pub use Rattle.tabled_compact.specs.RowsPut.{PutsRows}
 pub use Rattle.tabled_compact.specs.Shown.{IsSpent, has_rows, in_window, spanned, window_after}
-pub use Rattle.tabled_compact.specs.declared.window.Window.{Window}
+pub use Rattle.tabled_compact.specs.declared.columns.Window.{Window}
 pub use Rattle.tabled_line.proofs.Leading.{lines-finished, lines-stopped-first}
 pub use Rattle.tabled_line.proofs.Sending.{finished, further, stopped, stopped-first}
 pub use Rattle.tabled_line.specs.Leading.{WritesLines, begun_after}

@@ -7,7 +7,7 @@ use Rattle.tabled_line.specs.WriterSent.{known_since, writer_after, writer_befor
 use Rattle.tabled_compact.specs.CompactCells.{CompactSheet}
 use Rattle.tabled_compact.specs.CompactLines.{compact_text, compact_width, rows_text}
 use Rattle.tabled_compact.specs.Shown.{AreEnough, AreWanted, has_rows, shown}
-use Rattle.tabled_compact.specs.declared.window.Window.{Window}
+use Rattle.tabled_compact.specs.declared.columns.Window.{Window}
 
 -- why printing a table that shows a row fails: a width is missing; or none is, and the total width
 -- exceeds the greatest `usize`

@@ -6,7 +6,7 @@ use Rattle.tabled_line.specs.Sent.{Sent}
 use Rattle.tabled_compact.specs.CompactCells.{CompactSheet}
 use Rattle.tabled_compact.specs.CompactLines.{rows_lines}
 use Rattle.tabled_compact.specs.Shown.{has_rows, in_window, spanned}
-use Rattle.tabled_compact.specs.declared.window.Window.{Window}
+use Rattle.tabled_compact.specs.declared.columns.Window.{Window}
 
 -- the rows that were read are all, or as many as the window spans
 abbrev pub IsSpanned : Window → List (List (List ℕ)) → Bool → Type 0

@@ -1,6 +1,6 @@
 -- Which rows of a source are shown, and how many of them are read.
 use Rattle.std.specs.Prelude.{◌≡◌, ◌==◌, ◌≤◌, ◌+◌, ◌-◌, ◌⊎◌, ℕ, zero, suc, Bool, false, true, if◌then◌else◌, List, [], ◌∷◌, drop, take, length, map, Option, Some, None, IfSome}
-use Rattle.tabled_compact.specs.declared.window.Window.{Window}
+use Rattle.tabled_compact.specs.declared.columns.Window.{Window}
 
 -- the first rows, if their number is limited
 abbrev pub first_rows : {A : Type 0} → Option ℕ → List A → List A

@@ -1,15 +1,15 @@
-//! The columns of a compact table, and the cells in them.
-ghost use Rattle.std.specs.Prelude.{◌≡◌, ◌<◌, ◌≤◌, ◌+◌, ℕ, Bool, List, [], if◌then◌else◌, length};
-ghost use Rattle.std.specs.Prelude.{min, nat_lt, IfOk, IfErr, OnOk};
+//! The columns of a compact table, the cells in them, and which rows of a source are shown.
 ghost use Rattle.std.specs.List.{slice_index};
+ghost use Rattle.std.specs.Prelude.{Bool, IfErr, IfOk, IsTrue, List, OnOk, [], if◌then◌else◌};
+ghost use Rattle.std.specs.Prelude.{length, min, nat_lt, ℕ, ◌+◌, ◌<◌, ◌==◌, ◌↔◌, ◌≡◌, ◌≤◌};
 ghost use Rattle.tabled_base.specs.declared.error.TableError.TheVariants.{ShortWidths};
+ghost use Rattle.tabled_compact.specs.CompactCells.{CompactSheet, columns_of, compact_piece};
+ghost use Rattle.tabled_compact.specs.CompactCells.{free_columns, sheet_by};
+ghost use Rattle.tabled_compact.specs.CompactLines.{part_front, row_part};
 ghost use Rattle.tabled_config.specs.Frame.{frame_of};
 ghost use Rattle.tabled_line.specs.Leading.{lines_after};
 ghost use Rattle.tabled_line.specs.Sent.{Sends, Sent, Writes};
 ghost use Rattle.tabled_size.specs.Reached.{reached};
-ghost use Rattle.tabled_compact.specs.CompactCells.{CompactSheet, columns_of, compact_piece};
-ghost use Rattle.tabled_compact.specs.CompactCells.{free_columns, sheet_by};
-ghost use Rattle.tabled_compact.specs.CompactLines.{part_front, row_part};
 
 use std::marker::Model;
 use tabled_base::{CellText, TableError};
@@ -168,5 +168,36 @@ impl<'a, D: Dimension> TableColumns for CompactColumns<'a, D> {
 
     fn alike_from(&self) -> usize {
         self.dimension.alike_from().unwrap_or(self.count)
+    }
+}
+
+/// Some rows of a source: those after the skipped ones, at most `limit` if there is one.
+#[derive(Debug, Clone, Copy, PartialEq, Eq)]
+pub struct Window {
+    /// The number of rows that are skipped.
+    pub skip: usize,
+    /// The greatest number of rows that are shown after them.
+    pub limit: Option<usize>,
+}
+
+impl Window {
+    ghost use Rattle.tabled_compact.specs.Shown.{IsSpent, window_after};
+
+    pub(crate) fn is_spent(&self) -> bool
+        ensures { IsTrue result ↔ IsSpent self.now }
+    {
+        self.limit == Some(0)
+    }
+
+    pub(crate) fn take_row(&mut self) -> bool
+        ensures shown { result ≡ (self.old.skip == 0) }
+        ensures left { self.new ≡ window_after self.old 1 }
+    {
+        if self.skip > 0 {
+            self.skip -= 1;
+            return false;
+        }
+        self.limit = self.limit.map(|left| left.saturating_sub(1));
+        true
     }
 }

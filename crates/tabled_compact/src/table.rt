@@ -11,10 +11,9 @@ ghost use Rattle.tabled_size.specs.declared.const_dimension.ConstSize.TheVariant
 ghost use Rattle.tabled_compact.specs.Fitting.{IsTableOf};
 ghost use Rattle.tabled_compact.specs.Printed.{BuildsCompact, IsEnded, IsPrinted, PrintsCompact};
 
-use crate::fitting::CellRows;
-use crate::print::print_compact;
-use crate::sizes::{SetHeight, SetWidth};
-use crate::window::Window;
+use crate::columns::Window;
+use crate::rows::print_compact;
+use crate::sizes::{CellRows, SetHeight, SetWidth};
 use std::alloc::Global;
 use std::io::Write;
 use tabled_base::{CellText, IntoRecords, TableError, TableOption};

@@ -2,11 +2,11 @@
 use Rattle.std.specs.Prelude.{◌≡◌, false, []}
 use Rattle.tabled_config.specs.declared.alignment.AlignmentHorizontal.TheVariants.{Left}
 use Rattle.tabled_config.specs.declared.alignment.AlignmentVertical.TheVariants.{Top}
-use Rattle.tabled_config.specs.declared.ansi.ANSIStr.{ANSIStr}
+use Rattle.tabled_config.specs.declared.colored.ANSIStr.{ANSIStr}
 use Rattle.tabled_config.specs.declared.sides.Indent.{Indent}
 use Rattle.tabled_config.specs.declared.sides.Sides.{Sides}
 use Rattle.tabled_config.specs.declared.compact.CompactConfig.{CompactConfig}
-use Rattle.tabled_config.specs.declared.compact_multiline.CompactMultilineConfig.{CompactMultilineConfig}
+use Rattle.tabled_config.specs.declared.compact.CompactMultilineConfig.{CompactMultilineConfig}
 use Rattle.tabled_config.specs.Frame.{no_borders}
 
 -- the same value on each side

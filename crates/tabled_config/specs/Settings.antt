@@ -7,7 +7,7 @@ use Rattle.tabled_base.specs.declared.position.Entity.{Entity}
 use Rattle.tabled_config.specs.declared.borders.HorizontalLine.{HorizontalLine}
 use Rattle.tabled_config.specs.declared.alignment.AlignmentHorizontal.{AlignmentHorizontal}
 use Rattle.tabled_config.specs.declared.alignment.AlignmentVertical.{AlignmentVertical}
-use Rattle.tabled_config.specs.declared.frame.Frame.{Frame}
+use Rattle.tabled_config.specs.declared.borders.Frame.{Frame}
 use Rattle.tabled_config.specs.declared.sides.Indent.{Indent}
 use Rattle.tabled_config.specs.declared.sides.Sides.{Sides}
 use Rattle.tabled_config.specs.declared.spanned.CellStyle.{CellStyle}

@@ -3,7 +3,7 @@ use Rattle.std.specs.Prelude.{false, []}
 use Rattle.tabled_config.specs.declared.alignment.AlignmentHorizontal.TheVariants.{Left}
 use Rattle.tabled_config.specs.declared.alignment.AlignmentVertical.TheVariants.{Top}
 use Rattle.tabled_config.specs.declared.compact.CompactConfig.{CompactConfig}
-use Rattle.tabled_config.specs.declared.compact_multiline.CompactMultilineConfig.{CompactMultilineConfig}
+use Rattle.tabled_config.specs.declared.compact.CompactMultilineConfig.{CompactMultilineConfig}
 use Rattle.tabled_config.specs.declared.spanned.SpannedConfig.{SpannedConfig}
 use Rattle.tabled_entity.specs.Changes.{for_all}
 use Rattle.tabled_config.specs.Compact.{each_side, no_indent}

@@ -1,8 +1,22 @@
-//! The characters of a frame, and which of its lines are drawn.
-ghost use Rattle.std.specs.Prelude.{◌≡◌};
-ghost use Rattle.tabled_config.specs.Frame.{border_at, has_inner, has_left, has_right, if_any};
-ghost use Rattle.tabled_config.specs.Frame.{no_borders};
+//! The characters of a border (`Borders`) and of one horizontal line (`HorizontalLine`), the
+//! vertical lines and the margin as printers read them (`Frame`), and the horizontal lines that are
+//! set by index.
+ghost use Rattle.std.specs.Cmp.{and_equiv, and_per, nat_eq_equiv, on_equiv, on_per};
+ghost use Rattle.std.specs.Cmp.{partial_equiv_from_equiv};
+ghost use Rattle.std.specs.Cmp.Lexicographic.{lists_equiv, lists_per, pointwise};
+ghost use Rattle.std.specs.Prelude.{IfOk, None, OnErr, OnOk, Some, [], if◌then◌else◌, nat_eq, ℕ};
+ghost use Rattle.std.specs.Prelude.{◌&&◌, ◌==◌, ◌≡◌};
+ghost use Rattle.tabled_config.specs.Frame.{border_at, frame_of, has_bar, has_inner, has_left};
+ghost use Rattle.tabled_config.specs.Frame.{has_right, if_any, no_borders, vertical_line};
 ghost use Rattle.tabled_config.specs.Junction.{junction};
+ghost use Rattle.tabled_config.specs.Lines.{line_set, with_line};
+ghost use Rattle.tabled_config.specs.contracts.borders.HorizontalLineEq.TheImpl.Laws.{laws-law as line_eq};
+ghost use Rattle.tabled_config.specs.contracts.borders.HorizontalLinePartialEq.TheImpl.Laws.{laws-law as line_per};
+
+use crate::sides::{Indent, Sides};
+use std::alloc::{AllocError, Global};
+use std::collections::BTreeMap;
+use std::marker::Model;
 
 /// The fifteen parts of a frame. A part that isn't set is a space if its line is drawn.
 #[derive(Clone, Copy, Debug, PartialEq, Eq, PartialOrd, Ord, Hash)]
@@ -171,4 +185,123 @@ impl Borders<char> {
         };
         line.if_any()
     }
+}
+
+/// One vertical line of a frame.
+#[derive(Clone, Copy, Debug, PartialEq, Eq)]
+pub struct VerticalLine {
+    /// Whether the line is drawn. It then takes one column of each line of the table.
+    pub there: bool,
+    /// Its character in the lines of rows; a space if none is set.
+    pub main: char,
+}
+
+impl VerticalLine {
+    fn new(there: bool, main: Option<char>) -> VerticalLine
+        ensures { result ≡ vertical_line there main }
+    {
+        let main = main.unwrap_or(' ');
+        VerticalLine { there, main }
+    }
+}
+
+/// The margin and the vertical lines of a table.
+#[derive(Clone, Copy, Debug, PartialEq, Eq)]
+pub struct Frame {
+    /// The margin around the table.
+    pub margin: Sides<Indent>,
+    /// The line before the first column.
+    pub left: VerticalLine,
+    /// The lines between columns.
+    pub inner: VerticalLine,
+    /// The line after the last column.
+    pub right: VerticalLine,
+}
+
+impl Frame {
+    /// Builds the frame from borders and a margin.
+    pub fn new(borders: &Borders<char>, margin: Sides<Indent>) -> Frame
+        ensures { result ≡ frame_of borders.now margin }
+    {
+        Frame {
+            margin,
+            left: VerticalLine::new(borders.has_left(), borders.left),
+            inner: VerticalLine::new(borders.has_inner(), borders.vertical),
+            right: VerticalLine::new(borders.has_right(), borders.right),
+        }
+    }
+
+    /// Whether a vertical line separates `column` from the one before it. The left line doesn't
+    /// count.
+    pub fn has_bar(&self, column: usize) -> bool
+        ensures { result ≡ has_bar self.now column }
+    {
+        column != 0 && self.inner.there
+    }
+}
+
+/// Horizontal lines by index.
+#[derive(Debug, Drop)]
+pub struct HorizontalLines {
+    lines: BTreeMap<usize, HorizontalLine>,
+}
+
+impl Model for HorizontalLines {
+    ghost use Rattle.std.specs.Prelude.{ℕ, List};
+    ghost use Rattle.tabled_config.specs.declared.borders.HorizontalLine.{HorizontalLine};
+
+    ghost Value = { List (ℕ × HorizontalLine) };
+
+    ghost view = { λ l. l.lines.entries };
+}
+
+impl HorizontalLines {
+    pub fn new(alloc: Global) -> HorizontalLines
+        ensures { result ≡ [] }
+    {
+        let lines = BTreeMap::new(alloc);
+        HorizontalLines { lines }
+    }
+
+    pub fn clone(&self) -> Result<HorizontalLines, AllocError>
+        ensures { IfOk result (λ copy. copy ≡ self.now) }
+    {
+        let lines = self.lines.clone()?;
+        Ok(HorizontalLines { lines })
+    }
+
+    /// Sets the line at an index. Replacing a line doesn't allocate. On failure nothing changes.
+    pub fn insert(&mut self, index: usize, line: HorizontalLine) -> Result<(), AllocError>
+        ensures ok { OnOk result (self.new ≡ with_line self.old index line) }
+        ensures latest { OnOk result ((i : ℕ) → line_set self.new i
+            ≡ (if index == i then Some line else line_set self.old i)) }
+        ensures err { OnErr result (self.new ≡ self.old) }
+        ensures absent { OnErr result (line_set self.old index ≡ None) }
+    {
+        self.lines.insert(index, line)?;
+        Ok(())
+    }
+
+    pub fn get(&self, index: usize) -> Option<HorizontalLine>
+        ensures { result ≡ line_set self.now index }
+    {
+        self.lines.get(&index).copied()
+    }
+}
+
+impl PartialEq for HorizontalLines {
+    ghost eq = { λ a b. pointwise (λ p q. nat_eq p.0 q.0
+        && ⟦<HorizontalLine as PartialEq>⟧.eq p.1 q.1) a b };
+
+    ghost laws = { lists_per (and_per (on_per (λ p. p.0) (partial_equiv_from_equiv nat_eq_equiv))
+        (on_per (λ p. p.1) line_per)) };
+
+    fn eq(&self, other: &HorizontalLines) -> bool {
+        self.lines == other.lines
+    }
+}
+
+impl Eq for HorizontalLines {
+    ghost laws = { lists_equiv (and_equiv (on_equiv (λ p. p.0) nat_eq_equiv)
+        (on_equiv (λ p. p.1) line_eq)) };
 }

@@ -8,8 +8,7 @@ ghost use Rattle.tabled_config.specs.Options.{Becomes, Stays, colored, with_styl
 ghost use Rattle.tabled_config.specs.Spanned.{spanned_of_compact};
 
 use crate::colored::ColoredConfig;
-use crate::compact::CompactConfig;
-use crate::compact_multiline::CompactMultilineConfig;
+use crate::compact::{CompactConfig, CompactMultilineConfig};
 use crate::spanned::SpannedConfig;
 use crate::style::Style;
 use tabled_base::{Entity, TableError, TableOption};

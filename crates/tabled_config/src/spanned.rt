@@ -4,16 +4,12 @@ ghost use Rattle.std.specs.Prelude.{OnOk, Some, []};
 ghost use Rattle.tabled_base.specs.declared.error.TableError.TheVariants.{Memory};
 ghost use Rattle.tabled_config.specs.Lines.{line_set, with_line};
 
-mod alike;
-mod cell_settings;
+mod entity_settings;
 mod row_styles;
 
 use crate::alignment::{AlignmentHorizontal, AlignmentVertical};
-use crate::borders::{Borders, HorizontalLine};
-use crate::compact::CompactConfig;
-use crate::compact_multiline::CompactMultilineConfig;
-use crate::frame::Frame;
-use crate::lines_by_index::HorizontalLines;
+use crate::borders::{Borders, Frame, HorizontalLine, HorizontalLines};
+use crate::compact::{CompactConfig, CompactMultilineConfig};
 use crate::sides::{Indent, Sides};
 use crate::style::Style;
 pub use row_styles::{RowStyles, SetStyles};

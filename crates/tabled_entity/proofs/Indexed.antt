@@ -6,7 +6,7 @@ use Rattle.std.proofs.Common.{cond, is_some}
 use Rattle.std.proofs.lemmas.List.{reverse-reverse, get_or-reverse}
 use Rattle.std.proofs.lemmas.Bool.{both_ways}
 use Rattle.std.specs.Option.{option_map, unwrap_or}
-use Rattle.tabled_entity.specs.declared.change_index.ChangeIndex.{ChangeIndex}
+use Rattle.tabled_entity.specs.declared.row_values.ChangeIndex.{ChangeIndex}
 use Rattle.tabled_entity.specs.Changes.{if_unparted}
 use Rattle.tabled_entity.specs.ChangeIndex.{AreParts, IsPart, IsReindexed, found}
 use Rattle.tabled_entity.proofs.Covering.{IsBelow, latest_place, below-latest_place, none-before, said_at, said_at-latest}

@@ -3,7 +3,7 @@ use Rattle.std.specs.Prelude.{ℕ, ◌≡◌, ◌==◌, ◌&&◌, if◌then◌el
 use Rattle.tabled_base.specs.declared.position.Entity.{Entity}
 use Rattle.tabled_base.specs.declared.position.Entity.TheVariants.{Global, Row, Column, Cell}
 use Rattle.tabled_entity.specs.RunMap.{cell_in, value_in}
-use Rattle.tabled_entity.specs.declared.change_index.ChangeIndex.{ChangeIndex}
+use Rattle.tabled_entity.specs.declared.row_values.ChangeIndex.{ChangeIndex}
 
 abbrev pub same : Entity → Entity → Bool
 same Global Global = true

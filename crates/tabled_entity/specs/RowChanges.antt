@@ -4,8 +4,8 @@ use Rattle.std.specs.Borrow.{Bor}
 use Rattle.std.specs.Option.{option_and_then}
 use Rattle.tabled_entity.specs.ChangeIndex.{later}
 use Rattle.tabled_entity.specs.RunMap.{in_dense, value_in}
-use Rattle.tabled_entity.specs.declared.row_changes.RowChanges.{RowChanges}
-use Rattle.tabled_entity.specs.declared.row_changes.RowChanges.TheVariants.{Mixed, Run, Same}
+use Rattle.tabled_entity.specs.declared.row_values.RowChanges.{RowChanges}
+use Rattle.tabled_entity.specs.declared.row_values.RowChanges.TheVariants.{Mixed, Run, Same}
 use Rattle.tabled_entity.specs.declared.run_map.RunMap.{RunMap}
 
 -- the change for a cell of the row, by its column

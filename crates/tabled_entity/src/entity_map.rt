@@ -8,8 +8,7 @@ ghost use Rattle.tabled_entity.specs.Changes.{for_all, setting_at, shared, with_
 ghost use Rattle.tabled_entity.specs.ChangeIndex.{AreParts, IsIndexed, IsPart, IsWhole};
 ghost use Rattle.tabled_entity.specs.RowValues.{value_at};
 
-use crate::change_index::ChangeIndex;
-use crate::row_values::RowValues;
+use crate::row_values::{ChangeIndex, RowValues};
 use std::alloc::{AllocError, Global};
 use std::marker::Model;
 use tabled_base::Entity;

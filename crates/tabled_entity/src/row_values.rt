@@ -1,10 +1,153 @@
-//! `RowValues`, the values of a row's cells.
-ghost use Rattle.std.specs.Prelude.{◌≡◌, ℕ, IfSome};
-ghost use Rattle.tabled_entity.specs.RowChanges.{latest_at};
+//! The values of the cells of a row (`RowValues`), by the latest changes that cover them
+//! (`RowChanges`), which an index finds in the list of changes (`ChangeIndex`).
+ghost use Rattle.std.specs.Prelude.{IfSome, OnErr, OnOk, true, ℕ, ◌≡◌};
+ghost use Rattle.tabled_base.specs.declared.position.Entity.TheVariants.{Column};
+ghost use Rattle.tabled_entity.specs.ChangeIndex.{HasNone, IsPart, IsReindexed, SamePlaces, found};
+ghost use Rattle.tabled_entity.specs.ChangeIndex.{later, latest};
+ghost use Rattle.tabled_entity.specs.RowChanges.{latest_at, latest_of};
 ghost use Rattle.tabled_entity.specs.RowValues.{value_at, value_of};
 
-use crate::row_changes::RowChanges;
+use crate::run_map::{RunMap, in_dense};
+use std::alloc::{AllocError, Global};
 use tabled_base::Entity;
+
+/// For rows, columns and cells, the index of the latest change in the list of changes.
+#[derive(Debug, Drop)]
+pub(crate) struct ChangeIndex {
+    rows: RunMap<usize>,
+    columns: RunMap<usize>,
+    // By row, then by column.
+    cells: RunMap<RunMap<usize>>,
+}
+
+impl ChangeIndex {
+    pub fn new(alloc: Global) -> ChangeIndex
+        ensures { HasNone result }
+    {
+        ChangeIndex {
+            rows: RunMap::new(alloc),
+            columns: RunMap::new(alloc),
+            cells: RunMap::new(alloc),
+        }
+    }
+
+    pub fn clear(&mut self)
+        ensures { HasNone self.new }
+    {
+        self.rows.clear();
+        self.columns.clear();
+        self.cells.clear();
+    }
+
+    /// Stores the index of the latest change for an entity other than the entire table. If an
+    /// allocation fails, no entry changes.
+    pub fn insert(&mut self, entity: Entity, place: usize) -> Result<(), AllocError>
+        requires { IsPart entity }
+        ensures ok { OnOk result (IsReindexed self.old self.new entity place) }
+        ensures err { OnErr result (SamePlaces self.old self.new) }
+    {
+        match entity {
+            Entity::Global => unreachable!(),
+            Entity::Row(row) => self.rows.insert(row, place),
+            Entity::Column(column) => self.columns.insert(column, place),
+            Entity::Cell(row, column) => self.cells.insert_cell(row, column, place),
+        }
+    }
+
+    #[inline(always)]
+    pub fn in_row(&self, row: usize) -> RowChanges<'_>
+        ensures { (column : ℕ) → latest_at result column ≡ latest (found self.now) row column }
+    {
+        let of_row = self.rows.get(row).copied();
+        // Two tests in place of a lookup and more, since many tables have only settings of rows.
+        if self.columns.is_empty() && self.cells.is_empty() {
+            return RowChanges::Same(of_row);
+        }
+        RowChanges::new(of_row, &self.columns, self.cells.get(row))
+    }
+
+    /// Whether there is no entry for a row, nor for one of its cells.
+    #[inline(always)]
+    pub fn is_plain(&self, row: usize) -> bool
+        ensures { result ≡ true → (column : ℕ)
+            → latest (found self.now) row column ≡ found self.now (Column column) }
+    {
+        self.rows.get(row).is_none() && self.cells.get(row).is_none()
+    }
+
+    /// Whether all rows are known to have the same latest change in each column: there is no entry
+    /// for any row or cell.
+    pub fn are_all_alike(&self) -> bool
+        ensures { result ≡ true → (row other column : ℕ)
+            → latest (found self.now) row column ≡ latest (found self.now) other column }
+    {
+        self.cells.is_empty() && self.rows.is_empty()
+    }
+}
+
+/// The latest changes that cover the cells of a row, by their indices in the list of changes.
+#[derive(Clone, Copy)]
+pub(crate) enum RowChanges<'a> {
+    /// One change for all cells, or none.
+    Same(Option<usize>),
+    /// Changes for a dense run of cells, from this column on, and no others. A lookup is one index.
+    Run(usize, &'a [usize]),
+    /// The change for the row, those for columns, and those for the row's cells.
+    Mixed(Option<usize>, &'a RunMap<usize>, Option<&'a RunMap<usize>>),
+}
+
+/// Returns the later of two changes, by their indices.
+#[inline(always)]
+fn later(a: Option<usize>, b: Option<usize>) -> Option<usize>
+    ensures { result ≡ later a b }
+{
+    match (a, b) {
+        (Some(i), Some(j)) => Some(i.max(j)),
+        (Some(i), None) => Some(i),
+        (None, other) => other,
+    }
+}
+
+impl<'a> RowChanges<'a> {
+    /// Makes the changes from the one for the row, those for columns and those for its cells.
+    #[inline(always)]
+    pub fn new(
+        row: Option<usize>,
+        columns: &'a RunMap<usize>,
+        cells: Option<&'a RunMap<usize>>,
+    ) -> RowChanges<'a>
+        ensures { (column : ℕ) → latest_at result column
+            ≡ latest_of row columns.now cells.entry column }
+    {
+        if !columns.is_empty() {
+            return RowChanges::Mixed(row, columns, cells);
+        }
+        match (row, cells) {
+            (_, None) => RowChanges::Same(row),
+            (None, Some(map)) => match map.only_run() {
+                Some((first, places)) => RowChanges::Run(first, places),
+                None => RowChanges::Mixed(row, columns, cells),
+            },
+            _ => RowChanges::Mixed(row, columns, cells),
+        }
+    }
+
+    /// Returns the latest change that covers the cell in a column.
+    #[inline(always)]
+    pub fn at(&self, column: usize) -> Option<usize>
+        ensures { result ≡ latest_at self.now column }
+    {
+        match self {
+            RowChanges::Same(place) => *place,
+            RowChanges::Run(first, places) => in_dense(*first, *places, column).copied(),
+            RowChanges::Mixed(row, columns, cells) => {
+                let of_column = columns.get(column).copied();
+                let of_cell = cells.and_then(|map| map.get(column).copied());
+                later(*row, later(of_column, of_cell))
+            }
+        }
+    }
+}
 
 /// The values of a row's cells, by the latest change for each.
 #[derive(Clone, Copy)]

@@ -1,14 +1,11 @@
 //! `ExtendedTable` prints each record as a header and a line for each field.
 //!
-//! - `extended_table.rt`: `ExtendedTable`; `making.rt`: tables from values or rows.
-//! - `printing.rt`: the lines of records; `template.rt`: the header of a record.
-//! - `truncating.rt`: truncated records.
-//! - `escaping.rt`: escapes control characters, quotes and backslashes.
+//! - `extended_table`: `ExtendedTable`, its texts and settings, and how it is made.
+//! - `printing`: the lines of a table, and the texts in them, escaped.
+//! - `truncating`: truncated records.
 #![tactic(auto)]
 
-mod escaping;
 mod extended_table;
-mod making;
 mod printing;
 mod template;
 mod truncating;

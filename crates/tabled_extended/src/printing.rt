@@ -1,25 +1,73 @@
-//! Printing the lines of records.
-ghost use Rattle.std.specs.Prelude.{◌≡◌, ◌⊎◌, ◌≤◌, ◌<◌, ◌+◌, ◌-◌, ◌^◌, ◌∷◌, ◌++◌, [], ℕ, List};
-ghost use Rattle.std.specs.Prelude.{IfErr, IfOk, IfNone, IfSome, OnOk, false, length, map};
-ghost use Rattle.std.specs.Prelude.{min, slice_index_or, string_bytes, true};
+//! Prints the records of an extended table, in which line feeds and other control characters are
+//! escaped.
+ghost use Rattle.std.specs.Cow.{cow_str_bytes};
 ghost use Rattle.std.specs.List.{zip};
+ghost use Rattle.std.specs.Prelude.{IfErr, IfNone, IfOk, IfSome, List, OnOk, [], false, length};
+ghost use Rattle.std.specs.Prelude.{map, min, slice_index_or, string_bytes, true, ℕ, ◌++◌, ◌+◌};
+ghost use Rattle.std.specs.Prelude.{◌-◌, ◌<◌, ◌^◌, ◌∷◌, ◌≡◌, ◌≤◌, ◌⊎◌};
 ghost use Rattle.tabled_base.specs.Cells.{row_texts};
 ghost use Rattle.tabled_base.specs.declared.error.TableError.TheVariants.{Memory, Range};
+ghost use Rattle.tabled_extended.specs.Escaped.{escape, escaped};
+ghost use Rattle.tabled_extended.specs.PrintedRecords.{IsTooWide, PrintsRecord, PrintsRecords};
+ghost use Rattle.tabled_extended.specs.RecordLines.{AreRecordLines, header, record_lines};
+ghost use Rattle.tabled_extended.specs.RecordLines.{rule_behind, text_of, title, value_line};
+ghost use Rattle.tabled_extended.specs.RecordLines.{widest, widest_value};
 ghost use Rattle.tabled_line.specs.Fill.{fill};
 ghost use Rattle.tabled_line.specs.Leading.{WritesLines};
 ghost use Rattle.tabled_line.specs.Sent.{Sent, Writes};
 ghost use Rattle.tabled_text.specs.Measure.{text_columns};
-ghost use Rattle.tabled_extended.specs.RecordLines.{AreRecordLines, header, record_lines};
-ghost use Rattle.tabled_extended.specs.RecordLines.{rule_behind, text_of, title, value_line};
-ghost use Rattle.tabled_extended.specs.RecordLines.{widest, widest_value};
-ghost use Rattle.tabled_extended.specs.PrintedRecords.{IsTooWide, PrintsRecord, PrintsRecords};
 
 use crate::extended_table::ExtendedTable;
 use crate::template::Template;
+use std::alloc::{AllocError, Global};
+use std::borrow::CowStr;
 use std::fmt;
 use tabled_base::{CellText, TableError, Text};
 use tabled_line::{TextSink, write_break, write_fill};
 use tabled_text::{line_width, lines};
+
+fn push_escaped(text: &mut String, c: char) -> Result<(), AllocError>
+    ensures { OnOk result (string_bytes text.new ≡ string_bytes text.old ++ escape c) }
+{
+    match c {
+        '"' | '\'' | '\\' => {
+            text.push('\\')?;
+            text.push(c)
+        }
+        '\t' => text.push_str("\\t"),
+        '\r' => text.push_str("\\r"),
+        '\n' => text.push_str("\\n"),
+        '\0' => text.push_str("\\0"),
+        _ if c.is_control() => {
+            let code = format!(in *text.allocator(); "\\u{{{:x}}}", c as u32)?;
+            text.push_str(&code)
+        }
+        _ => text.push(c),
+    }
+}
+
+pub(crate) fn escaped(alloc: Global, text: &str) -> Result<String, AllocError>
+    ensures { IfOk result (λ answer. string_bytes answer ≡ escaped text.now) }
+{
+    let mut answer = String::new(alloc);
+    'characters: for c in text.chars() {
+        push_escaped(&mut answer, c)?;
+    }
+    Ok(answer)
+}
+
+pub(crate) fn escaped_texts(
+    alloc: Global,
+    texts: Vec<CowStr<'_>>,
+) -> Result<Vec<Text<String>>, AllocError>
+    ensures { IfOk result (λ row. row.items ≡ map escaped (map cow_str_bytes texts.entry.items)) }
+{
+    let mut row = Vec::with_capacity(alloc, texts.len())?;
+    'texts: for text in texts {
+        row.push(Text::new(escaped(alloc, &text)?))?;
+    }
+    Ok(row)
+}
 
 /// The columns of the widest field and of the widest value.
 #[derive(Clone, Copy)]

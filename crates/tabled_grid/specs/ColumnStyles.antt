@@ -4,8 +4,8 @@ use Rattle.std.specs.List.{range_with_len, slice_index}
 use Rattle.tabled_config.specs.Settings.{frame, style_at}
 use Rattle.tabled_config.specs.declared.spanned.CellStyle.{CellStyle}
 use Rattle.tabled_config.specs.declared.spanned.SpannedConfig.{SpannedConfig}
-use Rattle.tabled_grid.specs.declared.column_placements.ColumnPlacements.{ColumnPlacements}
-use Rattle.tabled_grid.specs.declared.column_placements.ColumnPlacements.TheVariants.{Each, Few}
+use Rattle.tabled_grid.specs.declared.column_styles.ColumnPlacements.{ColumnPlacements}
+use Rattle.tabled_grid.specs.declared.column_styles.ColumnPlacements.TheVariants.{Each, Few}
 use Rattle.tabled_grid.specs.declared.column_styles.ColumnStyles.{ColumnStyles}
 use Rattle.tabled_line.specs.Placements.{ArePlacements}
 use Rattle.tabled_line.specs.Row.{ColumnSheet}

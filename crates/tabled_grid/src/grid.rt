@@ -1,22 +1,26 @@
-//! A table to print: records, settings and sizes.
-ghost use Rattle.std.specs.Prelude.{◌≡◌, ◌<◌, ℕ, IfSome, length};
+//! `Grid`, which is records with their settings and sizes, and its columns and rows as
+//! `tabled_line` reads them.
 ghost use Rattle.std.specs.List.{slice_index};
+ghost use Rattle.std.specs.Prelude.{IfSome, length, ℕ, ◌<◌, ◌≡◌};
 ghost use Rattle.tabled_base.specs.Cells.{columns};
 ghost use Rattle.tabled_config.specs.RowStyles.{style_in};
 ghost use Rattle.tabled_config.specs.Settings.{frame, rule_at, style_at};
 ghost use Rattle.tabled_grid.specs.ColumnStyles.{AreStyles};
 ghost use Rattle.tabled_grid.specs.Grid.{sheet_by};
-ghost use Rattle.tabled_grid.specs.Picture.{columns_of};
+ghost use Rattle.tabled_grid.specs.Picture.{columns_of, row_of};
 ghost use Rattle.tabled_line.specs.Placements.{ArePlacements, IsUniform};
+ghost use Rattle.tabled_size.specs.Holds.{IsSized};
 ghost use Rattle.tabled_size.specs.Reached.{reached};
 ghost use Rattle.tabled_size.specs.Sheet.{Sheet};
 
 use crate::column_styles::ColumnStyles;
 use std::alloc::Global;
 use std::marker::Model;
-use tabled_base::PeekableRecords;
+use tabled_base::{PeekableRecords, Position};
 use tabled_config::{CellStyle, Frame, HorizontalLine, RowStyles, SpannedConfig};
-use tabled_line::{ColumnSeparator, Placement, UniformPlacement};
+use tabled_line::{
+    ColumnSeparator, Content, KnownPlacements, Placement, Row, TableColumns, UniformPlacement,
+};
 use tabled_size::Dimension;
 
 /// Records, settings and sizes, with what is looked up once for all rows. Contracts see them as a
@@ -127,5 +131,110 @@ impl<'a, R: PeekableRecords, D: Dimension> Grid<'a, R, D> {
         ensures { result ≡ slice_index self.now.widths column }
     {
         self.dimension.get_width(column)
+    }
+}
+
+/// The columns of a grid whose sizes are complete.
+#[derive(Drop)]
+pub(crate) struct GridColumns<'a, R: PeekableRecords, D: Dimension> {
+    /// The grid.
+    pub grid: &'a Grid<'a, R, D>,
+    ghost sized: { IsSized grid.now },
+}
+
+impl<'a, R: PeekableRecords, D: Dimension> TableColumns for GridColumns<'a, R, D> {
+    ghost sheet = { λ c. columns_of c.grid.now };
+
+    fn count_columns(&self) -> usize {
+        let grid = self.grid;
+        grid.records.count_columns()
+    }
+
+    fn width(&self, column: usize) -> usize {
+        self.grid.width(column)
+    }
+
+    fn frame(&self) -> &Frame {
+        let grid = self.grid;
+        &grid.around
+    }
+}
+
+/// A row of a grid whose sizes are complete.
+#[derive(Drop)]
+pub(crate) struct GridRow<'a, R: PeekableRecords, D: Dimension> {
+    /// The grid.
+    pub grid: &'a Grid<'a, R, D>,
+    /// The index of the row.
+    pub row: usize,
+    ghost sized: { IsSized grid.now },
+    ghost inside: { row < length grid.now.cells },
+}
+
+impl<'a, R: PeekableRecords, D: Dimension> Row<'a> for GridRow<'a, R, D> {
+    ghost sheet = { λ r. row_of r.grid.now r.row };
+
+    fn count_columns(&self) -> usize {
+        let grid = self.grid;
+        grid.records.count_columns()
+    }
+
+    fn height(&self) -> usize {
+        let grid = self.grid;
+        grid.dimension.get_height(self.row)
+    }
+
+    fn frame(&self) -> &Frame {
+        let grid = self.grid;
+        &grid.around
+    }
+
+    fn separator(&self) -> &ColumnSeparator {
+        let grid = self.grid;
+        &grid.separator
+    }
+
+    #[inline(always)]
+    fn placements(&self) -> KnownPlacements<'_> {
+        let grid = self.grid;
+        if let Some(uniform) = grid.uniform {
+            return KnownPlacements::Uniform(uniform);
+        }
+        if let Some(cells) = grid.placements(self.row) {
+            return KnownPlacements::Cached(cells);
+        }
+        if let Some((padding, horizontal)) = grid.config.row_sides(self.row)
+            && let Some(uniform) = UniformPlacement::of(padding, horizontal)
+        {
+            return KnownPlacements::Uniform(uniform);
+        }
+        KnownPlacements::Styled
+    }
+
+    fn styles(&self) -> RowStyles<'_> {
+        self.grid.styles(self.row)
+    }
+
+    fn width(&self, column: usize) -> usize {
+        self.grid.width(column)
+    }
+
+    #[inline(always)]
+    fn content(&self, column: usize) -> Content<'a> {
+        let grid = self.grid;
+        let at = Position {
+            row: self.row,
+            column,
+        };
+        let (text, columns, lines) = grid.records.get_measured(at);
+        Content {
+            text,
+            columns,
+            lines,
+        }
+    }
+
+    fn count_drawn(&self) -> usize {
+        self.count_columns()
     }
 }

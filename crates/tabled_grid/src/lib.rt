@@ -2,28 +2,22 @@
 //!
 //! Printing allocates nothing if the sizes are given.
 //!
-//! - `grid.rt`: `Grid`, which is records with their settings and sizes.
+//! - `grid.rt`: `Grid`, which is records with their settings and sizes, and its columns and rows.
 //! - `checks.rt`: checks whether the sizes are complete and hold the cells, in the order of the
 //!   errors.
-//! - `print.rt`: `print_grid`, which checks a table and prints it.
+//! - `print.rt`: `print_grid`, which checks a table and writes all of its lines.
 //! - `effective.rt`: prints records with stored sizes or estimates.
-//! - `picture.rt`: writes all lines of a table.
-//! - `parts.rt`: the columns and rows of a grid, as `tabled_line` reads them.
-//! - `column_styles.rt`, `column_placements.rt`: what is looked up once for rows with the same
-//!   settings.
+//! - `column_styles.rt`: what is looked up once for rows with the same settings.
 //! - `plain.rt`: whether the settings make all lines equally wide, for plain cells or for any
 //!   cells.
 //! - `laws.rt`: facts about pictures.
 #![tactic(auto)]
 
 mod checks;
-mod column_placements;
 mod column_styles;
 mod effective;
 mod grid;
 pub mod laws;
-mod parts;
-mod picture;
 mod plain;
 mod print;
 

@@ -1,6 +1,6 @@
-//! Checks the sizes of a table and then prints it.
-ghost use Rattle.std.specs.Prelude.{false, is_some};
+//! Checks a table, and writes all of its lines.
 ghost use Rattle.std.specs.List.{join_with_byte};
+ghost use Rattle.std.specs.Prelude.{false, is_some};
 ghost use Rattle.tabled_grid.specs.Grid.{sheet_by};
 ghost use Rattle.tabled_grid.specs.Picture.{filled_picture};
 ghost use Rattle.tabled_grid.specs.Printed.{IsChecked, Prints};
@@ -8,14 +8,35 @@ ghost use Rattle.tabled_line.specs.Sent.{Sent, Writes};
 ghost use Rattle.tabled_size.specs.Holds.{IsSized};
 
 use crate::checks::{check_narrow, check_sizes, check_totals};
-use crate::grid::Grid;
-use crate::parts::GridRow;
-use crate::picture::write_picture;
+use crate::grid::{Grid, GridColumns, GridRow};
 use std::alloc::Global;
 use tabled_base::{PeekableRecords, TableError};
 use tabled_config::SpannedConfig;
-use tabled_line::{Cursor, FEW_CURSORS, MANY_CURSORS, Row, TextSink};
+use tabled_line::{Cursor, FEW_CURSORS, LinePrinter, MANY_CURSORS, Row, TextSink};
 use tabled_size::{Dimension, is_empty};
+
+/// Writes the lines of a table, joined by line feeds. Margins are `whole` columns wide. The cursors
+/// are for the first columns, in any state.
+pub(crate) fn write_picture<'a, R: PeekableRecords, D: Dimension, S: TextSink>(
+    sink: &mut S,
+    grid: &'a Grid<'a, R, D>,
+    cursors: &mut [Cursor<'a>],
+    whole: usize,
+) -> Result<(), TableError>
+    requires { IsSized grid.now }
+    ensures { Writes (S.sent sink.old) result (S.sent sink.new)
+        (join_with_byte 10 (filled_picture grid.now whole)) }
+{
+    let margin = grid.around.margin;
+    let mut lines = LinePrinter::new(GridColumns { grid }, grid.memory);
+    lines.write_margin(sink, margin.top, whole)?;
+    'rows: for row in 0..grid.records.count_rows() {
+        lines.write_rule(sink, grid.rule_at(row))?;
+        lines.write_row(sink, &GridRow { grid, row }, cursors)?;
+    }
+    lines.write_rule(sink, grid.rule_at(grid.records.count_rows()))?;
+    lines.write_margin(sink, margin.bottom, whole)
+}
 
 /// Writes a picture with cursors for many columns. They take 56 KiB of stack, which other calls
 /// don't need, so this is a separate function.

@@ -21,7 +21,7 @@ pub use Rattle.tabled_base.specs.declared.error.TableError.TheVariants.{Memory, 
 pub use Rattle.tabled_config.specs.Frame.{has_bar}
 pub use Rattle.tabled_config.specs.declared.alignment.AlignmentHorizontal.{AlignmentHorizontal}
 pub use Rattle.tabled_config.specs.declared.borders.HorizontalLine.{HorizontalLine}
-pub use Rattle.tabled_config.specs.declared.frame.Frame.{Frame}
+pub use Rattle.tabled_config.specs.declared.borders.Frame.{Frame}
 pub use Rattle.tabled_config.specs.declared.spanned.CellStyle.{CellStyle}
 unfoldable pub use Rattle.tabled_line.specs.Apart.{line_total}
 pub use Rattle.tabled_line.specs.BlankRow.{StandsAt, blank_row, first_offset}

@@ -2,7 +2,7 @@
 use Rattle.tabled_line.proofs.Names.{List, [], ap, append-nil, append_assoc, arith, drop, fill, get_or, get_or-append-add, length}
 use Rattle.tabled_line.proofs.Names.{length-append, lit<, piece, refl, separator_text, slice_range, sym, take, take-append_seam, ℕ, ◌++◌}
 use Rattle.tabled_line.proofs.Names.{◌+◌, ◌-◌, ◌<◌, ◌∙◌, ◌≡◌, ◌≤◌}
-use Rattle.tabled_config.specs.declared.frame.VerticalLine.{VerticalLine}
+use Rattle.tabled_config.specs.declared.borders.VerticalLine.{VerticalLine}
 use Rattle.tabled_line.proofs.Fills.{fill-add, fill-drop, fill-first_bytes, fill-length}
 
 pub separator-length : (bar : VerticalLine) (behind before : ℕ) → length (separator_text bar behind before) ≡ behind + (length (piece bar.there bar.main) + before)

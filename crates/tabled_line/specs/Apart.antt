@@ -4,7 +4,7 @@ use Rattle.std.specs.Str.{IsUtf8}
 use Rattle.tabled_text.specs.Measure.{text_columns}
 use Rattle.tabled_text.specs.Plain.{IsAdditiveColumn}
 use Rattle.tabled_text.specs.FramedLines.{IsSeparatorColumn}
-use Rattle.tabled_config.specs.declared.frame.Frame.{Frame}
+use Rattle.tabled_config.specs.declared.borders.Frame.{Frame}
 use Rattle.tabled_config.specs.declared.spanned.CellStyle.{CellStyle}
 use Rattle.tabled_priority.specs.Sums.{one_if, sum_below}
 use Rattle.tabled_line.specs.Row.{ColumnSheet, RowSheet}

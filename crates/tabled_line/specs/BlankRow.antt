@@ -1,7 +1,7 @@
 -- Blank rows of one line, which texts are copied into.
 use Rattle.std.specs.Prelude.{◌≡◌, ℕ, List, ◌++◌, Some, length}
 use Rattle.tabled_config.specs.declared.borders.HorizontalLine.{HorizontalLine}
-use Rattle.tabled_config.specs.declared.frame.Frame.{Frame}
+use Rattle.tabled_config.specs.declared.borders.Frame.{Frame}
 use Rattle.tabled_line.specs.Row.{ColumnSheet, left_edge, rule_line}
 
 -- the characters of a blank row, as a horizontal line: spaces, with the vertical lines at its ends

@@ -1,7 +1,7 @@
 -- The text in a buffer.
 use Rattle.std.specs.Prelude.{ℕ, List, string_bytes, take}
-use Rattle.tabled_line.specs.declared.buffer.LineBuffer.{LineBuffer}
-use Rattle.tabled_line.specs.declared.buffer.LineBuffer.TheVariants.{Fixed, Grown}
+use Rattle.tabled_line.specs.declared.text_sink.LineBuffer.{LineBuffer}
+use Rattle.tabled_line.specs.declared.text_sink.LineBuffer.TheVariants.{Fixed, Grown}
 
 -- what was written since the buffer was empty
 abbrev pub buffer_text : LineBuffer → List ℕ

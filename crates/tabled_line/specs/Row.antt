@@ -2,8 +2,8 @@
 use Rattle.std.specs.Prelude.{ℕ, if◌then◌else◌, Bool, List, [], ◌∷◌, ◌++◌, map, Option, Some, None, encode_utf8, unwrap_or}
 use Rattle.std.specs.List.{flat_map, range_with_len, slice_index_or}
 use Rattle.tabled_config.specs.declared.borders.HorizontalLine.{HorizontalLine}
-use Rattle.tabled_config.specs.declared.frame.Frame.{Frame}
-use Rattle.tabled_config.specs.declared.frame.VerticalLine.{VerticalLine}
+use Rattle.tabled_config.specs.declared.borders.Frame.{Frame}
+use Rattle.tabled_config.specs.declared.borders.VerticalLine.{VerticalLine}
 use Rattle.tabled_config.specs.declared.spanned.CellStyle.{CellStyle}
 use Rattle.tabled_config.specs.Frame.{has_bar}
 use Rattle.tabled_line.specs.Block.{block}

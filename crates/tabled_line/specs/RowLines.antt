@@ -5,7 +5,7 @@ use Rattle.tabled_config.specs.declared.spanned.CellStyle.{CellStyle}
 use Rattle.tabled_line.specs.Cursors.{AreAt, IsTextLine}
 use Rattle.tabled_line.specs.Row.{RowSheet}
 use Rattle.tabled_line.specs.declared.cursor.TextLine.{TextLine}
-use Rattle.tabled_line.specs.declared.row_line.RowLine.{RowLine}
+use Rattle.tabled_line.specs.declared.cursor.RowLine.{RowLine}
 
 -- a text begins in the first line of its cell, spaces are below it, and its lines are aligned alike
 pub record IsTop (style : CellStyle) : Type 0 where

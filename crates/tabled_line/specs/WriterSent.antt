@@ -4,8 +4,8 @@ use Rattle.std.specs.Io.KnownBytes.{append_known, prepend_known}
 use Rattle.tabled_base.specs.declared.error.TableError.{TableError}
 use Rattle.tabled_base.specs.declared.error.TableError.TheVariants.{Writer}
 use Rattle.tabled_line.specs.Sent.{Sent}
-use Rattle.tabled_line.specs.declared.io_sink.IoSink.{IoSink}
-use Rattle.tabled_line.specs.declared.io_sink.WriterSink.{WriterSink}
+use Rattle.tabled_line.specs.declared.text_sink.IoSink.{IoSink}
+use Rattle.tabled_line.specs.declared.text_sink.WriterSink.{WriterSink}
 
 -- the byte at which a write failed, if one did
 abbrev pub failed_byte : Option ℕ → List ℕ

@@ -5,9 +5,9 @@ ghost use Rattle.tabled_line.specs.PlacedText.{IsPlacedText};
 ghost use Rattle.tabled_line.specs.Placements.{IsPlacementIn, IsUniform};
 ghost use Rattle.tabled_line.specs.RowLines.{IsRowLine};
 
-use crate::block::before_text;
+use crate::cell_block::before_text;
+use crate::cursor::RowLine;
 use crate::row::Row;
-use crate::row_line::RowLine;
 use tabled_config::{AlignmentHorizontal, CellStyle, Indent, RowStyles, Sides};
 
 /// Where a text is in its column. Side padding is spaces, and there is no top padding.

@@ -6,10 +6,9 @@ ghost use Rattle.tabled_line.specs.Row.{RowSheet, cell_piece, row_cells, row_lin
 ghost use Rattle.tabled_line.specs.RowLines.{IsRowLine};
 ghost use Rattle.tabled_line.specs.Sent.{Sent, Writes};
 
-use crate::block::CellBlock;
-use crate::content::Content;
+use crate::cell_block::{CellBlock, Content};
+use crate::cursor::RowLine;
 use crate::placement::KnownPlacements;
-use crate::row_line::RowLine;
 use crate::rules::{write_bar, write_left_edge, write_right_edge};
 use crate::spaced_line::{ColumnSeparator, write_spaced_row};
 use crate::text_sink::TextSink;

@@ -7,9 +7,9 @@ ghost use Rattle.tabled_line.specs.Slots.{AreSlots, IsTemplateOf};
 ghost use Rattle.tabled_line.specs.Row.{piece, row_line};
 ghost use Rattle.tabled_line.specs.RowLines.{IsRowLine};
 
+use crate::cursor::RowLine;
 use crate::placement::{KnownPlacements, RowPlacements, place_text};
 use crate::row::Row;
-use crate::row_line::RowLine;
 use crate::rules::{TableColumns, write_left_edge, write_right_edge, write_rule_pieces};
 use crate::text_sink::TextSink;
 use std::alloc::Global;

@@ -6,7 +6,7 @@ ghost use Rattle.tabled_line.specs.Row.{ColumnSheet, left_edge, right_edge};
 ghost use Rattle.tabled_line.specs.Row.{piece, rule_line, rule_pieces};
 ghost use Rattle.tabled_line.specs.Sent.{Sent, Writes};
 
-use crate::fill::{write_char, write_fill};
+use crate::padding::{write_char, write_fill};
 use crate::text_sink::TextSink;
 use tabled_base::TableError;
 use tabled_config::{Frame, HorizontalLine};

@@ -3,20 +3,19 @@
 ghost use Rattle.std.specs.Prelude.{◌≡◌, ◌<◌, ◌++◌, IfSome, take, true};
 ghost use Rattle.std.specs.Str.{is_utf8};
 ghost use Rattle.tabled_config.specs.Frame.{has_bar};
-ghost use Rattle.tabled_config.specs.declared.frame.Frame.{Frame};
+ghost use Rattle.tabled_config.specs.declared.borders.Frame.{Frame};
 ghost use Rattle.tabled_line.specs.Fill.{fill};
 ghost use Rattle.tabled_line.specs.Row.{cell_piece, piece, row_cells, separator_text};
 ghost use Rattle.tabled_line.specs.RowLines.{IsRowLine};
 ghost use Rattle.tabled_line.specs.SendsBut.{WritesBut};
 ghost use Rattle.tabled_line.specs.Sent.{Sent, Writes};
 
-use crate::buffer::FixedBuffer;
-use crate::fill::write_spaces;
+use crate::cursor::RowLine;
+use crate::padding::write_spaces;
 use crate::placement::{KnownPlacements, RowPlacements, place_text};
 use crate::row::{Row, write_cell};
-use crate::row_line::RowLine;
 use crate::rules::write_bar;
-use crate::text_sink::TextSink;
+use crate::text_sink::{FixedBuffer, TextSink};
 use tabled_base::TableError;
 use tabled_config::VerticalLine;
 

@@ -3,8 +3,8 @@ use Rattle.tabled_pool.proofs.Names.{Across, Box, BoxSpacing, Direction, Down, F
 use Rattle.tabled_pool.proofs.Names.{box_across, box_along, first_part, given_size, joined_box, max, nat_tests, needed_by, pick}
 use Rattle.tabled_pool.proofs.Names.{place_along, refl, rest_part, ℕ, ◌+◌, ◌-◌, ◌<◌, ◌≡◌, ◌≤◌}
 use Rattle.std.proofs.Common.{◌/◌, ◌^◌}
-use Rattle.tabled_size.specs.declared.pool_table_dimension.DimensionPriority.{DimensionPriority}
-use Rattle.tabled_size.specs.declared.pool_table_dimension.DimensionPriority.TheVariants.{First, Last, List as Each}
+use Rattle.tabled_size.specs.declared.complete_dimension.DimensionPriority.{DimensionPriority}
+use Rattle.tabled_size.specs.declared.complete_dimension.DimensionPriority.TheVariants.{First, Last, List as Each}
 use Rattle.std.proofs.Math.Nat.{le-mul_of_pos_right}
 use Rattle.tabled_pool.specs.Boxes.{share, place_across}
 

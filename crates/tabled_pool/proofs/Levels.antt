@@ -1,7 +1,7 @@
 -- A list that is put below others, and those that are left.
 use Rattle.tabled_pool.proofs.Names.{List, TableValue, Tree, [], ap, append_assoc, arith, left_in, map, map-append, nodes, nodes_in, refl, sym, tree_of, ◌++◌, ◌+◌}
 use Rattle.tabled_pool.proofs.Names.{◌∙◌, ◌∷◌, ◌≡◌}
-use Rattle.tabled_pool.specs.declared.copying.Level.{Level}
+use Rattle.tabled_pool.specs.declared.tree.Level.{Level}
 use Rattle.tabled_pool.proofs.NodeSums.{nodes_in_cons}
 use Rattle.tabled_pool.specs.Levels.{IsBegun, filled, list, within}
 

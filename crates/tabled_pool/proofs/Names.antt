@@ -65,10 +65,10 @@ pub use Rattle.tabled_pool.specs.Tree.{EachText, Tree, leaf, tree_of, trees}
 pub use Rattle.tabled_pool.specs.Uncoloured.{AreNoMarks}
 pub use Rattle.tabled_pool.specs.declared.color_marks.RunSide.{RunSide}
 pub use Rattle.tabled_pool.specs.declared.color_marks.RunSide.TheVariants.{Before, Behind, Outside}
-pub use Rattle.tabled_pool.specs.declared.pieces.Kind.{Kind}
-pub use Rattle.tabled_pool.specs.declared.pieces.Kind.TheVariants.{Bar, Leaf, Rule}
-pub use Rattle.tabled_pool.specs.declared.pieces.Piece.{Piece}
-pub use Rattle.tabled_pool.specs.declared.pieces.Rectangle.{Rectangle}
+pub use Rattle.tabled_pool.specs.declared.places.Kind.{Kind}
+pub use Rattle.tabled_pool.specs.declared.places.Kind.TheVariants.{Bar, Leaf, Rule}
+pub use Rattle.tabled_pool.specs.declared.places.Piece.{Piece}
+pub use Rattle.tabled_pool.specs.declared.places.Rectangle.{Rectangle}
 pub use Rattle.tabled_pool.specs.declared.pool_table.PoolTable.{PoolTable}
 pub use Rattle.tabled_pool.specs.declared.sizes.BoxSpacing.{BoxSpacing}
 pub use Rattle.tabled_pool.specs.declared.sizes.Direction.{Direction}

@@ -5,7 +5,7 @@ use Rattle.tabled_pool.proofs.Names.{is_border, is_border_above, is_border_befor
 use Rattle.tabled_pool.proofs.Names.{part_text, place_text, range_with_len, refl, suc, sym, true, whole, within_marks, zero, ℕ, ⊎_elim}
 use Rattle.tabled_pool.proofs.Names.{◌++◌, ◌+◌, ◌-◌, ◌<◌, ◌∙◌, ◌∷◌, ◌≡◌, ◌≤◌, ◌⊎◌}
 use Rattle.std.proofs.lemmas.List.Concat.{flat_map-append}
-use Rattle.tabled_pool.specs.declared.line.Cursor.{Cursor}
+use Rattle.tabled_pool.specs.declared.line_runs.Cursor.{Cursor}
 use Rattle.tabled_pool.specs.Drawn.{armed_char, IsRun}
 use Rattle.tabled_pool.proofs.Owners.{Inside, inside-within, within-inside, within-le, owner-inside, counted, le-or}
 use Rattle.tabled_pool.proofs.Listed.{outside}

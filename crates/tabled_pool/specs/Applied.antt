@@ -1,7 +1,7 @@
 -- How an option changes a pool table: its settings change, its texts don't.
 use Rattle.std.specs.Prelude.{◌≡◌}
-use Rattle.tabled_config.specs.declared.compact_multiline.CompactMultilineConfig.{CompactMultilineConfig}
-use Rattle.tabled_size.specs.declared.pool_table_dimension.PoolTableDimension.{PoolTableDimension}
+use Rattle.tabled_config.specs.declared.compact.CompactMultilineConfig.{CompactMultilineConfig}
+use Rattle.tabled_size.specs.declared.complete_dimension.PoolTableDimension.{PoolTableDimension}
 use Rattle.tabled_records.specs.declared.empty.EmptyRecords.{EmptyRecords}
 use Rattle.tabled_pool.specs.declared.pool_table.PoolTable.{PoolTable}
 

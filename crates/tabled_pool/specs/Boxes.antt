@@ -2,15 +2,15 @@
 use Rattle.std.specs.Prelude.{◌≡◌, ℕ, ◌+◌, ◌-◌, ◌/◌, ◌^◌, ◌≤◌, ◌⊎◌, if◌then◌else◌, max, List, [], ◌∷◌, ◌++◌, length, Option, Some, None}
 use Rattle.std.specs.Prelude.{string_bytes, ◌%◌, ◌==◌, Bool, true, false}
 use Rattle.tabled_text.specs.Measure.{lines_of, text_columns}
-use Rattle.tabled_size.specs.declared.pool_table_dimension.DimensionPriority.{DimensionPriority}
-use Rattle.tabled_size.specs.declared.pool_table_dimension.DimensionPriority.TheVariants.{First, Last, List as Each}
+use Rattle.tabled_size.specs.declared.complete_dimension.DimensionPriority.{DimensionPriority}
+use Rattle.tabled_size.specs.declared.complete_dimension.DimensionPriority.TheVariants.{First, Last, List as Each}
 use Rattle.tabled_pool.specs.declared.sizes.BoxSpacing.{BoxSpacing}
 use Rattle.tabled_pool.specs.declared.sizes.Direction.{Direction}
 use Rattle.tabled_pool.specs.declared.sizes.Direction.TheVariants.{Across, Down}
 use Rattle.tabled_pool.specs.declared.sizes.Size.{Size}
-use Rattle.tabled_pool.specs.declared.pieces.Rectangle.{Rectangle}
-use Rattle.tabled_pool.specs.declared.pieces.Kind.{Kind}
-use Rattle.tabled_pool.specs.declared.pieces.Kind.TheVariants.{Leaf, Bar, Rule}
+use Rattle.tabled_pool.specs.declared.places.Rectangle.{Rectangle}
+use Rattle.tabled_pool.specs.declared.places.Kind.{Kind}
+use Rattle.tabled_pool.specs.declared.places.Kind.TheVariants.{Leaf, Bar, Rule}
 use Rattle.tabled_pool.specs.declared.tree.TableValue.{TableValue}
 use Rattle.tabled_pool.specs.declared.tree.TableValue.TheOpen.{TableValue-F, Row, Column, Cell}
 use Rattle.tabled_pool.specs.declared.tree.TableValue.TheFolds.{fold-TableValue}

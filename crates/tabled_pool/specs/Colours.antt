@@ -3,7 +3,7 @@ use Rattle.std.specs.Prelude.{ℕ, Bool, ◌&&◌, List, [], ◌++◌, Option, o
 use Rattle.std.specs.Str.{bytes_eq}
 use Rattle.tabled_config.specs.declared.borders.Borders.{Borders}
 use Rattle.tabled_config.specs.declared.sides.Sides.{Sides}
-use Rattle.tabled_config.specs.declared.ansi.ANSIStr.{ANSIStr}
+use Rattle.tabled_config.specs.declared.colored.ANSIStr.{ANSIStr}
 
 -- what is written before and after a run
 pub record Mark : Type 0 where

@@ -1,8 +1,8 @@
 -- What is known at a column of a line.
 use Rattle.std.specs.Prelude.{◌≡◌, ℕ, ◌+◌, ◌<◌, ◌≤◌}
 use Rattle.std.specs.Option.{option_map}
-use Rattle.tabled_pool.specs.declared.line.Cursor.{Cursor}
-use Rattle.tabled_pool.specs.declared.line.Run.{Run}
+use Rattle.tabled_pool.specs.declared.line_runs.Cursor.{Cursor}
+use Rattle.tabled_pool.specs.declared.line_runs.Run.{Run}
 use Rattle.tabled_pool.specs.Drawn.{IsRun}
 use Rattle.tabled_pool.specs.Owner.{is_border, is_border_above, is_border_before, owner}
 use Rattle.tabled_pool.specs.Plan.{DrawingPlan}

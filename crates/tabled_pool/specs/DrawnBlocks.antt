@@ -2,7 +2,7 @@
 use Rattle.std.specs.Prelude.{ℕ, ◌+◌, ◌-◌, max, List, [], ◌∷◌, ◌++◌, length, map, string_bytes}
 use Rattle.std.specs.List.{flat_map, range_with_len, slice_index_or}
 use Rattle.tabled_line.specs.Fill.{fill}
-use Rattle.tabled_pool.specs.declared.drawn_blocks.DrawnBlock.{DrawnBlock}
+use Rattle.tabled_pool.specs.declared.bordered_text.DrawnBlock.{DrawnBlock}
 
 pub record BlockSheet : Type 0 where
   pub width : ℕ

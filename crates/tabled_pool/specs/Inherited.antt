@@ -8,8 +8,8 @@ use Rattle.std.specs.List.{flat_map, range_with_len}
 use Rattle.tabled_priority.specs.Sums.{one_if}
 use Rattle.tabled_config.specs.declared.borders.Borders.{Borders}
 use Rattle.tabled_pool.specs.declared.sizes.BoxSpacing.{BoxSpacing}
-use Rattle.tabled_pool.specs.declared.pieces.Kind.TheVariants.{Leaf}
-use Rattle.tabled_pool.specs.declared.pieces.Rectangle.{Rectangle}
+use Rattle.tabled_pool.specs.declared.places.Kind.TheVariants.{Leaf}
+use Rattle.tabled_pool.specs.declared.places.Rectangle.{Rectangle}
 use Rattle.tabled_pool.specs.declared.tree.TableValue.{TableValue}
 use Rattle.tabled_pool.specs.declared.tree.TableValue.TheOpen.{TableValue-F, Row, Column, Cell}
 use Rattle.tabled_pool.specs.declared.tree.TableValue.TheFolds.{fold-TableValue}
@@ -17,7 +17,7 @@ use Rattle.tabled_pool.specs.declared.sizes.Direction.{Direction}
 use Rattle.tabled_pool.specs.declared.sizes.Direction.TheVariants.{Across, Down}
 use Rattle.tabled_pool.specs.Boxes.{Box, box_of, Part, part_of, leaf_box, list_box, given_size, behind_border, box_along, first_part}
 use Rattle.tabled_pool.specs.Boxes.{pick, place_along, is_line_kind}
-use Rattle.tabled_pool.specs.declared.flags.Flags.{Flags}
+use Rattle.tabled_pool.specs.declared.tree_walk.Flags.{Flags}
 use Rattle.tabled_pool.specs.Marks.{Around, alone, begun, ended, used_after, within_marks}
 use Rattle.tabled_pool.specs.Colours.{Mark}
 use Rattle.tabled_pool.specs.Block.{leaf_line}

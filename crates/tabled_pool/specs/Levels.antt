@@ -1,7 +1,7 @@
 -- Lists that are being copied, the outermost first.
 use Rattle.std.specs.Prelude.{◌≡◌, ℕ, ◌+◌, ◌<◌, ◌≤◌, Bool, true, false, List, [], ◌∷◌, ◌++◌, map}
 use Rattle.tabled_pool.specs.declared.tree.TableValue.{TableValue}
-use Rattle.tabled_pool.specs.declared.copying.Level.{Level}
+use Rattle.tabled_pool.specs.declared.tree.Level.{Level}
 use Rattle.tabled_pool.specs.Nodes.{nodes, nodes_in}
 use Rattle.tabled_pool.specs.Tree.{Tree, across, down, trees, tree_of}
 

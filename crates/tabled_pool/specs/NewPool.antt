@@ -1,10 +1,10 @@
 -- New pool tables and copies.
 use Rattle.std.specs.Prelude.{◌≡◌, ℕ, List}
-use Rattle.tabled_config.specs.declared.compact_multiline.CompactMultilineConfig.{CompactMultilineConfig}
+use Rattle.tabled_config.specs.declared.compact.CompactMultilineConfig.{CompactMultilineConfig}
 use Rattle.tabled_config.specs.declared.sides.Indent.{Indent}
 use Rattle.tabled_config.specs.Compact.{IsPlainMultiline, no_indent}
 use Rattle.tabled_config.specs.Styles.{ascii}
-use Rattle.tabled_size.specs.declared.pool_table_dimension.DimensionPriority.TheVariants.{List as Each}
+use Rattle.tabled_size.specs.declared.complete_dimension.DimensionPriority.TheVariants.{List as Each}
 use Rattle.tabled_pool.specs.declared.tree.TableValue.{TableValue}
 use Rattle.tabled_pool.specs.Tree.{tree_of, tree_of_rows}
 use Rattle.tabled_pool.specs.declared.pool_table.PoolTable.{PoolTable}

@@ -1,6 +1,6 @@
 -- Which part is at a position.
 use Rattle.std.specs.Prelude.{ℕ, zero, suc, ◌==◌, if◌then◌else◌, Bool, false, List, [], ◌∷◌, Option, Some, None}
-use Rattle.tabled_pool.specs.declared.pieces.Rectangle.{Rectangle}
+use Rattle.tabled_pool.specs.declared.places.Rectangle.{Rectangle}
 use Rattle.tabled_pool.specs.Boxes.{Part, is_line_kind}
 use Rattle.tabled_pool.specs.Tiling.{within}
 

@@ -5,7 +5,7 @@ use Rattle.tabled_config.specs.declared.sides.Sides.{Sides}
 use Rattle.tabled_config.specs.declared.spanned.CellStyle.{CellStyle}
 use Rattle.tabled_pool.specs.Boxes.{Part}
 use Rattle.tabled_pool.specs.Colours.{LineMarks, Mark}
-use Rattle.tabled_pool.specs.declared.pieces.Rectangle.{Rectangle}
+use Rattle.tabled_pool.specs.declared.places.Rectangle.{Rectangle}
 
 -- parts in a drawing of `width` columns and `height` lines, and the settings that they are drawn
 -- with

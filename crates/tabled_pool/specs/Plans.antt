@@ -1,8 +1,8 @@
 -- The plan of a `Drawing`, and the value of `Marks`.
 use Rattle.std.specs.Prelude.{map}
 use Rattle.tabled_pool.specs.Shown.{shown}
-use Rattle.tabled_pool.specs.declared.marks.Marks.{Marks}
-use Rattle.tabled_pool.specs.declared.pieces.Drawing.{Drawing}
+use Rattle.tabled_pool.specs.declared.color_marks.Marks.{Marks}
+use Rattle.tabled_pool.specs.declared.places.Drawing.{Drawing}
 use Rattle.tabled_pool.specs.Marks.{Around}
 use Rattle.tabled_pool.specs.Colours.{line_marks_of, marks_of}
 use Rattle.tabled_pool.specs.Plan.{DrawingPlan}

@@ -5,7 +5,7 @@ use Rattle.tabled_base.specs.declared.error.TableError.{TableError}
 use Rattle.tabled_base.specs.declared.error.TableError.TheVariants.{Memory, Range}
 use Rattle.tabled_priority.specs.Sums.{one_if}
 use Rattle.tabled_config.specs.declared.borders.Borders.{Borders}
-use Rattle.tabled_config.specs.declared.compact_multiline.CompactMultilineConfig.{CompactMultilineConfig}
+use Rattle.tabled_config.specs.declared.compact.CompactMultilineConfig.{CompactMultilineConfig}
 use Rattle.tabled_config.specs.declared.sides.Indent.{Indent}
 use Rattle.tabled_config.specs.declared.sides.Sides.{Sides}
 use Rattle.tabled_config.specs.declared.spanned.CellStyle.{CellStyle}
@@ -13,7 +13,7 @@ use Rattle.tabled_config.specs.Compact.{each_side, no_indent}
 use Rattle.tabled_config.specs.Frame.{has_left, has_right}
 use Rattle.tabled_line.specs.Sent.{Sent, Sends, Stops}
 use Rattle.tabled_pool.specs.declared.sizes.BoxSpacing.{BoxSpacing}
-use Rattle.tabled_pool.specs.declared.pieces.Rectangle.{Rectangle}
+use Rattle.tabled_pool.specs.declared.places.Rectangle.{Rectangle}
 use Rattle.tabled_pool.specs.Boxes.{box_of}
 use Rattle.tabled_pool.specs.Tiling.{framed}
 use Rattle.tabled_pool.specs.Colours.{Mark, line_marks_of, marks_of, no_mark}

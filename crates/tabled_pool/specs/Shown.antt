@@ -1,7 +1,7 @@
 -- A piece as a part, and which rectangles are large enough for a box.
 use Rattle.std.specs.Prelude.{◌+◌, ◌^◌, ◌<◌, ◌≤◌}
-use Rattle.tabled_pool.specs.declared.pieces.Piece.{Piece}
-use Rattle.tabled_pool.specs.declared.pieces.Rectangle.{Rectangle}
+use Rattle.tabled_pool.specs.declared.places.Piece.{Piece}
+use Rattle.tabled_pool.specs.declared.places.Rectangle.{Rectangle}
 use Rattle.tabled_pool.specs.Boxes.{Part, Box, part_of}
 
 abbrev pub shown : Piece → Part

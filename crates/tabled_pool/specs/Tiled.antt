@@ -1,7 +1,7 @@
 -- Drawn lines in which each part is in its rectangle.
 use Rattle.std.specs.Prelude.{◌≡◌, ℕ, ◌+◌, ◌-◌, ◌<◌, ◌≤◌, true, List, ◌++◌, Some, encode_utf8}
 use Rattle.tabled_text.specs.Measure.{line_columns}
-use Rattle.tabled_pool.specs.declared.pieces.Kind.TheVariants.{Leaf}
+use Rattle.tabled_pool.specs.declared.places.Kind.TheVariants.{Leaf}
 use Rattle.tabled_pool.specs.Boxes.{Part, is_line_kind}
 use Rattle.tabled_pool.specs.Tiling.{covering}
 use Rattle.tabled_pool.specs.Block.{leaf_line}

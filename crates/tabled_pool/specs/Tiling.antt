@@ -1,10 +1,10 @@
 -- Which parts cover a position.
 use Rattle.std.specs.Prelude.{◌≡◌, ℕ, ◌+◌, ◌-◌, ◌*◌, ◌≤◌, ltb, leb, ◌&&◌, if◌then◌else◌, List, [], ◌∷◌, length}
 use Rattle.tabled_config.specs.declared.sides.Sides.{Sides}
-use Rattle.tabled_pool.specs.declared.pieces.Rectangle.{Rectangle}
+use Rattle.tabled_pool.specs.declared.places.Rectangle.{Rectangle}
 use Rattle.tabled_text.specs.Measure.{lines_of, text_columns}
 use Rattle.tabled_pool.specs.declared.sizes.BoxSpacing.{BoxSpacing}
-use Rattle.tabled_pool.specs.declared.pieces.Kind.TheVariants.{Leaf, Bar, Rule}
+use Rattle.tabled_pool.specs.declared.places.Kind.TheVariants.{Leaf, Bar, Rule}
 use Rattle.tabled_pool.specs.Boxes.{Part, Box, part_of, left_part, right_part, top_part, bottom_part}
 
 -- 1 if p is one of the n numbers from a on, else 0

@@ -1,26 +1,28 @@
-//! The lines of one text in a tree with a zero-width text, with the borders that it draws.
-ghost use Rattle.tabled_pool.specs.Marks.{within_marks};
-ghost use Rattle.std.specs.Prelude.{◌≡◌, ◌<◌, ◌+◌, ◌++◌, [], map, None, IfOk, string_bytes, ◌∷◌};
-ghost use Rattle.std.specs.Prelude.{if◌then◌else◌, unwrap_or};
-ghost use Rattle.std.specs.List.{range_with_len};
+//! The lines of one text with the borders that it draws, and how drawn boxes are joined.
+ghost use Rattle.std.specs.List.{flat_map, range_with_len};
 ghost use Rattle.std.specs.Option.{option_map};
+ghost use Rattle.std.specs.Prelude.{IfOk, MatchOption, None, [], if◌then◌else◌, map, string_bytes};
+ghost use Rattle.std.specs.Prelude.{unwrap_or, ◌++◌, ◌+◌, ◌<◌, ◌^◌, ◌∷◌, ◌≡◌, ◌≤◌};
+ghost use Rattle.tabled_line.specs.Fill.{fill};
 ghost use Rattle.tabled_pool.specs.Colours.{mark_of};
-ghost use Rattle.tabled_pool.specs.Inherited.{bordered_block, bottom_text, inner_text, marked_text};
-ghost use Rattle.tabled_pool.specs.Inherited.{outer_line, run_text, text_block, top_text, written};
-ghost use Rattle.tabled_pool.specs.Inherited.{inherited_by, inheriting_box, plan_for};
-ghost use Rattle.tabled_pool.specs.DrawnBlocks.{block_sheet_of};
+ghost use Rattle.tabled_pool.specs.DrawnBlocks.{all_columns, block_sheet_of, drawn_block_line};
+ghost use Rattle.tabled_pool.specs.DrawnBlocks.{most_columns, most_lines, side_by_side, stacked};
+ghost use Rattle.tabled_pool.specs.DrawnBlocks.{widened};
+ghost use Rattle.tabled_pool.specs.Inherited.{bordered_block, bottom_text, inherited_by};
+ghost use Rattle.tabled_pool.specs.Inherited.{inheriting_box, inner_text, marked_text, outer_line};
+ghost use Rattle.tabled_pool.specs.Inherited.{plan_for, run_text, text_block, top_text, written};
+ghost use Rattle.tabled_pool.specs.Marks.{within_marks};
 ghost use Rattle.tabled_pool.specs.Plans.{around_of, plan_of};
 
-use crate::block::draw_block_line;
-use crate::draw::draw_marked;
-use crate::drawn_blocks::DrawnBlock;
-use crate::flags::{own_borders, own_sides};
+use crate::color_marks::{LineColors, Marks, alone, begun, ended, used_after};
+use crate::draw::{draw_block_line, draw_marked};
 use crate::inheriting_box::{InheritingBox, is_split};
-use crate::marks::{LineColors, Marks, alone, begun, ended, used_after};
-use crate::pieces::Drawing;
+use crate::places::Drawing;
 use crate::pool_table::one_if;
+use crate::tree_walk::{own_borders, own_sides};
 use std::alloc::{AllocError, Global};
 use tabled_config::Borders;
+use tabled_line::write_fill;
 
 /// The character of a border, if that is there. A missing character is a space.
 fn written(there: bool, c: Option<char>) -> Option<char>
@@ -216,4 +218,107 @@ pub(crate) fn text_block(
         text,
     };
     text.block()
+}
+
+/// The lines of a drawn box, and their width in columns.
+#[derive(Drop)]
+pub struct DrawnBlock {
+    pub width: usize,
+    pub lines: Vec<String>,
+}
+
+fn all_columns(blocks: &[DrawnBlock]) -> Option<usize>
+    ensures { MatchOption result (2 ^ 64 ≤ all_columns (map block_sheet_of blocks.now))
+        (λ n. n ≡ all_columns (map block_sheet_of blocks.now)) }
+{
+    let mut columns: usize = 0;
+    for block in blocks {
+        columns = columns.checked_add(block.width)?;
+    }
+    Some(columns)
+}
+
+fn most_columns(blocks: &[DrawnBlock]) -> usize
+    ensures { result ≡ most_columns (map block_sheet_of blocks.now) }
+{
+    let mut columns = 0;
+    for block in blocks {
+        columns = block.width.max(columns);
+    }
+    columns
+}
+
+fn most_lines(blocks: &[DrawnBlock]) -> usize
+    ensures { result ≡ most_lines (map block_sheet_of blocks.now) }
+{
+    let mut lines = 0;
+    for block in blocks {
+        lines = block.lines.len().max(lines);
+    }
+    lines
+}
+
+/// Line `y` of blocks side by side. Below its last line a block is spaces.
+fn joined_line(alloc: Global, blocks: &[DrawnBlock], y: usize) -> Result<String, AllocError>
+    ensures { IfOk result (λ line. string_bytes line
+        ≡ flat_map (drawn_block_line y) (map block_sheet_of blocks.now)) }
+{
+    let mut line = String::new(alloc);
+    for block in blocks {
+        if y < block.lines.len() {
+            line.push_str(block.lines[y].as_str())?;
+        } else {
+            write_fill(&mut line, ' ', block.width).map_err(|_| AllocError)?;
+        }
+    }
+    Ok(line)
+}
+
+/// Joins blocks side by side. Fails if an allocation fails, or if the total width exceeds
+/// `usize::MAX`.
+pub(crate) fn side_by_side(alloc: Global, blocks: &[DrawnBlock]) -> Result<DrawnBlock, AllocError>
+    ensures { IfOk result (λ joined. block_sheet_of joined
+        ≡ side_by_side (map block_sheet_of blocks.now)) }
+{
+    let Some(width) = all_columns(blocks) else {
+        return Err(AllocError);
+    };
+    let mut lines = Vec::new(alloc);
+    for y in 0..most_lines(blocks) {
+        lines.push(joined_line(alloc, blocks, y)?)?;
+    }
+    Ok(DrawnBlock { width, lines })
+}
+
+/// Appends the lines of a block, filled with spaces to `width` columns.
+fn push_widened(
+    alloc: Global,
+    lines: &mut Vec<String>,
+    block: &DrawnBlock,
+    width: usize,
+) -> Result<(), AllocError>
+    ensures { IfOk result (λ _. map string_bytes lines.new.items
+        ≡ map string_bytes lines.old.items ++ widened width (block_sheet_of block.now)) }
+{
+    let spaces = width.saturating_sub(block.width);
+    let texts = block.lines.as_slice();
+    for text in texts {
+        let mut line = String::from_str(alloc, text.as_str())?;
+        write_fill(&mut line, ' ', spaces).map_err(|_| AllocError)?;
+        lines.push(line)?;
+    }
+    Ok(())
+}
+
+/// Joins blocks below each other, filled with spaces to the greatest width.
+pub(crate) fn stacked(alloc: Global, blocks: &[DrawnBlock]) -> Result<DrawnBlock, AllocError>
+    ensures { IfOk result (λ joined. block_sheet_of joined
+        ≡ stacked (map block_sheet_of blocks.now)) }
+{
+    let width = most_columns(blocks);
+    let mut lines = Vec::new(alloc);
+    for block in blocks {
+        push_widened(alloc, &mut lines, block, width)?;
+    }
+    Ok(DrawnBlock { width, lines })
 }

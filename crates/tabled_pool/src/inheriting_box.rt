@@ -11,13 +11,11 @@ ghost use Rattle.tabled_pool.specs.Inherited.{taken_of};
 ghost use Rattle.tabled_pool.specs.DrawnBlocks.{block_sheet_of};
 ghost use Rattle.tabled_pool.specs.Plans.{plan_of};
 
-use crate::bordered_text::text_block;
-use crate::drawn_blocks::{DrawnBlock, side_by_side, stacked};
-use crate::flags::Flags;
-use crate::pieces::{Drawing, Rectangle};
-use crate::places::{BoxesLeft, split};
+use crate::bordered_text::{DrawnBlock, side_by_side, stacked, text_block};
+use crate::places::{BoxesLeft, Drawing, Rectangle, split};
 use crate::sizes::{BoxSpacing, Direction};
 use crate::tree::TableValue;
+use crate::tree_walk::Flags;
 use std::alloc::{AllocError, Global};
 use std::mem;
 

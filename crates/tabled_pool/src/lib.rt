@@ -7,52 +7,40 @@
 //!
 //! The table:
 //! - `pool_table`: `PoolTable`, its settings, its size, and how it is printed
-//! - `making`: tables of rows, and copies of tables
-//! - `applying`: options
+//! - `making`: tables of rows, copies of tables, and options applied to them
 //! - `plain`: whether all characters are plain or the settings separate the texts, so that all
 //!   lines are equally wide; whether anything is coloured
 //!
 //! Trees, and the rectangles of their boxes:
-//! - `tree`: `TableValue`, a tree of texts, and how it is dropped
-//! - `copying`: copies of trees
+//! - `tree`: `TableValue`, a tree of texts, how it is dropped, and how it is copied
 //! - `sizes`: the sizes that boxes need, and `BoxSpacing`, on which they depend
-//! - `pieces`: `Rectangle`; `Piece`, a text or a border in its rectangle; and `Drawing`, the pieces
-//!   and their settings
-//! - `places`: the rectangles of texts, of the borders between boxes, and of those around a tree
+//! - `places`: `Piece`, a text or a border in its rectangle; `Drawing`, the pieces and their
+//!   settings; and the rectangles of all of them
 //!
 //! Shared by both ways of drawing:
-//! - `block`: the lines of the block of a text
-//! - `marks`: the marks around a border character or a run: a colour's prefix and suffix
+//! - `draw`: one line of a drawing, and the lines of the block of a text
+//! - `color_marks`: the marks around a border character or a run: a colour's prefix and suffix
 //! - `table_lines`: all lines of a table, with the margin
 //!
 //! Drawing line by line:
 //! - `sweep`: the piece at a position, and where to look for it first
-//! - `line`: the runs of a line: columns of one text, or of equal border characters; and these
-//!   characters
-//! - `color_marks`: the marks around border characters
-//! - `draw`: one line of a drawing
+//! - `line_runs`: the runs of a line: columns of one text, or of equal border characters
+//! - `junction`: the character of a border, and of the junction where borders of boxes meet
 //!
 //! Drawing box by box, for trees with a zero-width text:
-//! - `tree_walk`: the walk over the tree, and `draw_tree`
+//! - `tree_walk`: the walk over the tree, where each box is in it, and `draw_tree`
 //! - `inheriting_box`: what boxes inherit and pass on, and how lists of inherited sizes are split
-//! - `flags`: where a box is, and the border characters that it has there
-//! - `bordered_text`: the lines of one text, with the borders that it draws
-//! - `drawn_blocks`: `DrawnBlock`, and how drawn boxes are joined
+//! - `bordered_text`: the lines of one text, with the borders that it draws, and how drawn boxes
+//!   are joined
 #![tactic(auto)]
 
-mod applying;
-mod block;
 mod bordered_text;
 mod color_marks;
-mod copying;
 mod draw;
-mod drawn_blocks;
-mod flags;
 mod inheriting_box;
-mod line;
+mod junction;
+mod line_runs;
 mod making;
-mod marks;
-mod pieces;
 mod places;
 mod plain;
 mod pool_table;

@@ -21,10 +21,9 @@ ghost use Rattle.tabled_pool.specs.Pool.{style_of, total_height, total_width};
 ghost use Rattle.tabled_pool.specs.NewPool.{IsNewPool};
 ghost use Rattle.tabled_pool.specs.Tiled.{Tiled};
 
-use crate::drawn_blocks::DrawnBlock;
-use crate::line::{has_bottom, has_top};
-use crate::pieces::{Drawing, Piece, Rectangle};
-use crate::places::place_tree;
+use crate::bordered_text::DrawnBlock;
+use crate::junction::{has_bottom, has_top};
+use crate::places::{Drawing, Piece, Rectangle, place_tree};
 use crate::sizes::{BoxSpacing, Size, own_size, sum};
 use crate::table_lines::{ColoredMargin, TableLines, draw_lines};
 use crate::tree::TableValue;

@@ -7,7 +7,7 @@ ghost use Rattle.tabled_pool.specs.Shown.{shown};
 ghost use Rattle.tabled_pool.specs.Owner.{contains, owner};
 ghost use Rattle.tabled_pool.specs.Numbers.{IsNumber};
 
-use crate::pieces::{Drawing, Piece, Rectangle};
+use crate::places::{Drawing, Piece, Rectangle};
 use std::alloc::Global;
 use std::mem;
 

@@ -8,11 +8,11 @@ ghost use Rattle.tabled_pool.specs.Margins.{with_margin, within_margin};
 ghost use Rattle.tabled_pool.specs.TableLines.{AreSizedLines, content_of, sheet_of};
 ghost use Rattle.tabled_line.specs.Fill.{indent};
 
+use crate::bordered_text::DrawnBlock;
+use crate::color_marks::draw_colored_fill;
 use crate::draw::draw_line;
-use crate::drawn_blocks::DrawnBlock;
-use crate::line::Line;
-use crate::marks::draw_colored_fill;
-use crate::pieces::Drawing;
+use crate::line_runs::Line;
+use crate::places::Drawing;
 use crate::plain::are_uncolored_lines;
 use crate::sizes::Size;
 use crate::sweep::Sweep;

@@ -1,9 +1,13 @@
-//! `TableValue`: a tree of texts, what is in its lists of one value, and how it is dropped.
-ghost use Rattle.std.specs.Prelude.{◌≡◌, ◌<◌, ◌≤◌, ◌+◌, IfSome, MatchOption};
-ghost use Rattle.tabled_pool.specs.Nodes.{nodes, nodes_in};
+//! `TableValue`, a tree of texts: how it is dropped, and how it is copied.
+ghost use Rattle.std.specs.Prelude.{IfErr, IfOk, IfSome, MatchOption, [], map, ◌+◌, ◌<◌, ◌≡◌, ◌≤◌};
+ghost use Rattle.tabled_base.specs.declared.error.TableError.TheVariants.{Memory};
 ghost use Rattle.tabled_pool.specs.Inner.{IsInner, IsOnlyChild};
+ghost use Rattle.tabled_pool.specs.Levels.{IsBegun, left_in, list, within};
+ghost use Rattle.tabled_pool.specs.Nodes.{nodes, nodes_in};
+ghost use Rattle.tabled_pool.specs.Tree.{tree_of};
 
-use std::alloc::Global;
+use std::alloc::{AllocError, Global};
+use tabled_base::TableError;
 
 /// A tree of texts, which a `PoolTable` prints. An empty row or column is drawn as an empty text.
 ///
@@ -122,6 +126,107 @@ impl Drop for TableValue {
                 Some((value, left)) => rest = value.drop_last_leaf(left),
                 None => return,
             }
+        }
+    }
+}
+
+/// A list that is being copied: the copies so far, and the values after the current one.
+#[derive(Drop)]
+pub(crate) struct Level<'a> {
+    is_row: bool,
+    copies: Vec<TableValue>,
+    left: &'a [TableValue],
+}
+
+fn list_of(is_row: bool, children: Vec<TableValue>) -> TableValue
+    ensures { tree_of result ≡ list is_row (map tree_of children.items) }
+{
+    if is_row {
+        TableValue::Row(children)
+    } else {
+        TableValue::Column(children)
+    }
+}
+
+/// Starts to copy a list, and returns its first value if there is one.
+#[tactic(auto, using(crate::proofs::Levels::within_push, crate::proofs::Levels::left_in_push))]
+fn begin<'a>(
+    alloc: Global,
+    is_row: bool,
+    children: &'a [TableValue],
+    levels: &mut Vec<Level<'a>>,
+) -> Result<Option<&'a TableValue>, AllocError>
+    ensures { IfOk result (λ first. MatchOption first
+        ((children.now ≡ []) × (levels.new.items ≡ levels.old.items))
+        (λ v. IsBegun levels.old.items (list is_row (map tree_of children.now))
+        (nodes_in children.now + 1) levels.new.items v.now)) }
+{
+    let Some((first, left)) = children.split_first() else {
+        return Ok(None);
+    };
+    let copies = Vec::with_capacity(alloc, children.len())?;
+    levels.push(Level {
+        is_row,
+        copies,
+        left,
+    })?;
+    Ok(Some(first))
+}
+
+/// Descends to the first text or empty list of a value, and copies it.
+fn copy_first<'a>(
+    value: &'a TableValue,
+    levels: &mut Vec<Level<'a>>,
+) -> Result<TableValue, AllocError>
+    ensures copy { IfOk result (λ copy. within levels.new.items (tree_of copy)
+        ≡ within levels.old.items (tree_of value.now)) }
+    ensures left { IfOk result (λ _. left_in levels.new.items < nodes value.now + left_in
+        levels.old.items) }
+{
+    let mut now = value;
+    'values: loop {
+        match now {
+            TableValue::Cell(text) => return Ok(TableValue::Cell(text.clone()?)),
+            TableValue::Row(children) => {
+                let alloc = *children.allocator();
+                match begin(alloc, true, children.as_slice(), levels)? {
+                    Some(first) => now = first,
+                    None => return Ok(TableValue::Row(Vec::new(alloc))),
+                }
+            }
+            TableValue::Column(children) => {
+                let alloc = *children.allocator();
+                match begin(alloc, false, children.as_slice(), levels)? {
+                    Some(first) => now = first,
+                    None => return Ok(TableValue::Column(Vec::new(alloc))),
+                }
+            }
+        }
+    }
+}
+
+impl TableValue {
+    /// Returns a copy of the tree, whatever its depth: copying doesn't recurse. Fails only with
+    /// `Memory`, if an allocation fails.
+    #[tactic(auto, using(crate::proofs::Levels::left_in_push, crate::proofs::NodeSums::nodes_in_cons))]
+    pub fn clone(&self) -> Result<TableValue, TableError>
+        ensures ok { IfOk result (λ copy. tree_of copy ≡ tree_of self.now) }
+        ensures only { IfErr result (λ e. e ≡ Memory) }
+    {
+        let mut levels = Vec::new(self.allocator());
+        let mut copy = copy_first(self, &mut levels)?;
+        'values: loop {
+            let Some(mut level) = levels.pop() else {
+                return Ok(copy);
+            };
+            level.copies.push(copy)?;
+            let Some((next, left)) = level.left.split_first() else {
+                copy = list_of(level.is_row, level.copies);
+                continue;
+            };
+            level.left = left;
+            levels.push(level)?;
+            copy = copy_first(next, &mut levels)?;
         }
     }
 }

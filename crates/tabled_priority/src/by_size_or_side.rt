@@ -13,11 +13,10 @@ ghost use Rattle.tabled_priority.specs.Least.{HasGreatestLeast, HasLeastGreatest
 ghost use Rattle.tabled_priority.specs.Permitted.{HasOneBetween};
 ghost use Rattle.tabled_priority.specs.Shrunk.{IsMaxShrunk, IsMinShrunk, IsSideShrunk};
 
-use crate::change::change_columns;
+use crate::change::{Steps, change_columns};
 use crate::choice::Choice;
-use crate::column::Steps;
 use crate::in_order::{shrink_from, shrink_smallest};
-use crate::peaker::{Peaker, TakesAll};
+use crate::priority::{Peaker, TakesAll};
 use crate::schedule::Schedule;
 
 /// Chooses the first size above its minimum.

@@ -1,16 +1,134 @@
-//! Changes of all columns by a schedule.
-ghost use Rattle.std.specs.Prelude.{◌≡◌, ℕ, ◌+◌, ◌*◌, ◌<◌, ◌≤◌, length};
+//! Changes all columns by a schedule: reads each column, counts these reads, and checks whether the
+//! sizes are level.
+ghost use Rattle.std.specs.Prelude.{IsTrue, MatchOption, length, ℕ, ◌*◌, ◌+◌, ◌-◌, ◌<◌, ◌↔◌, ◌≡◌};
+ghost use Rattle.std.specs.Prelude.{◌≤◌};
+ghost use Rattle.tabled_priority.specs.Least.{HasLeastGreatest, IsHighest, IsLevel};
+ghost use Rattle.tabled_priority.specs.Permitted.{FitsMinimums, IsPermitted, at};
 ghost use Rattle.tabled_priority.specs.Schedule.{CanChange, IsChanged, IsScheduled, IsSpan};
 ghost use Rattle.tabled_priority.specs.Schedule.{IsSpanBy, StaysInRange, amount_by, columns_of};
 ghost use Rattle.tabled_priority.specs.Schedule.{first_level, first_of, last_level, last_of};
 ghost use Rattle.tabled_priority.specs.Schedule.{open_of, share};
-ghost use Rattle.tabled_priority.specs.Permitted.{at};
 ghost use Rattle.tabled_priority.specs.Shrunk.{is_met, place_after, start};
 ghost use Rattle.tabled_priority.specs.Sums.{one_if};
 ghost use Rattle.tabled_priority.specs.Visits.{IsBounded, counted};
 
-use crate::column::Steps;
 use crate::schedule::{Ramps, Reached, Schedule, amount_by, reach};
+
+/// Returns the greatest new size above its minimum, or 0 if there is none. Returns `None` if the
+/// new list isn't permitted.
+fn highest(old: &[usize], mins: &[usize], new: &[usize]) -> Option<usize>
+    ensures { MatchOption result (IsPermitted old.now mins.now new.now → ⊥)
+        (IsHighest old.now mins.now new.now) }
+{
+    if new.len() != old.len() {
+        return None;
+    }
+    let mut top: usize = 0;
+    for place in 0..old.len() {
+        let least = minimum(mins, place);
+        let size = new[place];
+        if size < old[place].min(least) || size > old[place] {
+            return None;
+        }
+        if size > least {
+            top = size.max(top);
+        }
+    }
+    Some(top)
+}
+
+/// Whether `new` is `old` shrunk to a level:
+/// - It is as long as `old`.
+/// - Each size is at most its old size, and at least the lesser of its old size and its minimum.
+/// - No lowered size is two or more below one that is above its minimum.
+///
+/// `mins` has a minimum for each size, or is empty: then all minimums are 0. Returns `false` for
+/// other `mins`.
+pub fn is_level(old: &[usize], mins: &[usize], new: &[usize]) -> bool
+    ensures exact { IsTrue result
+        ↔ (FitsMinimums old.now mins.now × IsLevel old.now mins.now new.now) }
+    ensures least { IsTrue result → HasLeastGreatest old.now mins.now new.now }
+{
+    if !mins.is_empty() && mins.len() != old.len() {
+        return false;
+    }
+    let Some(top) = highest(old, mins, new) else {
+        return false;
+    };
+    for place in 0..old.len() {
+        if new[place] < old[place] && new[place] + 1 < top {
+            return false;
+        }
+    }
+    true
+}
+
+/// The size and the minimum of a column.
+#[derive(Clone, Copy)]
+pub(crate) struct Column {
+    /// Its size.
+    pub(crate) value: usize,
+    /// Its minimum, 0 if there are no minimums.
+    pub(crate) least: usize,
+}
+
+impl Column {
+    /// Returns how much can be taken from it.
+    pub(crate) fn spare(&self) -> usize
+        ensures { result ≡ self.now.value - self.now.least }
+    {
+        self.value.saturating_sub(self.least)
+    }
+}
+
+/// Returns the minimum at an index, 0 if there are no minimums.
+pub(crate) fn minimum(mins: &[usize], place: usize) -> usize
+    ensures { result ≡ at mins.now place }
+{
+    mins.get(place).copied().unwrap_or(0)
+}
+
+/// Reads a column, and counts the visit.
+pub(crate) fn visit(mins: &[usize], values: &[usize], place: usize, steps: &mut Steps) -> Column
+    requires { place < length values.now }
+    ensures value { result.value ≡ at values.now place }
+    ensures least { result.least ≡ at mins.now place }
+    ensures steps { steps.new.count ≡ counted steps.old.count 1 }
+{
+    steps.add(1);
+    Column {
+        value: values[place],
+        least: minimum(mins, place),
+    }
+}
+
+/// How often a column was read while sizes shrank or grew. The count stops at `usize::MAX`.
+#[derive(Debug, Drop)]
+pub struct Steps {
+    count: usize,
+}
+
+impl Steps {
+    /// Starts at 0.
+    pub fn new() -> Self
+        ensures { result.count ≡ 0 }
+    {
+        Steps { count: 0 }
+    }
+
+    /// Returns the count.
+    pub fn count(&self) -> usize
+        ensures { result ≡ self.now.count }
+    {
+        self.count
+    }
+
+    pub(crate) fn add(&mut self, visits: usize)
+        ensures { self.new.count ≡ counted self.old.count visits }
+    {
+        self.count = self.count.saturating_add(visits);
+    }
+}
 
 /// Returns the index after this one, and 0 after the last.
 pub(crate) fn place_after(count: usize, place: usize) -> usize

@@ -8,7 +8,7 @@ use Rattle.std.proofs.lemmas.List.{get_or_default, drop-drop, drop-replicate, dr
 use Rattle.std.proofs.lemmas.Nat.{mul-add-lt}
 use Rattle.tabled_base.specs.Cells.{IsInside, with_cell}
 use Rattle.tabled_records.specs.Changed.{IsPlace, changed_row}
-use Rattle.tabled_records.specs.declared.changed_cell.ChangedCell.{ChangedCell}
+use Rattle.tabled_records.specs.declared.changed_records.ChangedCell.{ChangedCell}
 
 -- ---- one row
 

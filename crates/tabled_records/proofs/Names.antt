@@ -33,6 +33,6 @@ pub use Rattle.tabled_records.specs.LentRows.{HasNo, IsPrintable}
 pub use Rattle.tabled_records.specs.Reading.{MayGive, Reads, ReadsTo, Walked}
 pub use Rattle.tabled_records.specs.RowByRow.{AreChanged, changed_of}
 pub use Rattle.tabled_records.specs.TextRows.{cells_of, most_cells}
-pub use Rattle.tabled_records.specs.declared.changed_cell.ChangedCell.TheVariants.{Same}
+pub use Rattle.tabled_records.specs.declared.changed_records.ChangedCell.TheVariants.{Same}
 pub use Rattle.tabled_records.specs.declared.limits.LaterRows.{LaterRows}
 pub use Rattle.tabled_text.specs.Measure.{greatest, lines_of, text_columns}

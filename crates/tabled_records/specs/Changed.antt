@@ -1,8 +1,8 @@
 -- Records some of whose cells have changed.
 use Rattle.std.specs.Prelude.{◌≡◌, ◌<◌, ℕ, List, [], ◌∷◌, drop, length, slice_index_or, slice_set}
 use Rattle.tabled_base.specs.Cells.{IsInside, cell_at, with_cell}
-use Rattle.tabled_records.specs.declared.changed_cell.ChangedCell.{ChangedCell}
-use Rattle.tabled_records.specs.declared.changed_cell.ChangedCell.TheVariants.{Same, Front, Short, Long}
+use Rattle.tabled_records.specs.declared.changed_records.ChangedCell.{ChangedCell}
+use Rattle.tabled_records.specs.declared.changed_records.ChangedCell.TheVariants.{Same, Front, Short, Long}
 
 -- what a cell has become, by its old text
 abbrev pub text_of : ChangedCell → List ℕ → List ℕ

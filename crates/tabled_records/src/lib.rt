@@ -4,12 +4,10 @@
 //!
 //! - `row_ranges.rt`: `RowRanges`, rows as ranges of a list of texts, and `Pairs`, a list of pairs
 //!   that takes half the memory while the numbers are small.
-//! - `lent_rows.rt`: `LentRows`, rows whose cells borrow one text; `text_rows` finds them in a
-//!   text.
+//! - `joined_records.rt`: `LentRows`, rows whose cells borrow one text, which `text_rows` finds in
+//!   a text; `JoinedRecords`, rows of texts that are appended to one buffer.
 //! - `flat_rows.rt`: `FlatRows`, rows whose cells are in one list.
-//! - `joined_records.rt`: `JoinedRecords`, rows of texts that are joined in one buffer.
-//! - `changed_records.rt`: `ChangedRecords`, other records with some cells changed;
-//!   `changed_cell.rt`: one of its cells.
+//! - `changed_records.rt`: `ChangedRecords`, other records with some cells changed.
 //!
 //! Records that make their cells on demand:
 //!
@@ -26,13 +24,11 @@
 #![tactic(auto)]
 
 mod buffer;
-mod changed_cell;
 mod changed_records;
 mod empty;
 pub mod flat_rows;
 mod iter_records;
 mod joined_records;
-mod lent_rows;
 mod limits;
 pub mod reading;
 mod row_ranges;
@@ -42,7 +38,6 @@ pub use buffer::{BufCells, BufRecords, BufRows};
 pub use changed_records::ChangedRecords;
 pub use empty::{EmptyCells, EmptyRecords, EmptyRows};
 pub use iter_records::IterRecords;
-pub use joined_records::JoinedRecords;
-pub use lent_rows::{LentRows, text_rows};
+pub use joined_records::{JoinedRecords, LentRows, text_rows};
 pub use limits::{FirstCells, LaterRows, LimitColumns, LimitRows, NarrowRows, SkipRows};
 pub use truncate::{CutCell, CutCells, CutRows, TruncateContent};

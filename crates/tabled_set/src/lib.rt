@@ -11,7 +11,8 @@
 //! - `wrap`, `truncate`, `min_width`: `Wrap`, `Truncate` with `SuffixLimit`, and `MinWidth`
 //! - `heights`: `CellHeightIncrease`, `CellHeightLimit`, `TableHeightIncrease` and
 //!   `TableHeightLimit`
-//! - `justify`: `Justify`
+//! - `min_width`: the options `MinWidth`, which widens, and `Justify`, which makes all cells
+//!   equally wide.
 //! - `sizes`: `WidthList` and `HeightList`; a table's sizes with their total, and lists that a
 //!   priority has shrunk or grown
 //! - `spaces`: `Margin` and `Padding`
@@ -23,7 +24,6 @@
 #![tactic(auto)]
 
 mod heights;
-mod justify;
 pub mod laws;
 mod measurement;
 mod min_width;
@@ -36,9 +36,8 @@ mod walk;
 mod wrap;
 
 pub use heights::{CellHeightIncrease, CellHeightLimit, TableHeightIncrease, TableHeightLimit};
-pub use justify::Justify;
 pub use measurement::{Height, Max, Measurement, Min, Percent, Width};
-pub use min_width::MinWidth;
+pub use min_width::{Justify, MinWidth};
 pub use resize::{CellFilter, Change, ContentSizes};
 pub use sizes::{HeightList, WidthList};
 pub use spaces::{Margin, Padding, PaddingExpand};

@@ -13,8 +13,7 @@ ghost use Rattle.tabled_set.specs.Extremes.{Greatest, TextMeasure, Columns, Line
 ghost use Rattle.tabled_set.specs.Truncated.{Cut};
 
 use crate::heights::{CellHeightIncrease, CellHeightLimit};
-use crate::justify::Justify;
-use crate::min_width::MinWidth;
+use crate::min_width::{Justify, MinWidth};
 use crate::sizes::{HeightList, WidthList};
 use crate::truncate::Truncate;
 use crate::wrap::Wrap;

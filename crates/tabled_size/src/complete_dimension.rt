@@ -1,6 +1,7 @@
-//! Sizes that are stored or not (`CompleteDimension`).
-ghost use Rattle.std.specs.Prelude.{◌≡◌, ◌&&◌, ◌⊎◌, IfErr, IfOk, IsSome, None, OnErr, Some};
-ghost use Rattle.std.specs.Prelude.{is_none, is_some, option_map};
+//! Sizes that are stored or not (`CompleteDimension`), and which boxes of a pool table are made
+//! wider or taller (`PoolTableDimension`).
+ghost use Rattle.std.specs.Prelude.{IfErr, IfOk, IsSome, None, OnErr, Some, is_none, is_some};
+ghost use Rattle.std.specs.Prelude.{option_map, ◌&&◌, ◌≡◌, ◌⊎◌};
 ghost use Rattle.tabled_base.specs.declared.error.TableError.TheVariants.{Memory};
 ghost use Rattle.tabled_size.specs.Entries.{clears_heights, clears_widths, stored_at};
 ghost use Rattle.tabled_size.specs.Entries.{unless_cleared};
@@ -8,7 +9,7 @@ ghost use Rattle.tabled_size.specs.Stored.{heights_of, is_stored, widths_of};
 
 use crate::dimension::Dimension;
 use std::alloc::{AllocError, Global};
-use tabled_base::{Entity, TableError};
+use tabled_base::{Entity, TableError, TableOption};
 
 /// The widths and the heights of a table, each stored or not. What isn't stored is estimated when
 /// needed.
@@ -186,5 +187,61 @@ impl Dimension for CompleteDimension {
             None => unreachable!(),
             Some(heights) => heights[row],
         }
+    }
+}
+
+/// Which of several neighbouring boxes get the columns or lines that are left over.
+#[derive(Debug, Clone, Copy, PartialEq, Eq, PartialOrd, Ord)]
+pub enum DimensionPriority {
+    /// The first.
+    First,
+    /// The last.
+    Last,
+    /// All of them, as evenly as possible. A remainder goes to the first ones, one each.
+    List,
+}
+
+/// Which boxes of a `PoolTable` are made wider, and which taller.
+#[derive(Debug, Clone, Copy, PartialEq, Eq, PartialOrd, Ord)]
+pub struct PoolTableDimension {
+    width: DimensionPriority,
+    height: DimensionPriority,
+}
+
+impl PoolTableDimension {
+    /// Creates a dimension from the priorities of widths and heights.
+    pub fn new(width: DimensionPriority, height: DimensionPriority) -> Self
+        ensures widths { result.width ≡ width }
+        ensures heights { result.height ≡ height }
+    {
+        PoolTableDimension { width, height }
+    }
+
+    /// Returns the priority of widths.
+    pub fn width(&self) -> DimensionPriority
+        ensures { result ≡ self.now.width }
+    {
+        self.width
+    }
+
+    /// Returns the priority of heights.
+    pub fn height(&self) -> DimensionPriority
+        ensures { result ≡ self.now.height }
+    {
+        self.height
+    }
+}
+
+/// Replaces the dimension of a table. Its records and its configuration don't change.
+impl<R, C> TableOption<R, C, PoolTableDimension> for PoolTableDimension {
+    ghost changes = { λ option r c d r' c' d'. (r' ≡ r) × ((c' ≡ c) × (d' ≡ option)) };
+
+    fn change(self, _: &mut R, _: &mut C, dims: &mut Self) -> Result<(), TableError> {
+        *dims = self;
+        Ok(())
+    }
+
+    fn hint_change(&self) -> Option<Entity> {
+        Some(Entity::Global)
     }
 }

@@ -2,10 +2,8 @@
 //! that store them.
 //!
 //! - `dimension.rt`: the traits of sizes, `Dimension` and `Estimate`.
-//! - `complete_dimension.rt`: sizes that are stored or not (`CompleteDimension`).
+//! - `complete_dimension.rt`: sizes that are stored or not, and the sizes of a pool table.
 //! - `const_dimension.rt`: given sizes that never change.
-//! - `pool_table_dimension.rt`: which boxes of a pool table are made wider or taller
-//!   (`PoolTableDimension`).
 //! - `estimate.rt`: the widest cell of each column and the tallest of each row.
 //! - `added_padding.rt`: what padding adds to the size of a cell.
 //! - `total.rt`: the total width and height, with borders and margins: of given sizes, of the
@@ -17,16 +15,14 @@ mod complete_dimension;
 mod const_dimension;
 mod dimension;
 mod estimate;
-mod pool_table_dimension;
 mod total;
 
-pub use complete_dimension::CompleteDimension;
+pub use complete_dimension::{CompleteDimension, DimensionPriority, PoolTableDimension};
 pub use const_dimension::{
     ConstDimension, ConstSize, DimensionValue, StaticDimension, ZeroDimension,
 };
 pub use dimension::{Dimension, Estimate};
 pub use estimate::{estimate_heights, estimate_sizes, estimate_widths};
-pub use pool_table_dimension::{DimensionPriority, PoolTableDimension};
 pub use tabled_priority::{
     Peaker, Priority, PriorityLeft, PriorityMax, PriorityMin, PriorityNone, PriorityRight, Steps,
     TakesAll, is_level,

@@ -23,7 +23,7 @@ pub use Rattle.tabled_config.specs.Spanned.{spanned_of_compact}
 pub use Rattle.tabled_config.specs.declared.alignment.AlignmentHorizontal.{AlignmentHorizontal}
 pub use Rattle.tabled_config.specs.declared.borders.HorizontalLine.{HorizontalLine}
 pub use Rattle.tabled_config.specs.declared.compact.CompactConfig.{CompactConfig}
-pub use Rattle.tabled_config.specs.declared.frame.Frame.{Frame}
+pub use Rattle.tabled_config.specs.declared.borders.Frame.{Frame}
 pub use Rattle.tabled_config.specs.declared.spanned.CellStyle.{CellStyle}
 pub use Rattle.tabled_config.specs.declared.spanned.SpannedConfig.{SpannedConfig}
 pub use Rattle.tabled_grid.specs.ApartSheet.{IsApartConfig}
@@ -65,7 +65,7 @@ pub use Rattle.tabled_table.specs.Stream.Streamed.{sniffed, stream_height, strea
 pub use Rattle.tabled_table.specs.Stream.Streams.{AreEnough, ArePermitted, AreSniffed, PrintsStream, StreamSends, StreamStops, Streams}
 pub use Rattle.tabled_table.specs.Stream.Streams.{reaches, stream_total}
 pub use Rattle.tabled_table.specs.TableSheet.{cells_of, sheet}
-pub use Rattle.tabled_table.specs.declared.batches.LayoutIterator.{LayoutIterator}
+pub use Rattle.tabled_table.specs.declared.making.LayoutIterator.{LayoutIterator}
 pub use Rattle.tabled_table.specs.declared.iter_table.layout.Layout.{Layout}
 pub use Rattle.tabled_table.specs.declared.iter_table.settings.StreamSettings.{StreamSettings}
 pub use Rattle.tabled_table.specs.declared.table.Table.{Table}

@@ -1,6 +1,6 @@
 -- Where each batch of rows begins.
 use Rattle.std.specs.Prelude.{ℕ, ◌+◌, ◌-◌, ◌*◌, ◌/◌, ◌==◌, ◌&&◌, Bool, List, [], ◌∷◌, Option, Some, None, if◌then◌else◌, nat_lt, suc, zero}
-use Rattle.tabled_table.specs.declared.batches.LayoutIterator.{LayoutIterator}
+use Rattle.tabled_table.specs.declared.making.LayoutIterator.{LayoutIterator}
 
 -- the number of batches from one number to another, the last one maybe incomplete; 0 for batches of
 -- no row

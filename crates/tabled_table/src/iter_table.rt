@@ -11,13 +11,11 @@ ghost use Rattle.tabled_table.specs.Stream.LikeTable.{PrintsLikeTable};
 ghost use Rattle.tabled_table.specs.Stream.NewTable.{new_settings, with_settings};
 ghost use Rattle.tabled_table.specs.Stream.Streams.{BuildsStream, Came, PrintsStream};
 
-mod cuts;
 mod first_rows;
 mod layout;
 mod next_rows;
 mod row;
 mod settings;
-mod sniff;
 
 use crate::iter_table::first_rows::Printer;
 use crate::iter_table::settings::StreamSettings;

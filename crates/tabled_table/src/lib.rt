@@ -2,34 +2,32 @@
 //!
 //! A `Table` stores all of its cells:
 //! - `table`: the table, its parts, its totals and its text, and the settings of a new one
-//! - `making`: tables of values and of rows
+//! - `making`: makes tables of values and of rows, in batches of rows.
 //! - `applying`: options for the whole table and for some of its cells
 //! - `printing`: printing with a minimum width and an alignment, and `Display`
-//! - `batches`: where the batches of a table's rows begin
 //!
 //! An `IterTable` is printed row by row while a source gives its rows. It stores only the rows that
 //! are read ahead to measure the columns. Each later row is read when it is printed. Each cell is
 //! cut to its column:
 //! - `iter_table`: the table, its options, and printing it to a sink, a writer or a string
-//! - `iter_table/settings`: how many rows are read and shown, and the sizes that are set
-//! - `iter_table/first_rows`: reads the first rows, lays out the columns by them, and prints all
-//! - `iter_table/sniff`: measures of the rows that are read ahead
+//! - `iter_table/settings`: the settings of a stream, and whether the cells of a row fit in its
+//!   columns.
+//! - `iter_table/first_rows`: reads and measures the first rows of a stream, and lays out its
+//!   columns.
 //! - `iter_table/layout`: the columns of a stream, what is around its cells, and its total width
 //! - `iter_table/row`: the columns that lines are printed over, and a row that is cut to them
-//! - `iter_table/cuts`: whether the cells of a row fit in their columns, and cut cells
 //! - `iter_table/next_rows`: writes the rows that were read first, and reads and writes the next
 //!
 //! `laws`: facts about tables and streamed tables.
 #![tactic(auto)]
 
 mod applying;
-mod batches;
 mod iter_table;
 pub mod laws;
 mod making;
 mod printing;
 mod table;
 
-pub use batches::LayoutIterator;
 pub use iter_table::IterTable;
+pub use making::LayoutIterator;
 pub use table::{Table, new_config};

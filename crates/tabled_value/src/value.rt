@@ -8,7 +8,7 @@ mod holders;
 mod single;
 mod tuples;
 
-use crate::texts::push_texts;
+use crate::rows::push_texts;
 use std::alloc::Global;
 use std::borrow::CowStr;
 use tabled_base::{TableError, Text};

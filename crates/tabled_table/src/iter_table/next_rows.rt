@@ -10,10 +10,9 @@ ghost use Rattle.tabled_table.specs.Stream.Progress.{PutsNext, StreamsLaidOut, l
 ghost use Rattle.tabled_table.specs.Stream.Row.{PutsCut, layout_columns, rule_of};
 ghost use Rattle.tabled_table.specs.Stream.Streamed.{limited};
 
-use crate::iter_table::cuts::{all_fit, cut_cells};
+use crate::iter_table::first_rows::content_height;
 use crate::iter_table::row::{CutRow, StreamColumns};
-use crate::iter_table::settings::{ahead, fewer, is_none_left, up_to};
-use crate::iter_table::sniff::content_height;
+use crate::iter_table::settings::{ahead, all_fit, cut_cells, fewer, is_none_left, up_to};
 use std::alloc::Global;
 use tabled_base::{CellText, TableError};
 use tabled_line::{Cursor, LinePrinter, TextSink};

@@ -2,7 +2,7 @@
 ghost use Rattle.std.specs.Prelude.{◌≡◌, [], MatchOption, replicate};
 
 use super::Tabled;
-use crate::texts::{empty_texts, push_texts};
+use crate::rows::{empty_texts, push_texts};
 use std::alloc::Global;
 use std::borrow::CowStr;
 use tabled_base::{TableError, Text};

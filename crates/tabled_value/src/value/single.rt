@@ -6,7 +6,7 @@ ghost use Rattle.std.specs.Prelude.{if◌then◌else◌, map, string_bytes, vec_
 ghost use Rattle.tabled_base.specs.declared.error.TableError.TheVariants.{Memory};
 
 use super::Tabled;
-use crate::texts::{displayed, one_text, push_text};
+use crate::rows::{displayed, one_text, push_text};
 use itoa::Buffer;
 use std::alloc::Global;
 use std::borrow::CowStr;

@@ -5,7 +5,7 @@ ghost use Rattle.std.specs.Prelude.{◌+◌, ◌++◌, ◌-◌, ◌^◌, decimal
 ghost use Rattle.tabled_value.specs.Fields.{Joined, Says};
 
 use super::Tabled;
-use crate::texts::{displayed, joined};
+use crate::rows::{displayed, joined};
 use std::alloc::Global;
 use std::borrow::CowStr;
 use std::fmt::Display;

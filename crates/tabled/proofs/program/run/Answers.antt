@@ -1,5 +1,5 @@
 use Rattle.tabled.proofs.Names.{Err, ap, refl, ◌≡◌}
-use Rattle.tabled.specs.declared.fault.Fault.TheVariants.{Usage}
+use Rattle.tabled.specs.declared.program.Fault.TheVariants.{Usage}
 use Rattle.tabled.proofs.program.run.Goals as goal
 
 pub returns-in-Usage-clause-usage : goal.returns-in-Usage-clause-usage

@@ -1,5 +1,5 @@
 use Rattle.tabled_pool.proofs.Names.{List, TableValue, [], arith, length, refl, ◌++◌, ◌∙◌, ◌∷◌, ◌≡◌}
-use Rattle.tabled_pool.specs.declared.copying.Level.{Level}
+use Rattle.tabled_pool.specs.declared.tree.Level.{Level}
 use Rattle.tabled_pool.proofs.Levels.{ended, goes_on}
 use Rattle.tabled_pool.proofs.tree.TableValue.clone.Goals as goal
 

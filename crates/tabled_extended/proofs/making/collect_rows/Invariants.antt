@@ -1,7 +1,0 @@
-use Rattle.tabled_extended.proofs.Names.{row_texts}
-use Rattle.tabled_extended.proofs.CollectedRows.{Collected}
-use Rattle.tabled_extended.proofs.making.collect_rows.Given as goal
-
-abbrev pub invariant-loop-row : goal.invariant-loop-row
-invariant-loop-row g l = Collected g.I.IterColumns.IntoIterator.into_iter_gives
-    g.I.IterColumns.IntoIter.Iterator.next_gives g.I.Cell.CellText.text l.yielded (row_texts l.all.items)

@@ -1,0 +1,40 @@
+use Rattle.tabled_grid.proofs.Names.{IsPlaceable, Placement, [], ap, arith, cases_lt, cell_placement, columns_in, inl, inr, length, map}
+use Rattle.tabled_grid.proofs.Names.{map-range_with_len_more, range_with_len, reached, reached_size, reached_there}
+use Rattle.tabled_grid.proofs.Names.{slice_index, style_at, subst, sym, ℕ, ◌++◌, ◌<◌, ◌∙◌, ◌∷◌, ◌≡◌, ◌≤◌}
+use Rattle.std.proofs.lemmas.List.{length-set, take_more_set}
+use Rattle.tabled_config.specs.declared.spanned.CellStyle.{CellStyle}
+use Rattle.tabled_line.specs.Placements.{IsPlacementIn}
+use Rattle.tabled_grid.proofs.column_styles.list_placements.Goals as goal
+
+pub get_width-requires : goal.get_width-requires
+get_width-requires g c =
+    let count = length c.args.placements.now in
+    let reaches : count ≤ length (reached (g.D.Dimension.width_at c.args.dimension.now) count) = c.requires in
+    reached_there (g.D.Dimension.width_at c.args.dimension.now) count c.columns.column (omega (arith, reaches, c.columns-test.true))
+
+pub columns-preserved : goal.columns-preserved
+columns-preserved g c =
+    let column = c.columns.column in
+    let count = length c.args.placements.now in
+    let widths = reached (g.D.Dimension.width_at c.args.dimension.now) count in
+    let style : ℕ → CellStyle = style_at c.args.config.now c.args.row in
+    let f : ℕ → Placement = cell_placement style (columns_in c.args.config.now (slice_index widths) count) in
+    let new = c.in_ok-placement.placement in
+    let reaches : count ≤ length widths = c.requires in
+    let inside : column < length c.columns.placements = omega (arith, c.columns.invariant.same, c.columns-test.true) in
+    let width : c.get_width.result ≡ slice_index widths column =
+    reached_size (g.D.Dimension.width_at c.args.dimension.now) count column c.get_width.result
+    (omega (arith, reaches, c.columns-test.true)) c.get_width.ensures in
+    let found : IsPlacementIn (style column) (slice_index widths column) new =
+    subst (λ w. IsPlacementIn (style column) w new) width
+    (subst (λ s. IsPlacementIn s c.get_width.result new) c.style_at.ensures
+    (c.in_ok-placement.ensures c.style_at.result c.in_ok-uniform.ensures)) in
+    record {
+      same = length-set c.columns.placements column new ∙ c.columns.invariant.same;
+      listed = take_more_set c.columns.placements column new inside ∙ ap (λ xs. xs ++ new ∷ []) c.columns.invariant.listed
+          ∙ ap (λ a. map f (range_with_len 0 column) ++ a ∷ []) found.0 ∙ sym (map-range_with_len_more f 0 column column (omega arith));
+      placeable = λ k l. elim (cases_lt k column) [
+        | inl lt ↦ c.columns.invariant.placeable k lt
+        | inr ge ↦ (let here : column ≡ k = omega (arith, ge, l) in subst (λ i. IsPlaceable (style i) (slice_index widths i)) here found.1)
+      ];
+    }

@@ -1,0 +1,78 @@
+//! The character of a border at a position: of a straight line, or of the junction where borders of
+//! boxes meet.
+ghost use Rattle.std.specs.Prelude.{◌+◌, ◌-◌, ◌<◌, ◌==◌, ◌≡◌};
+ghost use Rattle.tabled_pool.specs.Drawn.{armed_char, main_of};
+ghost use Rattle.tabled_pool.specs.Plan.{has_bottom, has_top};
+ghost use Rattle.tabled_pool.specs.Plans.{plan_of};
+
+use crate::places::{Drawing, Kind, Piece, Rectangle};
+use tabled_config::Borders;
+
+/// Whether there is a top border: any of its characters is set.
+pub(crate) fn has_top(borders: &Borders<char>) -> bool
+    ensures { result ≡ has_top borders.now }
+{
+    borders.top.is_some()
+        || borders.top_left.is_some()
+        || borders.top_intersection.is_some()
+        || borders.top_right.is_some()
+}
+
+pub(crate) fn has_bottom(borders: &Borders<char>) -> bool
+    ensures { result ≡ has_bottom borders.now }
+{
+    borders.bottom.is_some()
+        || borders.bottom_left.is_some()
+        || borders.bottom_intersection.is_some()
+        || borders.bottom_right.is_some()
+}
+
+pub(crate) fn ends_at(start: usize, size: usize, whole: usize) -> bool
+    ensures { result ≡ (start + size == whole) }
+{
+    size <= whole && start == whole - size
+}
+
+fn main_of(drawing: &Drawing<'_, '_>, kind: Kind, place: Rectangle) -> Option<char>
+    ensures { result ≡ main_of (plan_of drawing.now) kind place }
+{
+    let borders = &drawing.borders;
+    match kind {
+        Kind::Leaf => None,
+        Kind::Bar => {
+            if borders.has_right() && ends_at(place.x, place.width, drawing.width) {
+                borders.right
+            } else {
+                borders.left
+            }
+        }
+        Kind::Rule => {
+            if has_bottom(borders) && ends_at(place.y, place.height, drawing.height) {
+                borders.bottom
+            } else {
+                borders.top
+            }
+        }
+    }
+}
+
+#[derive(Clone, Copy)]
+pub(crate) struct Arms {
+    pub left: bool,
+    pub right: bool,
+    pub up: bool,
+    pub down: bool,
+}
+
+pub(crate) fn border_char(drawing: &Drawing<'_, '_>, piece: &Piece<'_>, arms: Arms) -> char
+    ensures { result ≡ armed_char (plan_of drawing.now) piece.now.kind piece.now.place arms.left
+        arms.right arms.up arms.down }
+{
+    let found = if (arms.left || arms.right) && (arms.up || arms.down) {
+        let borders = &drawing.borders;
+        borders.junction(arms.left, arms.right, arms.up, arms.down)
+    } else {
+        main_of(drawing, piece.kind, piece.place)
+    };
+    found.unwrap_or(' ')
+}

@@ -1,0 +1,234 @@
+//! The runs of a line of a drawing: columns of one text, or of equal border characters.
+ghost use Rattle.std.specs.Option.{option_map};
+ghost use Rattle.std.specs.Prelude.{Some, map, true, ℕ, ◌+◌, ◌-◌, ◌<◌, ◌==◌, ◌≡◌, ◌≤◌, ◌⊎◌};
+ghost use Rattle.tabled_pool.specs.Boxes.{is_line_kind};
+ghost use Rattle.tabled_pool.specs.Colours.{line_marks_of};
+ghost use Rattle.tabled_pool.specs.Cursors.{IsAt, RunsFrom};
+ghost use Rattle.tabled_pool.specs.Numbers.{AreSized};
+ghost use Rattle.tabled_pool.specs.Owner.{is_border, is_border_above, is_line, owner};
+ghost use Rattle.tabled_pool.specs.Plans.{plan_of};
+ghost use Rattle.tabled_pool.specs.Shown.{shown};
+ghost use Rattle.tabled_pool.specs.Uncoloured.{AreNoMarks};
+
+use crate::junction::{Arms, border_char};
+use crate::places::{Drawing, Piece, is_line_kind};
+use crate::sweep::{Sweep, piece_at};
+
+#[derive(Clone, Copy)]
+pub(crate) struct Line<'l, 's, 'd, 'a> {
+    pub drawing: &'l Drawing<'d, 'a>,
+    pub sweep: &'s Sweep,
+    pub y: usize,
+    /// Whether no border of the drawing is coloured.
+    pub uncolored: bool,
+    ghost inside: { y < drawing.now.height },
+    ghost bare: { uncolored ≡ true → AreNoMarks (line_marks_of drawing.now.colors) },
+    ghost sized: { AreSized (map shown drawing.now.pieces.now) },
+}
+
+/// Columns of a line that belong to one piece and, if that is a border, have the same character.
+#[derive(Clone, Copy)]
+pub(crate) struct Run<'d, 'a> {
+    pub piece: &'d Piece<'a>,
+    /// The character of a border.
+    pub c: char,
+    /// The number of columns.
+    pub count: usize,
+}
+
+/// A column of a line, and what is known there.
+#[derive(Clone, Copy)]
+pub(crate) struct Cursor<'d, 'a> {
+    pub x: usize,
+    /// The piece there, if the line doesn't end.
+    pub piece: Option<&'d Piece<'a>>,
+    /// Whether there is a border before it.
+    left: bool,
+    /// The borders above it and after, or a stretch that ends before it.
+    up: Stretch,
+    /// The borders below it and after, or a stretch that ends before it.
+    down: Stretch,
+}
+
+/// Whether there are borders at a column and those after it, and where that ends.
+#[derive(Clone, Copy)]
+pub(crate) struct Stretch {
+    border: bool,
+    end: usize,
+}
+
+/// The borders of line `y` at a column and after: those that are known, if they reach so far.
+fn stretch_at(
+    drawing: &Drawing<'_, '_>,
+    known: Stretch,
+    line: &[usize],
+    x: usize,
+    y: usize,
+) -> Stretch
+    requires inside { x < drawing.now.width }
+    requires known { (v : ℕ) → x ≤ v → v < known.end
+        → is_border (plan_of drawing.now).parts v y ≡ known.border }
+    ensures some { x < result.end }
+    ensures same { (v : ℕ) → x ≤ v → v < result.end
+        → is_border (plan_of drawing.now).parts v y ≡ result.border }
+{
+    if x < known.end {
+        return known;
+    }
+    match piece_at(drawing, line, x, y) {
+        Some(piece) => Stretch {
+            border: is_line_kind(piece.kind),
+            end: piece.place.x + piece.place.width,
+        },
+        None => Stretch {
+            border: false,
+            end: drawing.width,
+        },
+    }
+}
+
+/// The end of the columns from `x` to `end` at which a border has the same arms to its sides, where
+/// there is one before column `x` if `left`, and one at `end` if `behind`.
+fn run_end(x: usize, end: usize, left: bool, behind: bool) -> usize
+    requires { x < end }
+    ensures some { x < result }
+    ensures within { result ≤ end }
+    ensures begun { (left ≡ true) ⊎ (result ≡ x + 1) }
+    ensures ended { (result < end) ⊎ ((behind ≡ true) ⊎ (result ≡ x + 1)) }
+{
+    if !left {
+        return x + 1;
+    }
+    if behind || end == x + 1 {
+        return end;
+    }
+    end - 1
+}
+
+/// Whether a border follows the column before `last`, where those up to `end` are borders.
+fn is_followed(last: usize, end: usize, behind: bool) -> bool
+    ensures more { last < end → result ≡ true }
+    ensures all { end ≤ last → result ≡ behind }
+{
+    last < end || behind
+}
+
+fn is_line(piece: Option<&Piece<'_>>) -> bool
+    ensures { result ≡ is_line (option_map (λ p. shown p.now) piece.entry) }
+{
+    match piece {
+        Some(piece) => is_line_kind(piece.kind),
+        None => false,
+    }
+}
+
+impl<'l, 's, 'd, 'a> Line<'l, 's, 'd, 'a> {
+    /// The first column.
+    pub(crate) fn start(&self) -> Cursor<'d, 'a>
+        ensures first { result.x ≡ 0 }
+        ensures at { IsAt (plan_of self.now.drawing.now) self.now.y result }
+    {
+        let unknown = Stretch {
+            border: false,
+            end: 0,
+        };
+        Cursor {
+            x: 0,
+            piece: piece_at(self.drawing, self.sweep.here.as_slice(), 0, self.y),
+            left: false,
+            up: unknown,
+            down: unknown,
+        }
+    }
+
+    fn above(&self, at: &Cursor<'d, 'a>) -> Stretch
+        requires inside { at.now.x < self.now.drawing.now.width }
+        requires at { IsAt (plan_of self.now.drawing.now) self.now.y at.now }
+        ensures some { at.now.x < result.end }
+        ensures same { (v : ℕ) → at.now.x ≤ v → v < result.end
+            → is_border_above (plan_of self.now.drawing.now).parts v self.now.y ≡ result.border }
+    {
+        if self.y == 0 {
+            return Stretch {
+                border: false,
+                end: self.drawing.width,
+            };
+        }
+        let line = self.sweep.above.as_slice();
+        stretch_at(self.drawing, at.up, line, at.x, self.y - 1)
+    }
+
+    /// The piece at column `end`; up to column `own` it is `piece`.
+    fn piece_behind(&self, piece: &'d Piece<'a>, own: usize, end: usize) -> Option<&'d Piece<'a>>
+        requires { end < own → owner (plan_of self.now.drawing.now).parts end self.now.y
+            ≡ Some (shown piece.now) }
+        ensures { option_map (λ p. shown p.now) result
+            ≡ owner (plan_of self.now.drawing.now).parts end self.now.y }
+    {
+        if end < own {
+            return Some(piece);
+        }
+        piece_at(self.drawing, self.sweep.here.as_slice(), end, self.y)
+    }
+
+    /// The run of a border: as long as the same pieces are above and below, and borders are on
+    /// both sides.
+    fn border_run(&self, piece: &'d Piece<'a>, at: &mut Cursor<'d, 'a>) -> Run<'d, 'a>
+        requires at { IsAt (plan_of self.now.drawing.now) self.now.y at.old }
+        requires kind { is_line_kind piece.now.kind ≡ true }
+        requires here { owner (plan_of self.now.drawing.now).parts at.old.x self.now.y
+            ≡ Some (shown piece.now) }
+        ensures { RunsFrom (plan_of self.now.drawing.now) self.now.y at.old result at.new }
+    {
+        let up = self.above(at);
+        let line = self.sweep.below.as_slice();
+        let down = stretch_at(self.drawing, at.down, line, at.x, self.y + 1);
+        let own = piece.place.x + piece.place.width;
+        let end = own.min(up.end).min(down.end);
+        let behind = self.piece_behind(piece, own, end);
+        let border = is_line(behind);
+        let last = run_end(at.x, end, at.left, border);
+        let arms = Arms {
+            left: at.left,
+            right: is_followed(last, end, border),
+            up: up.border,
+            down: down.border,
+        };
+        let next = if last < end { Some(piece) } else { behind };
+        let run = Run {
+            piece,
+            c: border_char(self.drawing, piece, arms),
+            count: last - at.x,
+        };
+        *at = Cursor {
+            x: last,
+            piece: next,
+            left: true,
+            up,
+            down,
+        };
+        run
+    }
+
+    /// The run at a cursor, where `piece` is. The cursor goes to the column after it.
+    pub(crate) fn next_run(&self, piece: &'d Piece<'a>, at: &mut Cursor<'d, 'a>) -> Run<'d, 'a>
+        requires at { IsAt (plan_of self.now.drawing.now) self.now.y at.old }
+        requires here { owner (plan_of self.now.drawing.now).parts at.old.x self.now.y
+            ≡ Some (shown piece.now) }
+        ensures { RunsFrom (plan_of self.now.drawing.now) self.now.y at.old result at.new }
+    {
+        if is_line_kind(piece.kind) {
+            return self.border_run(piece, at);
+        }
+        let x = at.x;
+        let end = piece.place.x + piece.place.width;
+        at.x = end;
+        at.piece = piece_at(self.drawing, self.sweep.here.as_slice(), end, self.y);
+        at.left = false;
+        Run {
+            piece,
+            c: ' ',
+            count: end - x,
+        }
+    }
+}

@@ -1,9 +1,0 @@
-use Rattle.tabled_table.proofs.Names.{IsCut, [], content_at, length, map, slice_index_or, ℕ, ◌<◌, ◌≡◌}
-use Rattle.tabled_table.proofs.iter_table.cuts.cut_cells.Given as goal
-
-abbrev pub invariant-cells : goal.invariant-cells
-invariant-cells g l = record {
-  as_many : length l.cut.items ≡ l.column;
-  each : (k : ℕ) → k < l.column
-      → IsCut (content_at l.layout k) (slice_index_or (map g.C.CellText.text l.cells) k []) (slice_index_or l.cut.items k []);
-}
