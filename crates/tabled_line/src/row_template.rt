@@ -16,10 +16,6 @@ use std::alloc::Global;
 use tabled_base::TableError;
 use tabled_config::{HorizontalLine, VerticalLine};
 
-/// The template is given up after half as many lines that couldn't be filled in. Each line that is
-/// filled in makes up for half of one that wasn't.
-const TRIES: usize = 16;
-
 /// The most columns of a template, not counting vertical lines. A longer one isn't worth the
 /// memory, and a table can be wider than memory is large.
 const MOST_COLUMNS: usize = 65_536;
@@ -180,8 +176,6 @@ pub(crate) struct RowTemplate {
     /// Where the cells of the blank row begin.
     slots: Vec<Slot>,
     line: Vec<u8>,
-    /// Twice the number of lines that may still fail before the template is given up.
-    tries: usize,
 }
 
 impl RowTemplate {
@@ -201,7 +195,6 @@ impl RowTemplate {
             line: Vec::from_slice(alloc, blank.as_bytes()).ok()?,
             blank,
             slots,
-            tries: TRIES,
         })
     }
 
@@ -216,17 +209,11 @@ impl RowTemplate {
             → self.new.line.items ≡ 10 ∷ row_line (R.sheet row.now) at.now.index }
         ensures utf8 { result ≡ true → IsUtf8 (row_line (R.sheet row.now) at.now.index) }
     {
-        if self.tries == 0 || (at.height != 1 && !at.top) {
+        if at.height != 1 && !at.top {
             return false;
         }
         self.line.copy_from_slice(self.blank.as_bytes());
-        let laid = fill_cells(&mut self.line[1..], &self.slots, row, at);
-        self.tries = if laid {
-            self.tries.saturating_add(1).min(TRIES)
-        } else {
-            self.tries.saturating_sub(2)
-        };
-        laid
+        fill_cells(&mut self.line[1..], &self.slots, row, at)
     }
 
     pub fn text(&self) -> &str

@@ -9,4 +9,4 @@ returns-clause-utf8 g c = λ all.
     let blank = c.requires.known.blank in
     let copied = c.deref_mut.ensures.value ∙ c.copy_from_slice.ensures.items ∙ c.as_bytes.ensures.value ∙ blank in
     let before = lines_after-rest _ (subst IsUtf8 blank (IsUtf8-string_bytes c.args.self.now.blank)) in
-    subst IsUtf8 (c.fill_cells-laid.ensures.laid all) (c.fill_cells-laid.ensures.utf8 (subst IsUtf8 (sym (lines_after-mid _ _ copied)) before))
+    subst IsUtf8 (c.fill_cells.ensures.laid all) (c.fill_cells.ensures.utf8 (subst IsUtf8 (sym (lines_after-mid _ _ copied)) before))
