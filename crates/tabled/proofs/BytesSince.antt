@@ -1,5 +1,5 @@
 -- A writer that stays the same, and keeps what it held, while a sink stands before it.
-use Rattle.tabled.proofs.Names.{Advances, Appends, Appends-nil, Begins, Block, Bool, Err, IfSome, IsCause, IsErrAnd, IsPartlyWritten, Keeps}
+use Rattle.tabled.proofs.Names.{Advances, Appends, Appends-nil, Begins, Block, Bool, Err, IfSome, IsCause, IsPartlyWritten, Keeps}
 use Rattle.tabled.proofs.Names.{List, None, Ok, OnOk, Option, Puts, Result, Sends, Sent, Some, TableError, Writer, Writes, [], ap}
 use Rattle.tabled.proofs.Names.{append-nil, append_assoc, arith, block_sent, drop, false, if◌then◌else◌, inl, inr, length, nat_tests, refl}
 use Rattle.tabled.proofs.Names.{sent_since, subst, sym, take, true, ℕ, ⊎_elim, ◌++◌, ◌+◌, ◌==◌, ◌∙◌, ◌∷◌, ◌≡◌, ◌≤◌}
