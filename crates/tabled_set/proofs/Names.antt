@@ -19,7 +19,7 @@ pub use Rattle.tabled_config.specs.Frame.{has_inner, has_left, has_right}
 pub use Rattle.tabled_priority.specs.Laws.Sums.{sum-below}
 pub use Rattle.tabled_priority.specs.Sums.{one_if, sum_below}
 pub use Rattle.tabled_set.specs.BestNarrowing.{inner_width}
-pub use Rattle.tabled_set.specs.CellChanges.{AreChanged, AreChangedBefore, ByColumn, ByRow, WalkOrder, if_sized, if_wider}
+pub use Rattle.tabled_set.specs.CellChanges.{AreChanged, AreChangedBefore, ByColumn, ByRow, NeedNoMemory, WalkOrder, if_sized, if_wider}
 pub use Rattle.tabled_set.specs.CellChanges.{leaves, needs, on_line, precedes, truncating}
 pub use Rattle.tabled_set.specs.Common.{AreCleared, AreTexts, CompleteDimension, FitsIn, IsAdditive, IsCut, IsFilledIn, IsInside}
 pub use Rattle.tabled_set.specs.Common.{IsRectangular, IsSized, IsTakenFrom, Memory, Range, Sheet, SpannedConfig, TableError, at, cell_at}

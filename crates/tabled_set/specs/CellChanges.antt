@@ -137,3 +137,7 @@ leaves cell_filter change content_sizes row column before after = if_sized (if_t
 -- a cell has a content size, and changing it needs an allocation
 abbrev pub needs : CellFilter → (ℕ → List ℕ → Type 0) → (ℕ → ℕ → Option ℕ) → ℕ → ℕ → List ℕ → Type 0
 needs cell_filter in_place content_sizes row column text = NeedsMemoryIn cell_filter in_place (content_sizes row column) text
+
+-- a walk over the chosen cells allocates for none of them
+abbrev pub NeedNoMemory : (ℕ → ℕ → Bool) → (ℕ → ℕ → List ℕ → Type 0) → List (List (List ℕ)) → Type 0
+NeedNoMemory chosen needs cells = (row column : ℕ) → IsInside cells row column → chosen row column ≡ true → needs row column (cell_at cells row column) → ⊥

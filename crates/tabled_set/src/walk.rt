@@ -1,8 +1,9 @@
 //! Changes the cells of an entity, one after another.
-ghost use Rattle.std.specs.Prelude.{◌≡◌, ◌≤◌, ◌<◌, ◌==◌, ◌&&◌, ℕ, IfErr, OnErr, OnOk};
-ghost use Rattle.tabled_set.specs.Common.{covers, IsInside, Memory};
+ghost use Rattle.std.specs.Prelude.{◌≡◌, ◌≤◌, ◌<◌, ◌==◌, ◌&&◌, ◌⊎◌, ℕ, IfErr, OnErr, OnOk, length};
+ghost use Rattle.std.specs.Prelude.{true};
+ghost use Rattle.tabled_set.specs.Common.{columns, covers, IsInside, Memory};
 ghost use Rattle.tabled_set.specs.CellChanges.{line_of, place_of, AreChanged, AreChangedBefore};
-ghost use Rattle.tabled_set.specs.CellChanges.{is_within, leaves, lines_in};
+ghost use Rattle.tabled_set.specs.CellChanges.{ByRow, is_within, leaves, lines_in, NeedNoMemory};
 ghost use Rattle.tabled_set.specs.CellChanges.{needs, on_line, places_in};
 
 use crate::resize::{Change, ContentSizes, TextTransform};
@@ -91,6 +92,56 @@ fn change_line<T: TextTransform, M: ContentSizes, R: RecordsMut>(
     Ok(())
 }
 
+fn are_cut_in_place_in<T: TextTransform, M: ContentSizes, R: RecordsMut>(
+    by: &Change<'_, T, M>,
+    records: &R,
+    row: usize,
+    band: &Range<usize>,
+) -> bool
+    requires row_in { row < length (R.cells records.now) }
+    requires columns_in { band.now.end ≤ columns (R.cells records.now) }
+    ensures { let it = by.now in result ≡ true → NeedNoMemory (on_line ByRow row band.now)
+        (needs it.cell_filter (T.shortens it.transform.now)
+        (M.content_size_at it.content_sizes.now)) (R.cells records.now) }
+{
+    'columns: for column in band.start..band.end {
+        let at = Position { row, column };
+        let Some(content_size) = by.content_sizes.content_size(at) else {
+            continue;
+        };
+        let (text, columns, lines) = records.get_measured(at);
+        let is_taken = by.cell_filter.takes(columns, lines, content_size);
+        if is_taken && by.transform.beginning(text, content_size).is_none() {
+            return false;
+        }
+    }
+    true
+}
+
+/// Returns the order in which the cells of an entity are changed: in memory order if each of them
+/// doesn't change or is cut in place, so that nothing is allocated and the order can't be seen.
+fn order_for<T: TextTransform, M: ContentSizes, R: RecordsMut>(
+    by: &Change<'_, T, M>,
+    records: &R,
+    order: WalkOrder,
+    entity: Entity,
+) -> WalkOrder
+    ensures { let it = by.now in (result ≡ order) ⊎ NeedNoMemory (covers entity)
+        (needs it.cell_filter (T.shortens it.transform.now)
+        (M.content_size_at it.content_sizes.now)) (R.cells records.now) }
+{
+    if let WalkOrder::ByRow = order {
+        return order;
+    }
+    let (rows, columns) = lines_of_entity(entity, WalkOrder::ByRow, records);
+    'rows: for row in rows.start..rows.end {
+        if !are_cut_in_place_in(by, records, row, &columns) {
+            return order;
+        }
+    }
+    WalkOrder::ByRow
+}
+
 /// Changes the entity's cells that have a content size and pass the filter, in the given order. No
 /// other cell changes. Fails only with `Memory`, at one of these cells that can't be cut in place.
 /// That cell and those after it are unchanged.
@@ -110,9 +161,10 @@ pub fn change_cells<T: TextTransform, M: ContentSizes, R: RecordsMut>(
         (R.cells records.old) (R.cells records.new)) }
     ensures only { IfErr result (λ e. e ≡ Memory) }
 {
-    let (lines, places) = lines_of_entity(entity, order, records);
+    let walked = order_for(by, records, order, entity);
+    let (lines, places) = lines_of_entity(entity, walked, records);
     'lines: for line in lines.start..lines.end {
-        change_line(by, records, order, line, &places)?;
+        change_line(by, records, walked, line, &places)?;
     }
     Ok(())
 }
