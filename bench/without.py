@@ -27,7 +27,7 @@ PATHS = {
     "placements": ("tabled_grid/src/column_styles.rt", "FEW_COLUMNS: usize = 128;", "FEW_COLUMNS: usize = 1;"),
     # Tables of few columns have few cursors.
     "cursors": ("tabled_line/src/cursor.rt", "FEW_CURSORS: usize = 64;", "FEW_CURSORS: usize = 1;"),
-    # The program writes 64 KiB at once.
+    # The program writes 64 KiB at once. For `compare.py`, over a `tabprint` that was built in the copy.
     "blocks": ("tabled/src/block_buffer.rt", "BLOCK: usize = 1 << 16;", "BLOCK: usize = 1 << 10;"),
 }
 
