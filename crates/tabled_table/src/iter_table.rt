@@ -13,9 +13,9 @@ ghost use Rattle.tabled_table.specs.Stream.Streams.{BuildsStream, Came, PrintsSt
 
 mod first_rows;
 mod layout;
-mod next_rows;
 mod row;
 mod settings;
+mod stream;
 
 use crate::iter_table::first_rows::Printer;
 use crate::iter_table::settings::StreamSettings;

@@ -16,7 +16,7 @@
 //!   columns.
 //! - `iter_table/layout`: the columns of a stream, what is around its cells, and its total width
 //! - `iter_table/row`: the columns that lines are printed over, and a row that is cut to them
-//! - `iter_table/next_rows`: writes the rows that were read first, and reads and writes the next
+//! - `iter_table/stream`: writes the rows that were read first, and reads and writes the next
 //!
 //! `laws`: facts about tables and streamed tables.
 #![tactic(auto)]

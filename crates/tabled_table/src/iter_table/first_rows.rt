@@ -12,7 +12,7 @@ ghost use Rattle.tabled_table.specs.Stream.Streams.{ArePermitted, Streams, strea
 ghost use Rattle.tabled_text.specs.Measure.{text_columns};
 
 use crate::iter_table::layout::Layout;
-use crate::iter_table::next_rows::Stream;
+use crate::iter_table::stream::Stream;
 use crate::iter_table::row::StreamColumns;
 use crate::iter_table::settings::{StreamSettings, first_rows, up_to};
 use std::alloc::{AllocError, Global};

@@ -1,7 +1,7 @@
 use Rattle.tabled_table.proofs.Names.{Memory, arith, content_at, length-map, map, refl, ◌<◌, ◌^◌}
 use Rattle.std.proofs.lemmas.List.{map-id}
 use Rattle.tabled_table.proofs.Stream.Steps.{cut_first, next-put, next-refused}
-use Rattle.tabled_table.proofs.iter_table.next_rows.Stream.write_next_record.Goals as goal
+use Rattle.tabled_table.proofs.iter_table.stream.Stream.write_next_record.Goals as goal
 
 pub returns-in_err-cut-clause-printed : goal.returns-in_err-cut-clause-printed
 returns-in_err-cut-clause-printed g c =

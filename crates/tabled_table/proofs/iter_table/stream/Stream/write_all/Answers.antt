@@ -8,9 +8,9 @@ use Rattle.tabled_table.proofs.Stream.Going.{reads-more, reads-no-more, some-fur
 use Rattle.tabled_table.proofs.Stream.Finished.{put-finished, put-halted, top-put}
 use Rattle.tabled_table.proofs.Stream.FirstRows.{sniffed-shown}
 use Rattle.tabled_table.proofs.Stream.Measures.{shown-texts, shown-within, sniffed-long, texts-long}
-use Rattle.tabled_table.proofs.iter_table.next_rows.Stream.write_all.Goals.{then-taken-via-then-taken}
-use Rattle.tabled_table.proofs.iter_table.next_rows.Stream.write_all.Goals.{then-taken-via-else-taken+then-is_none_left}
-use Rattle.tabled_table.proofs.iter_table.next_rows.Stream.write_all.Goals as goal
+use Rattle.tabled_table.proofs.iter_table.stream.Stream.write_all.Goals.{then-taken-via-then-taken}
+use Rattle.tabled_table.proofs.iter_table.stream.Stream.write_all.Goals.{then-taken-via-else-taken+then-is_none_left}
+use Rattle.tabled_table.proofs.iter_table.stream.Stream.write_all.Goals as goal
 
 pub returns-in_err-write_margin : goal.returns-in_err-write_margin
 returns-in_err-write_margin g c =

@@ -2,7 +2,7 @@ use Rattle.tabled_table.proofs.Names.{Err, Ok, [], ap, arith, get_or, get_or-tak
 use Rattle.tabled_table.proofs.Names.{take_all, ◌+◌, ◌<◌, ◌∙◌, ◌≡◌}
 use Rattle.tabled_table.proofs.Stream.Measures.{row-at}
 use Rattle.tabled_table.proofs.Stream.Going.{kept-next, match-err}
-use Rattle.tabled_table.proofs.iter_table.next_rows.Stream.write_first_rows.Goals as goal
+use Rattle.tabled_table.proofs.iter_table.stream.Stream.write_first_rows.Goals as goal
 
 pub returns-in_err-write_next_record-clause-printed : goal.returns-in_err-write_next_record-clause-printed
 returns-in_err-write_next_record-clause-printed g c =

@@ -1,5 +1,5 @@
 use Rattle.tabled_table.proofs.Names.{inl, inr, layout_row, lengthened, lines-finished, lines-stopped-first, map, refl, row_lines, sym}
-use Rattle.tabled_table.proofs.iter_table.next_rows.Stream.write_cut_row.Goals as goal
+use Rattle.tabled_table.proofs.iter_table.stream.Stream.write_cut_row.Goals as goal
 
 pub returns-in_err-cursors-clause-printed : goal.returns-in_err-cursors-clause-printed
 returns-in_err-cursors-clause-printed g c = inl (c.from_residual.ensures.1, refl, refl)

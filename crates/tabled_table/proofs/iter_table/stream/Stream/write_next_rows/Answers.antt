@@ -2,7 +2,7 @@ use Rattle.tabled_table.proofs.Names.{[], ap, arith, common_steps, length, lengt
 use Rattle.tabled_table.proofs.Names.{true, ◌++◌, ◌+◌, ◌∙◌, ◌∷◌, ◌≡◌}
 use Rattle.tabled_records.proofs.RowsRead.{reads-none}
 use Rattle.tabled_table.proofs.Stream.Going.{err-as, left-first, left-next, more-halts, more-next, more-none, more-refused, permitted-next}
-use Rattle.tabled_table.proofs.iter_table.next_rows.Stream.write_next_rows.Goals as goal
+use Rattle.tabled_table.proofs.iter_table.stream.Stream.write_next_rows.Goals as goal
 
 pub rows-init : goal.rows-init
 rows-init g c =

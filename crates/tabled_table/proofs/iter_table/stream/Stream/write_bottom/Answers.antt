@@ -1,5 +1,5 @@
 use Rattle.tabled_table.proofs.Stream.Finished.{bottom-put, bottom-stopped}
-use Rattle.tabled_table.proofs.iter_table.next_rows.Stream.write_bottom.Goals as goal
+use Rattle.tabled_table.proofs.iter_table.stream.Stream.write_bottom.Goals as goal
 
 pub returns-in_err-write_rule-clause-printed : goal.returns-in_err-write_rule-clause-printed
 returns-in_err-write_rule-clause-printed g c =

@@ -1,5 +1,5 @@
 use Rattle.tabled_table.proofs.Names.{CompactConfig, HasPut, List, Sent, [], length, map, take, ℕ, ◌≡◌}
-use Rattle.tabled_table.proofs.iter_table.next_rows.Stream.write_first_rows.Given as goal
+use Rattle.tabled_table.proofs.iter_table.stream.Stream.write_first_rows.Given as goal
 
 abbrev pub invariant-rows : goal.invariant-rows
 invariant-rows g l = record {

@@ -1,5 +1,5 @@
 use Rattle.tabled_table.proofs.Names.{HasPutMore, List, MatchOption, MayGive, None, Reads, Some, length, map, size, ◌-◌, ◌≡◌, ◌≤◌}
-use Rattle.tabled_table.proofs.iter_table.next_rows.Stream.write_next_rows.Given as goal
+use Rattle.tabled_table.proofs.iter_table.stream.Stream.write_next_rows.Given as goal
 
 abbrev pub invariant-rows : goal.invariant-rows
 invariant-rows g l = record {
