@@ -7,8 +7,10 @@ use Rattle.tabled_records.proofs.Names.{parts, refl, replicate, rows_in, suc, sy
 use Rattle.tabled_records.proofs.Names.{◌++◌, ◌+◌, ◌-◌, ◌<◌, ◌∙◌, ◌∷◌, ◌≡◌, ◌≤◌}
 use Rattle.std.proofs.lemmas.List.{get_or-append_right, get_or-map}
 use Rattle.std.proofs.lemmas.Simd.{map-map}
-use Rattle.tabled_base.specs.Cells.{longest}
-use Rattle.tabled_base.proofs.LengthenedRows.{lengthened_rows-more}
+use Rattle.tabled_base.proofs.Lengthening.{lengthened-rectangular}
+use Rattle.tabled_base.proofs.LengthenedRows.{lengthened_rows-more, rectangular-longest}
+use Rattle.tabled_base.specs.Cells.{IsRectangular, longest}
+use Rattle.tabled_records.specs.Written.{AreWritten, Written, with_text, written_in}
 
 length-part : {A : Type 0} (texts : List A) (range : ℕ × ℕ) → range.0 + range.1 ≤ length texts → length (part texts range) ≡ range.1
 length-part texts range h = omega (arith, length-take range.1 (drop range.0 texts), length-drop range.0 texts)
@@ -96,6 +98,24 @@ pub ranges-added : {A : Type 0} (texts added new : List A) (ranges all : List (�
 ranges-added texts added new ranges all start count h e first more last =
     let grown = ap length e ∙ length-append texts added in
     rw last (ranges-next (length texts) (length new) ranges (start, count) h (omega (arith, grown)) (omega (arith, grown, first, more)))
+
+-- a text that is written goes to the row that is begun
+pub text-written : (texts new : List (List ℕ)) (ranges : List (ℕ × ℕ)) (ended : ℕ) (text : List ℕ) → AreWritten texts ranges ended
+    → new ≡ texts ++ text ∷ [] → written_in new ranges ended ≡ with_text (written_in texts ranges ended) text
+text-written texts new ranges ended text h e =
+    let both : List (List (List ℕ)) → List (List ℕ) → Written = λ rows begun. record { rows = rows; begun = begun } in
+    ap (λ t. written_in t ranges ended) e
+    ∙ ap (λ rows. both rows (drop ended (texts ++ text ∷ []))) (parts-append texts (text ∷ []) ranges h.inside)
+    ∙ ap (both (parts texts ranges)) (drop-append-le ended texts (text ∷ []) h.within)
+
+-- equally long rows are as long as the longest
+longest-columns : (rows : List (List (List ℕ))) → IsRectangular rows → longest rows ≤ columns rows
+longest-columns [] h = omega arith
+longest-columns (row ∷ rows) h =
+    All-head (λ r. longest (row ∷ rows) ≤ length r) row rows (rectangular-longest (row ∷ rows) h)
+
+pub rectangular-same : (rows : List (List (List ℕ))) → IsRectangular rows → lengthened_rows rows ≡ rows
+rectangular-same rows h = lengthened-rectangular (longest rows) rows h (longest-columns rows h)
 
 -- the cells of lines are lengthened to those of the longest line
 pub rows-lines : (lines : List (List ℕ)) → lengthened_rows (map cells_of lines) ≡ map (λ line. lengthened (most_cells lines) (cells_of line)) lines

@@ -49,6 +49,10 @@ pub record AreFilled (whole : List ℕ) (places : List (ℕ × ℕ)) (lines : Li
   pub filled : behind 0 0 places ≡ length whole
   pub few : length lines ≤ length places
 
+-- the columns and the lines of a text
+abbrev pub measures_of : List ℕ → ℕ × ℕ
+measures_of text = (text_columns text, length (lines_of text))
+
 -- a text is returned with its columns and lines
 pub record AreMeasures (text told : List ℕ) (columns lines : ℕ) : Type 0 where
   pub same : told ≡ text

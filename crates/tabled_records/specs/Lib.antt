@@ -11,3 +11,4 @@ pub mod Limited
 pub mod Reading
 pub mod RowByRow
 pub mod TextRows
+pub mod Written

@@ -2,13 +2,13 @@
 //! are appended.
 ghost use Rattle.std.specs.Iterator.{IsFiniteIterable};
 ghost use Rattle.std.specs.List.{slice_index_or, slice_range};
-ghost use Rattle.std.specs.Prelude.{IfErr, IfOk, List, OnErr, OnOk, [], length, map, true, ℕ, ◌++◌};
-ghost use Rattle.std.specs.Prelude.{◌+◌, ◌<◌, ◌∷◌, ◌≡◌, ◌≤◌};
+ghost use Rattle.std.specs.Prelude.{IfErr, IfOk, IfSome, List, OnErr, OnOk, [], drop, length, map};
+ghost use Rattle.std.specs.Prelude.{true, ℕ, ◌++◌, ◌+◌, ◌<◌, ◌∷◌, ◌≡◌, ◌≤◌};
 ghost use Rattle.std.specs.Str.{IsCharBoundary};
 ghost use Rattle.tabled_base.specs.Cells.{IsInside, cell_at, lengthened, with_record};
 ghost use Rattle.tabled_base.specs.Given.{Given};
 ghost use Rattle.tabled_base.specs.declared.error.TableError.TheVariants.{Memory};
-ghost use Rattle.tabled_records.specs.Joined.{AreKept, AreMeasures, texts_from};
+ghost use Rattle.tabled_records.specs.Joined.{AreKept, AreMeasures, measures_of, texts_from};
 ghost use Rattle.tabled_records.specs.JoinedRows.{AreRanges, rows_in};
 ghost use Rattle.tabled_records.specs.LentRows.{HasNo, IsLent, IsPrintable};
 ghost use Rattle.tabled_records.specs.TextRows.{cells_of, most_cells, text_rows};
@@ -186,8 +186,23 @@ fn lines_at(lines: &[usize], place: usize) -> usize
     lines.get(place).copied().unwrap_or(1)
 }
 
+/// Returns the columns and the lines of a text from byte `start` on, and measures them unless they
+/// are known.
+#[inline(always)]
+fn tail_measures_or(text: &str, start: usize, known: Option<(usize, usize)>) -> (usize, usize)
+    requires begins { IsCharBoundary text.now start }
+    requires known { IfSome known (λ known. known ≡ measures_of (drop start text.now)) }
+    ensures { result ≡ measures_of (drop start text.now) }
+{
+    match known {
+        Some(measures) => measures,
+        None => tail_measures(text, start),
+    }
+}
+
 /// Stores the end, the columns and the lines of a text. If it fails, those of the texts before it
 /// are unchanged.
+#[inline(always)]
 fn push_ends(
     ends: &mut Pairs,
     lines: &mut Vec<usize>,
@@ -224,6 +239,17 @@ impl JoinedTexts {
         }
     }
 
+    /// Makes an empty list that `count` texts fit, their bytes aside.
+    pub fn with_capacity(alloc: Global, count: usize) -> Result<JoinedTexts, AllocError>
+        ensures { IfOk result (λ texts. texts ≡ []) }
+    {
+        Ok(JoinedTexts {
+            whole: String::new(alloc),
+            ends: Pairs::with_capacity(alloc, count)?,
+            lines: Vec::new(alloc),
+        })
+    }
+
     /// Returns the number of texts.
     pub fn len(&self) -> usize
         ensures { result ≡ length self.now }
@@ -246,15 +272,18 @@ impl JoinedTexts {
         }
     }
 
-    /// Adds a text. If it fails, the texts are unchanged.
-    pub fn push(&mut self, text: &str) -> Result<(), AllocError>
+    /// Adds a text. `known` are its columns and lines, if they are known. If it fails, the texts are
+    /// unchanged.
+    #[inline(always)]
+    pub fn push(&mut self, text: &str, known: Option<(usize, usize)>) -> Result<(), AllocError>
+        requires { IfSome known (λ known. known ≡ measures_of text.now) }
         ensures ok { OnOk result (self.new ≡ self.old ++ text.now ∷ []) }
         ensures err { OnErr result (self.new ≡ self.old) }
     {
         let start = self.whole.as_str().len();
         self.whole.push_str(text)?;
         let end = self.whole.as_str().len();
-        let (columns, lines) = tail_measures(self.whole.as_str(), start);
+        let (columns, lines) = tail_measures_or(self.whole.as_str(), start, known);
         let count = self.ends.len();
         match push_ends(&mut self.ends, &mut self.lines, (end, columns), lines) {
             Ok(()) => Ok(()),
@@ -270,8 +299,8 @@ impl JoinedTexts {
 /// Rows whose texts are joined in one buffer. Rows shorter than the longest end with empty cells.
 #[derive(Debug, Drop)]
 pub struct JoinedRecords {
-    texts: JoinedTexts,
-    rows: RowRanges,
+    pub(crate) texts: JoinedTexts,
+    pub(crate) rows: RowRanges,
 }
 
 impl Model for JoinedRecords {
@@ -297,7 +326,7 @@ where
 {
     let cells = cells.into_iter();
     for cell in cells {
-        texts.push(cell.text())?;
+        texts.push(cell.text(), None)?;
     }
     Ok(())
 }

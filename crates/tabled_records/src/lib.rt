@@ -6,6 +6,7 @@
 //!   that takes half the memory while the numbers are small.
 //! - `joined_records.rt`: `LentRows`, rows whose cells borrow one text, which `text_rows` finds in
 //!   a text; `JoinedRecords`, rows of texts that are appended to one buffer.
+//! - `records_writer.rt`: `RecordsWriter`, which writes `JoinedRecords` text by text.
 //! - `flat_rows.rt`: `FlatRows`, rows whose cells are in one list.
 //! - `changed_records.rt`: `ChangedRecords`, other records with some cells changed.
 //!
@@ -31,6 +32,7 @@ mod iter_records;
 mod joined_records;
 mod limits;
 pub mod reading;
+mod records_writer;
 mod row_ranges;
 mod truncate;
 
@@ -40,4 +42,5 @@ pub use empty::{EmptyCells, EmptyRecords, EmptyRows};
 pub use iter_records::IterRecords;
 pub use joined_records::{JoinedRecords, LentRows, text_rows};
 pub use limits::{FirstCells, LaterRows, LimitColumns, LimitRows, NarrowRows, SkipRows};
+pub use records_writer::RecordsWriter;
 pub use truncate::{CutCell, CutCells, CutRows, TruncateContent};

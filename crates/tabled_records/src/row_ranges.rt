@@ -1,5 +1,5 @@
 //! Rows as ranges of a list of texts, and pairs of numbers in half the memory.
-ghost use Rattle.std.specs.Prelude.{◌≡◌, ◌<◌, ◌++◌, [], ◌∷◌, IfErr, IfSome, OnErr, OnOk, length};
+ghost use Rattle.std.specs.Prelude.{◌≡◌, ◌<◌, ◌++◌, [], ◌∷◌, IfErr, IfOk, IfSome, OnErr, OnOk, length};
 ghost use Rattle.std.specs.Prelude.{◌^◌, MatchOption};
 ghost use Rattle.std.specs.List.{slice_index_or};
 ghost use Rattle.tabled_base.specs.declared.error.TableError.TheVariants.{Memory};
@@ -44,6 +44,16 @@ impl Pairs {
             small: Vec::new(alloc),
             great: Vec::new(alloc),
         }
+    }
+
+    /// Makes an empty list that `count` small pairs fit.
+    pub fn with_capacity(alloc: Global, count: usize) -> Result<Pairs, AllocError>
+        ensures { IfOk result (λ pairs. pairs ≡ []) }
+    {
+        Ok(Pairs {
+            small: Vec::with_capacity(alloc, count)?,
+            great: Vec::new(alloc),
+        })
     }
 
     /// Returns the number of pairs.
@@ -122,6 +132,14 @@ impl RowRanges {
     {
         let ranges = Pairs::new(alloc);
         RowRanges { ranges, columns: 0 }
+    }
+
+    /// Makes an empty list that `count` rows fit.
+    pub fn with_capacity(alloc: Global, count: usize) -> Result<RowRanges, AllocError>
+        ensures { IfOk result (λ rows. rows ≡ []) }
+    {
+        let ranges = Pairs::with_capacity(alloc, count)?;
+        Ok(RowRanges { ranges, columns: 0 })
     }
 
     /// Returns the number of rows.
