@@ -2,7 +2,7 @@
 use Rattle.tabled_text.proofs.Names.{All, Bool, Bor, IsSplitAt, List, None, Option, Some, TextUnit}
 use Rattle.tabled_text.proofs.Names.{[], ap, append-nil, append_all, append_assoc}
 use Rattle.tabled_text.proofs.Names.{arith, length-append, length-drop, units, used_after, zero, ⊤}
-use Rattle.tabled_text.proofs.Names.{cases_lt, chars, columns_of, cond, drop, encode_utf8, encode_utf8_all, encodes-IsAscii, encodes-append}
+use Rattle.tabled_text.proofs.Names.{cases_lt, columns_of, cond, drop, encode_utf8, encode_utf8_all, encodes-IsAscii, encodes-append}
 use Rattle.tabled_text.proofs.Names.{eqb, false, get_or, inl, inr, is_additive, le-leb, length, length-take-le, list_all, lt-leb, map}
 use Rattle.tabled_text.proofs.Names.{needed, onto_first, refl, slice_split_none, space, split_at, subst, suc, sym, take, true, unit_of_char}
 use Rattle.tabled_text.proofs.Names.{units_of_word, units_of_words, words_in, words_of, ℕ, ◌++◌, ◌+◌, ◌-◌, ◌<◌, ◌∙◌, ◌∷◌, ◌≡◌, ◌≤◌}
@@ -10,7 +10,7 @@ use Rattle.std.proofs.Common.{take-append-drop}
 use Rattle.std.proofs.Math.Seq.{drop-append_seam, drop-cons, take-append_seam, take-suc}
 use Rattle.std.proofs.lemmas.List.{get_or-drop}
 use Rattle.std.proofs.lemmas.List.Elements.{All-drop}
-use Rattle.tabled_text.specs.Walk.{BreaksAt}
+use Rattle.tabled_text.specs.Walk.{BreaksAt, written_line}
 use Rattle.tabled_text.proofs.Filling.{append_all-append, append_all-breaks}
 use Rattle.tabled_text.proofs.Pieces.{IsAscii-printable, chars-printable, count_of-printable, filled-line, fitted, is_printable}
 use Rattle.tabled_text.proofs.Pieces.{parts-printable}
@@ -248,16 +248,13 @@ breaks-full n line some h long = record {
 
 -- ---- what is written
 
-abbrev pub spelled : ℕ → Bool → List ℕ → List ℕ
-spelled n words cs = encode_utf8_all (append_all n 0 (units n words (chars cs)))
-
-pub spelled-more : (n k : ℕ) (words : Bool) (cs : List ℕ) → is_printable cs ≡ true → BreaksAt n words cs k
-    → take k cs ++ (encode_utf8 10 ++ spelled n words (drop k cs)) ≡ spelled n words cs
-spelled-more n k words cs h b =
+pub written-more : (n k : ℕ) (words : Bool) (cs : List ℕ) → is_printable cs ≡ true → BreaksAt n words cs k
+    → take k cs ++ (encode_utf8 10 ++ written_line n words (drop k cs)) ≡ written_line n words cs
+written-more n k words cs h b =
     let front = take k cs in
     let parts = parts-printable k cs h in
     let more = append_all n 0 (units n words (drop k cs)) in
-    let written : spelled n words cs ≡ front ++ (encode_utf8 10 ++ encode_utf8_all more) =
+    let written : written_line n words cs ≡ front ++ (encode_utf8 10 ++ encode_utf8_all more) =
     ap (λ l. encode_utf8_all (append_all n 0 (units n words l))) (chars-printable cs h)
     ∙ ap encode_utf8_all b.rest ∙ encodes-append front (10 ∷ more)
     ∙ ap (λ l. l ++ (encode_utf8 10 ++ encode_utf8_all more)) (encodes-IsAscii front (IsAscii-printable front parts.0)) in

@@ -1,5 +1,5 @@
 -- What the private functions that wrap and compare do, unit after unit and without looking ahead.
-use Rattle.std.specs.Prelude.{◌≡◌, ℕ, ◌+◌, ◌<◌, ◌≤◌, Bool, true, false, ◌||◌, nat_le, List, [], ◌∷◌, ◌++◌, chars, length, take, drop, Option, Some, None, if◌then◌else◌}
+use Rattle.std.specs.Prelude.{◌≡◌, ℕ, ◌+◌, ◌<◌, ◌≤◌, Bool, true, false, ◌||◌, nat_le, List, [], ◌∷◌, ◌++◌, chars, encode_utf8_all, length, take, drop, Option, Some, None, if◌then◌else◌}
 use Rattle.std.specs.Borrow.{Bor}
 use Rattle.std.specs.List.{list_all}
 use Rattle.std.specs.Str.{IsUtf8}
@@ -35,6 +35,10 @@ append_all n used (unit ∷ units) = append_text n used unit ++ append_all n (ap
 abbrev pub used_after : ℕ → ℕ → List TextUnit → ℕ
 used_after n used [] = used
 used_after n used (unit ∷ units) = used_after n (append_used n used unit) units
+
+-- the bytes that a line, given by its bytes, writes
+abbrev pub written_line : ℕ → Bool → List ℕ → List ℕ
+written_line n words line = encode_utf8_all (append_all n 0 (units n words (chars line)))
 
 -- what the remaining lines write. `begun` says that a line was written before
 abbrev pub pending : ℕ → Bool → Bool → List (List ℕ) → List ℕ

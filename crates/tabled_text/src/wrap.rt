@@ -5,16 +5,17 @@ ghost use Rattle.std.specs.Prelude.{IsUtf8, string_bytes, OnErr, false, true, �
 ghost use Rattle.std.specs.Int.{is_in_range};
 ghost use Rattle.std.specs.List.{list_all};
 ghost use Rattle.tabled_text.specs.Cut.{IsCut, NeedsFill};
-ghost use Rattle.tabled_text.specs.Measure.{char_count, lines_of};
+ghost use Rattle.tabled_text.specs.Measure.{char_count, lines_of, text_columns};
 ghost use Rattle.tabled_text.specs.Units.{unit_of_char, words_of, units, units_of_word};
 ghost use Rattle.tabled_text.specs.Units.{units_of_words};
 ghost use Rattle.tabled_text.specs.Breaking.{EachUnitFits, HasFewestLines, IsLeastBreaking};
 ghost use Rattle.tabled_text.specs.Wrapping.{IsWrapped};
 ghost use Rattle.tabled_text.specs.Walk.{BreaksAt, words_in, begin_at, begin_text, append_text};
 ghost use Rattle.tabled_text.specs.Walk.{append_used, append_all, used_after, pending};
+ghost use Rattle.tabled_text.specs.Walk.{written_line};
 
 use crate::character::{char_count, split_first, split_piece};
-use crate::measure::{is_printable, line_width, lines};
+use crate::measure::{is_printable, line_width, lines, text_measures};
 use crate::runs::split_at_byte;
 use crate::sink::{Sink, append_copies};
 use std::alloc::{AllocError, Global};
@@ -210,34 +211,48 @@ fn line_end(line: &str, n: usize, words: bool) -> usize
     at
 }
 
-/// Writes a line of printable ASCII, broken to n columns.
-fn append_printable<S: Sink>(out: &mut S, n: usize, words: bool, line: &str) -> Result<(), S::Error>
+/// Writes a line of printable ASCII, broken to n columns. Returns the columns and the number of
+/// lines of what it wrote.
+fn append_printable<S: Sink>(
+    out: &mut S,
+    n: usize,
+    words: bool,
+    line: &str,
+) -> Result<(usize, usize), S::Error>
     requires some { 0 < n }
     requires printable { list_all (is_in_range 0x20 0x7E) line.now ≡ true }
-    ensures { OnOk result (S.adds out.old
-        (encode_utf8_all (append_all n 0 (units n words (chars line.now)))) out.new) }
+    ensures columns { IfOk result (λ answer.
+        answer.0 ≡ text_columns (written_line n words line.now)) }
+    ensures lines { IfOk result (λ answer.
+        answer.1 ≡ length (lines_of (written_line n words line.now))) }
+    ensures text { OnOk result (S.adds out.old (written_line n words line.now) out.new) }
 {
+    let mut widest: usize = 0;
+    let mut count: usize = 1;
     let mut rest = line;
     'lines: while rest.len() > n {
         let (front, after) = rest.split_at(line_end(rest, n, words));
         out.append_str(front)?;
         out.append_char('\n')?;
+        widest = widest.max(front.len());
+        count += 1;
         rest = after;
     }
-    out.append_str(rest)
+    out.append_str(rest)?;
+    Ok((widest.max(rest.len()), count))
 }
 
 /// Writes a line, broken to n columns.
 fn append_line<S: Sink>(out: &mut S, n: usize, words: bool, line: &str) -> Result<(), S::Error>
     requires { 0 < n }
-    ensures { OnOk result (S.adds out.old
-        (encode_utf8_all (append_all n 0 (units n words (chars line.now)))) out.new) }
+    ensures { OnOk result (S.adds out.old (written_line n words line.now) out.new) }
 {
     if line.len() <= n {
         return out.append_str(line);
     }
     if is_printable(line) {
-        return append_printable(out, n, words, line);
+        append_printable(out, n, words, line)?;
+        return Ok(());
     }
     if words {
         return append_words(out, n, line);
@@ -257,9 +272,6 @@ pub(crate) fn append_lines<S: Sink>(
     ensures { OnOk result (S.adds out.old
         (encode_utf8_all (pending n words false (lines_of (chars text.now)))) out.new) }
 {
-    if is_printable(text) {
-        return append_printable(out, n, words, text);
-    }
     let mut begun = false;
     for line in lines(text) {
         if begun {
@@ -293,20 +305,32 @@ pub fn wrap_text(alloc: Global, text: &str, n: usize, words: bool) -> Result<Str
 }
 
 /// Replaces `out` by a text wrapped to lines of at most n columns, as `wrap_text` returns it.
-pub fn wrap_into(out: &mut String, text: &str, n: usize, words: bool) -> Result<(), AllocError>
+/// Returns the columns and the number of lines of `out`.
+pub fn wrap_into(
+    out: &mut String,
+    text: &str,
+    n: usize,
+    words: bool,
+) -> Result<(usize, usize), AllocError>
     ensures wrapped { OnOk result (IsWrapped n words text.now (string_bytes out.new)) }
+    ensures columns { IfOk result (λ answer. answer.0 ≡ text_columns (string_bytes out.new)) }
+    ensures lines { IfOk result (λ answer. answer.1 ≡ length (lines_of (string_bytes out.new))) }
     ensures memory { OnErr result ((0 < n) × (0 < length text.now)) }
 {
     out.clear();
     if n == 0 || text.is_empty() {
-        return Ok(());
+        return Ok((0, 1));
     }
     if fits_bytes(text, n) {
         out.push_str(text)?;
-        return Ok(());
+        return Ok(text_measures(text));
     }
     out.reserve_exact(text.len().saturating_add(text.len() / n))?;
-    append_lines(out, n, words, text)
+    if is_printable(text) {
+        return append_printable(out, n, words, text);
+    }
+    append_lines(out, n, words, text)?;
+    Ok(text_measures(out.as_str()))
 }
 
 /// Whether a text has at most n bytes. Wrapping or cutting it to n columns, which are then at least

@@ -1,7 +1,6 @@
-use Rattle.tabled_text.proofs.Names.{OnOk, [], ap, append_all, chars, cond, encode_ascii, encode_utf8_all, false, lines_left, lit<, map}
+use Rattle.tabled_text.proofs.Names.{[], ap, append_all, chars, cond, encode_ascii, encode_utf8_all, false, lines_left, lit<, map}
 use Rattle.tabled_text.proofs.Names.{pending, subst, sym, true, units, ◌++◌, ◌∙◌, ◌∷◌}
 use Rattle.tabled_text.proofs.Bridge.{lines_of-chars}
-use Rattle.tabled_text.proofs.Pieces.{pending-printable}
 use Rattle.tabled_text.proofs.WriteLemmas.{encodes-pending}
 use Rattle.tabled_text.proofs.wrap.append_lines.Goals as goal
 use Rattle.tabled_text.proofs.wrap.append_lines.Goals.{then-begun+in_ok-append_char, else-begun}
@@ -41,8 +40,3 @@ pub returns : goal.returns
 returns g c = c.loop-line.invariant c.loop-line.out
     (subst (λ l. g.S.Sink.adds c.loop-line.out (encode_utf8_all (pending c.args.n c.args.words c.loop-line.begun l))
     c.loop-line.out) (sym (ap (map chars) c.in-None.ensures.steps.0)) (g.met.S.Sink.adds_nothing c.loop-line.out))
-
-pub returns-then-is_printable : goal.returns-then-is_printable
-returns-then-is_printable g c =
-    subst (λ x. OnOk c.append_printable.result (g.S.Sink.adds c.args.out.now x c.append_printable.new.out))
-    (pending-printable c.args.n c.args.words c.args.text.now (sym c.is_printable.ensures ∙ c.if-is_printable.true)) c.append_printable.ensures

@@ -1,7 +1,10 @@
-use Rattle.tabled_text.proofs.Names.{IsWrapped, ap, arith, chars, encode_utf8_all, eqb-true, false, inl, inr, length, lines_of}
-use Rattle.tabled_text.proofs.Names.{nil_from_length, on_ok_weaker, pending, subst, sym, ◌++◌, ◌∙◌}
-use Rattle.std.proofs.Common.{string_bytes}
+use Rattle.tabled_text.proofs.Names.{IfOk, IsWrapped, List, OnOk, [], ap, arith, chars, encode_utf8_all, eqb-true, false, inl, inr, length, lines_of}
+use Rattle.tabled_text.proofs.Names.{nil_from_length, on_ok_weaker, pending, subst, sym, text_columns, ℕ, ◌++◌, ◌∙◌, ◌≡◌}
+use Rattle.std.proofs.Common.{Err, Ok, Result, string_bytes}
 use Rattle.std.proofs.lemmas.Str.{IsUtf8-string_bytes}
+use Rattle.tabled_text.specs.Walk.{written_line}
+use Rattle.tabled_text.proofs.JoinLemmas.{text_columns-nil}
+use Rattle.tabled_text.proofs.Pieces.{pending-printable}
 use Rattle.tabled_text.proofs.WriteLemmas.{IsWrapped-written, IsWrapped-nothing}
 use Rattle.tabled_text.proofs.wrap.wrap_into.Goals as goal
 use Rattle.tabled_text.proofs.wrap.wrap_into.Goals.{then-n-eq0-via-then-n-eq0, then-n-eq0-via-else-n-eq0+then-is_empty}
@@ -17,17 +20,62 @@ returns-then-n-eq0-clause-wrapped c =
     ])
     c.clear.ensures.bytes
 
+pub returns-then-n-eq0-clause-columns : goal.returns-then-n-eq0-clause-columns
+returns-then-n-eq0-clause-columns c = sym (ap text_columns c.clear.ensures.bytes ∙ text_columns-nil)
+
+pub returns-then-n-eq0-clause-lines : goal.returns-then-n-eq0-clause-lines
+returns-then-n-eq0-clause-lines c = sym (ap (λ l. length (lines_of l)) c.clear.ensures.bytes)
+
 pub returns-then-fits_bytes-clause-wrapped : goal.returns-then-fits_bytes-clause-wrapped
 returns-then-fits_bytes-clause-wrapped c =
     let text = c.args.text.now in
     subst (IsWrapped c.args.n c.args.words text) (sym (c.in_ok-push_str.ensures.bytes ∙ ap (λ l. l ++ text) c.clear.ensures.bytes))
     (c.fits_bytes.ensures.wrapped c.args.words c.if-fits_bytes.true (omega arith))
 
+pub returns-then-fits_bytes-clause-columns : goal.returns-then-fits_bytes-clause-columns
+returns-then-fits_bytes-clause-columns c =
+    let text = c.args.text.now in
+    c.text_measures.ensures.columns ∙ sym (ap text_columns (c.in_ok-push_str.ensures.bytes ∙ ap (λ l. l ++ text) c.clear.ensures.bytes))
+
+pub returns-then-fits_bytes-clause-lines : goal.returns-then-fits_bytes-clause-lines
+returns-then-fits_bytes-clause-lines c =
+    let text = c.args.text.now in
+    c.text_measures.ensures.lines
+    ∙ sym (ap (λ l. length (lines_of l)) (c.in_ok-push_str.ensures.bytes ∙ ap (λ l. l ++ text) c.clear.ensures.bytes))
+
+pub returns-then-is_printable-clause-wrapped : goal.returns-then-is_printable-clause-wrapped
+returns-then-is_printable-clause-wrapped c =
+    on_ok_weaker c.append_printable.result
+    (λ h. IsWrapped-written c.args.n c.args.words c.args.text.now (string_bytes c.append_printable.new.out) c.if-n-eq0.false
+    (IsUtf8-string_bytes c.append_printable.new.out)
+    (h ∙ ap (λ l. l ++ written_line c.args.n c.args.words c.args.text.now) (c.reserve_exact.ensures.bytes ∙ c.clear.ensures.bytes)
+    ∙ pending-printable c.args.n c.args.words c.args.text.now (sym c.is_printable.ensures ∙ c.if-is_printable.true)))
+    c.append_printable.ensures.text
+
+-- the measures of what was written alone
+columns_from : {E : Type 0} (r : Result (ℕ × ℕ) E) (whole old out : List ℕ) → old ≡ [] → IfOk r (λ m. m.0 ≡ text_columns whole)
+    → OnOk r (out ≡ old ++ whole) → IfOk r (λ m. m.0 ≡ text_columns out)
+columns_from (Ok m) whole old out none h t = h ∙ sym (ap text_columns (t ∙ ap (λ l. l ++ whole) none))
+columns_from (Err e) whole old out none h t = tt
+
+lines_from : {E : Type 0} (r : Result (ℕ × ℕ) E) (whole old out : List ℕ) → old ≡ [] → IfOk r (λ m. m.1 ≡ length (lines_of whole))
+    → OnOk r (out ≡ old ++ whole) → IfOk r (λ m. m.1 ≡ length (lines_of out))
+lines_from (Ok m) whole old out none h t = h ∙ sym (ap (λ l. length (lines_of l)) (t ∙ ap (λ l. l ++ whole) none))
+lines_from (Err e) whole old out none h t = tt
+
+pub returns-then-is_printable-clause-columns : goal.returns-then-is_printable-clause-columns
+returns-then-is_printable-clause-columns c =
+    columns_from c.append_printable.result (written_line c.args.n c.args.words c.args.text.now) (string_bytes c.reserve_exact.new.self)
+    (string_bytes c.append_printable.new.out) (c.reserve_exact.ensures.bytes ∙ c.clear.ensures.bytes) c.append_printable.ensures.columns c.append_printable.ensures.text
+
+pub returns-then-is_printable-clause-lines : goal.returns-then-is_printable-clause-lines
+returns-then-is_printable-clause-lines c =
+    lines_from c.append_printable.result (written_line c.args.n c.args.words c.args.text.now) (string_bytes c.reserve_exact.new.self)
+    (string_bytes c.append_printable.new.out) (c.reserve_exact.ensures.bytes ∙ c.clear.ensures.bytes) c.append_printable.ensures.lines c.append_printable.ensures.text
+
 pub returns-clause-wrapped : goal.returns-clause-wrapped
 returns-clause-wrapped c =
-    on_ok_weaker c.append_lines.result
-    (λ h. IsWrapped-written c.args.n c.args.words c.args.text.now (string_bytes c.append_lines.new.out) c.if-n-eq0.false
+    IsWrapped-written c.args.n c.args.words c.args.text.now (string_bytes c.append_lines.new.out) c.if-n-eq0.false
     (IsUtf8-string_bytes c.append_lines.new.out)
-    (h ∙ ap (λ l. l ++ encode_utf8_all
-    (pending c.args.n c.args.words false (lines_of (chars c.args.text.now)))) (c.reserve_exact.ensures.bytes ∙ c.clear.ensures.bytes)))
-    c.append_lines.ensures
+    (c.in_ok-append_lines.ensures ∙ ap (λ l. l ++ encode_utf8_all
+    (pending c.args.n c.args.words false (lines_of (chars c.args.text.now)))) (c.reserve_exact.ensures.bytes ∙ c.clear.ensures.bytes))
