@@ -70,13 +70,20 @@ IsReached-counted n cs le = reached-on n [] cs (IsReached-nil n) (omega arith)
 pub IsReached-short : (n : ℕ) (text : List ℕ) → IsUtf8 text → length text ≤ n → IsReached n (chars text)
 IsReached-short n text u le = IsReached-counted n (chars text) (omega (arith, count_of-bytes text u))
 
-pub IsParted-short : (n : ℕ) (text : List ℕ) → IsUtf8 text → length text ≤ n → IsParted n (chars text) (chars text) 0 (chars [])
-IsParted-short n text u le = record {
+pub IsParted-counted : (n : ℕ) (text : List ℕ) → count_of (chars text) ≤ n → IsParted n (chars text) (chars text) 0 (chars [])
+IsParted-counted n text le = record {
   rest = [];
-  longest = longest_at_end n (chars text) (IsReached-short n text u le);
+  longest = longest_at_end n (chars text) (IsReached-counted n (chars text) le);
   columns = refl;
   dropped = chars-nil;
 }
 
+-- where they do, the text is cut to itself
+pub IsCut-counted : (n : ℕ) (text : List ℕ) → IsUtf8 text → count_of (chars text) ≤ n → IsCut n text text
+IsCut-counted n text u le = IsCut-filled u (IsParted-counted n text le) (sym (append-nil text))
+
+pub IsParted-short : (n : ℕ) (text : List ℕ) → IsUtf8 text → length text ≤ n → IsParted n (chars text) (chars text) 0 (chars [])
+IsParted-short n text u le = IsParted-counted n text (omega (arith, count_of-bytes text u))
+
 pub IsCut-short : (n : ℕ) (text : List ℕ) → IsUtf8 text → length text ≤ n → IsCut n text text
-IsCut-short n text u le = IsCut-filled u (IsParted-short n text u le) (sym (append-nil text))
+IsCut-short n text u le = IsCut-counted n text u (omega (arith, count_of-bytes text u))

@@ -12,7 +12,7 @@ use Rattle.std.specs.Char.{encode_utf8}
 use Rattle.std.proofs.lemmas.Str.{len_utf8_ascii}
 use Rattle.ucd_table.proofs.Facts.{Stepped-always}
 use Rattle.unicode_width.specs.declared.kind.Kind.TheVariants.{Narrow, Wide, Ambiguous}
-use Rattle.tabled_text.specs.Letters.{is_narrow_letter, is_wide_letter, lead_byte}
+use Rattle.tabled_text.specs.Letters.{is_inner_byte, is_narrow_letter, is_wide_letter, lead_byte}
 
 is_narrow : Kind → Bool
 is_narrow Narrow = true
@@ -171,6 +171,27 @@ three-led c lead h low high = elim (cases_lt c 128) [
     ]
   ]
 ]
+
+low-outer : (lead : ℕ) → lead < 128 → is_inner_byte lead ≡ false
+low-outer lead h = grind (arith, nat_tests)
+
+high-outer : (lead : ℕ) → 194 ≤ lead → is_inner_byte lead ≡ false
+high-outer lead h = grind (arith, nat_tests)
+
+-- no character begins with a byte within one
+pub lead-outer : (c : ℕ) → is_inner_byte (lead_byte c) ≡ false
+lead-outer c =
+    let h = led c in
+    elim (cases_lt c 128) [
+      | inl lt ↦ low-outer (lead_byte c) (omega (arith, h.one lt, lt))
+      | inr ge ↦ elim (cases_lt c 2048) [
+        | inl below ↦ high-outer (lead_byte c) (omega (arith, h.two ge below, ge))
+        | inr above ↦ elim (cases_lt c 65536) [
+          | inl below ↦ high-outer (lead_byte c) (omega (arith, h.three above below))
+          | inr most ↦ high-outer (lead_byte c) (omega (arith, h.four most))
+        ]
+      ]
+    ]
 
 narrow-high : (c : ℕ) → in_ranges narrow_ranges c ≡ true → 0xA0 < c → c ≤ 0x10_FFFF → IsLetter c 1
 narrow-high c inside high within =

@@ -20,6 +20,8 @@ pub mod FitLemmas
 pub mod FittingLaws
 pub mod JoinLemmas
 pub mod Joining
+pub mod LetterBytes
+pub mod LetterLanes
 pub mod LetterLemmas
 pub mod LineLaws
 pub mod Listed

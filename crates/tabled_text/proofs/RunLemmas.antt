@@ -1,7 +1,8 @@
 -- Runs of bytes that pass a test.
-use Rattle.tabled_text.proofs.Names.{Bool, List, [], and_parts, ap, arith, drop, false, get_or, get_or-take, length, length-drop}
-use Rattle.tabled_text.proofs.Names.{length-take-le, list_all, refl, suc, sym, take, true, zero, ℕ, ◌&&◌, ◌+◌, ◌-◌, ◌<◌, ◌∙◌, ◌∷◌, ◌≡◌, ◌≤◌}
-use Rattle.std.proofs.lemmas.List.{drop-drop, get_or-drop}
+use Rattle.tabled_text.proofs.Names.{Bool, List, [], and_from, and_parts, ap, arith, drop, false, get_or, get_or-take, length, length-drop}
+use Rattle.tabled_text.proofs.Names.{length-take-le, list_all, list_all-append, refl, suc, sym, take, take-take, true, zero, ℕ, ◌&&◌, ◌+◌, ◌-◌, ◌<◌, ◌∙◌, ◌∷◌, ◌≡◌, ◌≤◌}
+use Rattle.std.proofs.lemmas.List.{drop-drop, get_or-drop, take-append-drop}
+use Rattle.std.proofs.Math.Seq.{take-add}
 use Rattle.std.proofs.lemmas.List.Folds.{list_all_at}
 
 all-of : (test : ℕ → Bool) (xs : List ℕ) → ((k : ℕ) → k < length xs → test (get_or xs k 0) ≡ true) → list_all test xs ≡ true
@@ -40,3 +41,28 @@ pub run-front : (test : ℕ → Bool) (xs : List ℕ) (end : ℕ) → end ≤ le
 run-front test xs end o run =
     let len = length-take-le end xs o in
     all-of test (take end xs) (λ k l. let within : k < end = omega arith in ap test (get_or-take end xs k 0 within) ∙ run k (omega arith) within)
+
+-- where the beginning passes, what follows a place within it decides
+pub rest-decides : (test : ℕ → Bool) (xs : List ℕ) (k at : ℕ) → k ≤ at → list_all test (take at xs) ≡ true → list_all test xs ≡ list_all test (drop k xs)
+rest-decides test xs k at o h =
+    let front = take at xs in
+    let own : list_all test (take k front) ≡ true =
+    (and_parts (list_all test (take k front)) (list_all test (drop k front))
+    (sym (list_all-append test (take k front) (drop k front)) ∙ ap (list_all test) (take-append-drop k front) ∙ h)).0 in
+    ap (list_all test) (sym (take-append-drop k xs)) ∙ list_all-append test (take k xs) (drop k xs)
+    ∙ ap (λ b. b && list_all test (drop k xs)) (sym (ap (list_all test) (take-take k at xs o)) ∙ own)
+
+-- a beginning that passes goes on with a block
+pub all-more : (test : ℕ → Bool) (xs : List ℕ) (at n : ℕ) → list_all test (take at xs) ≡ true → list_all test (take n (drop at xs)) ≡ true
+    → list_all test (take (at + n) xs) ≡ true
+all-more test xs at n h k =
+    ap (list_all test) (take-add at n xs) ∙ list_all-append test (take at xs) (take n (drop at xs))
+    ∙ and_from (list_all test (take at xs)) (list_all test (take n (drop at xs))) h k
+
+-- and fails where the block does
+pub some-fails : (test : ℕ → Bool) (xs : List ℕ) (at n : ℕ) → list_all test (take at xs) ≡ true → list_all test (take n (drop at xs)) ≡ false
+    → list_all test xs ≡ false
+some-fails test xs at n h k =
+    let rest = drop at xs in
+    rest-decides test xs at at (omega arith) h ∙ ap (list_all test) (sym (take-append-drop n rest)) ∙ list_all-append test (take n rest) (drop n rest)
+    ∙ ap (λ b. b && list_all test (drop n rest)) k

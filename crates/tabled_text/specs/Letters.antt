@@ -1,7 +1,7 @@
 -- Letters that take the same columns in every text, and how their first byte determines these.
-use Rattle.std.specs.Prelude.{◌≡◌, ◌<◌, ◌≤◌, ◌||◌, ◌∷◌, ◌++◌, ℕ, Bool, true, List, chars, encode_utf8, length}
+use Rattle.std.specs.Prelude.{◌≡◌, ◌<◌, ◌≤◌, ◌==◌, ◌||◌, ◌∷◌, ◌++◌, ℕ, Bool, true, List, chars, encode_utf8, length, sum_by, if◌then◌else◌}
 use Rattle.std.specs.Int.{is_in_range}
-use Rattle.std.specs.List.{slice_index_or}
+use Rattle.std.specs.List.{list_all, slice_index_or}
 use Rattle.unicode_width.proofs.Rules.{is_simple}
 use Rattle.tabled_text.specs.Measure.{char_columns}
 
@@ -40,3 +40,26 @@ is_narrow_letter c = is_in_range 0xC0 0x2FF c || is_in_range 0x380 0x47F c
 -- a character from U+4000 to U+9FFF, which takes two
 abbrev pub is_wide_letter : ℕ → Bool
 is_wide_letter c = is_in_range 0x4000 0x9FFF c
+
+-- ---- letters by their bytes
+
+-- a byte within a character, from 0x80 to 0xBF. No text has 0xC0 or 0xC1
+abbrev pub is_inner_byte : ℕ → Bool
+is_inner_byte byte = is_in_range 0x80 0xC1 byte
+
+-- a byte that begins a letter or is within a character
+abbrev pub is_letter_byte : ℕ → Bool
+is_letter_byte byte = is_narrow_lead byte || (is_wide_lead byte || is_inner_byte byte)
+
+-- the columns of the letter that a byte begins
+abbrev pub byte_columns : ℕ → ℕ
+byte_columns byte = if is_inner_byte byte then 0 else (if is_wide_lead byte then 2 else 1)
+
+-- the bytes of letters alone, which take n columns together
+pub record AreLetters (bytes : List ℕ) (n : ℕ) : Type 0 where
+  pub all : list_all is_letter_byte bytes ≡ true
+  pub columns : n ≡ sum_by byte_columns bytes
+
+-- a tab, a line feed, or a byte of a letter
+abbrev pub is_letter_or_break : ℕ → Bool
+is_letter_or_break byte = (byte == 9) || ((byte == 10) || is_letter_byte byte)

@@ -58,7 +58,7 @@ pub(crate) fn split_first(text: &str) -> Option<(char, &str)>
 /// Whether a byte is printable ASCII, or begins a character from U+00C0 to U+02FF or from U+0380 to
 /// U+047F.
 #[inline(always)]
-fn is_narrow_lead(lead: u8) -> bool
+pub(crate) fn is_narrow_lead(lead: u8) -> bool
     ensures { result ≡ is_narrow_lead lead }
 {
     matches!(lead, b' '..=b'~' | 0xC3..=0xCB | 0xCE..=0xD1)
@@ -66,7 +66,7 @@ fn is_narrow_lead(lead: u8) -> bool
 
 /// Whether a byte begins a character from U+4000 to U+9FFF.
 #[inline(always)]
-fn is_wide_lead(lead: u8) -> bool
+pub(crate) fn is_wide_lead(lead: u8) -> bool
     ensures { result ≡ is_wide_lead lead }
 {
     matches!(lead, 0xE4..=0xE9)

@@ -8,6 +8,7 @@
 //!
 //! Measuring:
 //! - `measure`: the columns and lines of a text, and an iterator over its lines.
+//! - `letters`: the columns of letters by their bytes, and whether a text is letters alone.
 //! - `runs`: runs of bytes within a range, and texts split at a byte.
 //!
 //! Making texts:
@@ -29,6 +30,7 @@ mod cut;
 mod fewest_lines;
 pub mod general_laws;
 pub mod laws;
+mod letters;
 mod measure;
 mod runs;
 mod sink;
@@ -39,8 +41,10 @@ pub use character::{
 };
 pub use cut::{cut_length, cut_str, split_str};
 pub use fewest_lines::is_fullest;
+pub use letters::is_letter_text;
 pub use measure::{
-    TextLines, count_lines, line_width, lines, split_line, tail_measures, text_measures, text_width,
+    TextLines, columns_between, count_lines, line_width, lines, split_line, tail_measures,
+    text_measures, text_width,
 };
 pub use runs::run_end;
 pub use sink::{copies, push_copies};

@@ -1,5 +1,6 @@
 //! The columns and lines of a text, and an iterator over its lines.
 ghost use Rattle.std.specs.Prelude.{◌≡◌, ◌*◌, ◌<◌, ◌≤◌, drop, length, map, IfSome, ◌∷◌};
+ghost use Rattle.std.specs.Prelude.{slice_range};
 ghost use Rattle.std.specs.Prelude.{IsUtf8};
 ghost use Rattle.std.specs.Int.{is_in_range};
 ghost use Rattle.std.specs.List.{list_all};
@@ -7,9 +8,11 @@ ghost use Rattle.std.specs.Str.{IsCharBoundary};
 ghost use Rattle.tabled_text.specs.Measure.{lines_of, line_columns, text_columns};
 ghost use Rattle.std.specs.Iterator.{YieldsFirstBy, item_count};
 ghost use Rattle.tabled_text.specs.Lines.{lines_in, lines_left};
+ghost use Rattle.tabled_text.specs.FramedLines.{IsLine};
 ghost use Rattle.tabled_text.specs.Runs.{EndsRun};
 
 use crate::character::split_letter;
+use crate::letters::letter_columns;
 use crate::runs::{BLOCK, is_run, run_end, split_at_byte};
 use unicode_width::UnicodeWidthStr;
 
@@ -138,15 +141,55 @@ pub fn tail_measures(text: &str, start: usize) -> (usize, usize)
     ensures lines { result.1 ≡ length (lines_of (drop start text.now)) }
 {
     if is_printable_tail(text.as_bytes(), start) {
-        (text.len() - start, 1)
-    } else {
-        let tail = &text[start..];
-        measures_of_lines(tail, run_end(tail.as_bytes(), 0, b' ', b'~'))
+        return (text.len() - start, 1);
+    }
+    if let Some(columns) = tail_width(text, start) {
+        return (columns, 1);
+    }
+    let tail = &text[start..];
+    measures_of_lines(tail, run_end(tail.as_bytes(), 0, b' ', b'~'))
+}
+
+/// Returns the columns of the line from byte `start` on if it is letters alone and the text has a
+/// block of bytes, else `None`.
+fn tail_width(text: &str, start: usize) -> Option<usize>
+    requires { IsCharBoundary text.now start }
+    ensures { IfSome result (IsLine (drop start text.now)) }
+{
+    if text.len() < BLOCK {
+        return None;
+    }
+    letter_columns(text.as_bytes(), start)
+}
+
+/// Returns the columns of the line between two byte offsets of a text.
+pub fn columns_between(text: &str, start: usize, end: usize) -> usize
+    requires ordered { start ≤ end }
+    requires begins { IsCharBoundary text.now start }
+    requires ends { IsCharBoundary text.now end }
+    ensures { result ≡ line_columns (slice_range text.now start end) }
+{
+    let (front, _) = text.split_at(end);
+    match tail_width(front, start) {
+        Some(columns) => columns,
+        None => mixed_width(&front[start..]),
     }
 }
 
-/// Returns the columns of a line, or `None` if the first byte of a character isn't enough.
-pub(crate) fn letters_width(line: &str) -> Option<usize>
+/// Returns the columns of a line of letters alone, or `None` if it has other characters.
+fn letters_width(line: &str) -> Option<usize>
+    ensures value { IfSome result (λ columns. columns ≡ line_columns line.now) }
+    ensures bound { IfSome result (λ columns. columns ≤ 2 * length line.now) }
+{
+    if line.len() < BLOCK {
+        return few_letters_width(line);
+    }
+    letter_columns(line.as_bytes(), 0)
+}
+
+/// Returns the columns of a line of letters alone, which goes letter by letter, or `None` if it has
+/// other characters.
+fn few_letters_width(line: &str) -> Option<usize>
     ensures value { IfSome result (λ columns. columns ≡ line_columns line.now) }
     ensures bound { IfSome result (λ columns. columns ≤ 2 * length line.now) }
 {

@@ -13,7 +13,7 @@ pub(crate) const BLOCK: usize = 16;
 
 /// Returns the block at index `at`.
 #[inline(always)]
-fn block_at(bytes: &[u8], at: usize) -> u8x16
+pub(crate) fn block_at(bytes: &[u8], at: usize) -> u8x16
     requires { at + BLOCK ≤ length bytes.now }
     ensures { result ≡ chunk at BLOCK bytes.now }
 {
@@ -66,7 +66,7 @@ fn run_in_block(bytes: &[u8], at: usize, first: u8, last: u8) -> usize
 }
 
 /// Finds the end of a run byte by byte.
-fn short_run_end(bytes: &[u8], from: usize, first: u8, last: u8) -> usize
+pub(crate) fn short_run_end(bytes: &[u8], from: usize, first: u8, last: u8) -> usize
     requires { from ≤ length bytes.now }
     ensures { EndsRun first last bytes.now from result }
 {

@@ -1,6 +1,6 @@
 use Rattle.tabled_text.proofs.Names.{Utf8, char_columns, chars, is_simple, length, line_columns, list_all, shadow, sum_by, true, ◌*◌, ◌+◌}
 use Rattle.tabled_text.proofs.Names.{◌≡◌, ◌≤◌}
-use Rattle.tabled_text.proofs.measure.letters_width.Given as goal
+use Rattle.tabled_text.proofs.measure.few_letters_width.Given as goal
 
 abbrev pub invariant-letters : goal.invariant-letters
 invariant-letters l =

@@ -1,0 +1,14 @@
+use Rattle.tabled_text.proofs.Names.{ap, arith, drop, length, subst, ◌++◌, ◌-◌, ◌∙◌}
+use Rattle.std.proofs.Common.{replicate}
+use Rattle.std.proofs.lemmas.Option.{IfSome_then}
+use Rattle.tabled_text.specs.Letters.{AreLetters}
+use Rattle.tabled_text.proofs.LetterBytes.{letters-last}
+use Rattle.tabled_text.proofs.letters.last_columns.Goals as goal
+
+pub returns : goal.returns
+returns c =
+    let bytes = c.args.bytes.now in
+    let at = length bytes - 16 in
+    IfSome_then c.block_columns.result c.block_columns.ensures
+    (λ n h. letters-last bytes at c.args.start n (omega arith) (omega arith)
+    (subst (λ l. AreLetters l n) (c.filled.ensures ∙ ap (λ l. replicate (c.args.start - at) 0x80 ++ drop (c.args.start - at) l) c.block_at.ensures) h))

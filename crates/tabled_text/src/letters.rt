@@ -1,0 +1,180 @@
+//! Measures letters by their bytes, 16 at a time.
+ghost use Rattle.std.specs.Prelude.{◌≡◌, ◌+◌, ◌++◌, ◌≤◌, IfSome, drop, length, map};
+ghost use Rattle.std.specs.Prelude.{replicate, take, true};
+ghost use Rattle.std.specs.List.{list_all};
+ghost use Rattle.std.specs.Str.{IsCharBoundary};
+ghost use Rattle.tabled_text.specs.Letters.{AreLetters, byte_columns, is_letter_byte};
+ghost use Rattle.tabled_text.specs.Letters.{is_letter_or_break};
+
+use crate::character::{is_narrow_lead, is_wide_lead};
+use crate::runs::{BLOCK, block_at, short_run_end};
+use std::simd::prelude::*;
+
+/// Whether each byte of a block is a letter's.
+#[inline(always)]
+fn is_letter_block(block: u8x16) -> bool
+    ensures { result ≡ list_all is_letter_byte block }
+{
+    let is_wide = (block - u8x16::splat(0xE4)).simd_le(u8x16::splat(5));
+    let is_outside = u8x16::splat(0xB1).simd_lt(block - u8x16::splat(0x20));
+    let is_delete = block.simd_eq(u8x16::splat(0x7F));
+    let is_sign = block.simd_eq(u8x16::splat(0xC2));
+    let is_mark = (block | u8x16::splat(1)).simd_eq(u8x16::splat(0xCD));
+    let is_other = (is_wide ^ is_outside) | is_delete | is_sign | is_mark;
+    is_other.to_bitmask() == 0
+}
+
+/// Returns the columns of the letters that the bytes of a block begin.
+#[inline(always)]
+fn lane_columns(block: u8x16) -> u8x16
+    ensures { result ≡ map byte_columns block }
+{
+    let one = u8x16::splat(1);
+    let none = u8x16::splat(0);
+    let is_wide = (block - u8x16::splat(0xE4)).simd_le(u8x16::splat(5));
+    let is_first = u8x16::splat(0x41).simd_lt(block - u8x16::splat(0x80));
+    is_first.select(one, none) + is_wide.select(one, none)
+}
+
+/// Returns the columns of a block of letters, or `None` if a byte isn't a letter's.
+#[inline(always)]
+fn block_columns(block: u8x16) -> Option<usize>
+    ensures { IfSome result (λ columns. AreLetters block columns) }
+{
+    if !is_letter_block(block) {
+        return None;
+    }
+    Some(lane_columns(block).strict_reduce_sum() as usize)
+}
+
+/// What replaces the front of a block, and zeros.
+const FILL: [u8; 32] = [
+    0x80, 0x80, 0x80, 0x80, 0x80, 0x80, 0x80, 0x80, 0x80, 0x80, 0x80, 0x80, 0x80, 0x80, 0x80, 0x80,
+    0, 0, 0, 0, 0, 0, 0, 0, 0, 0, 0, 0, 0, 0, 0, 0,
+];
+
+/// Replaces the first `count` bytes of a block by 0x80, which takes no columns.
+#[inline(always)]
+fn filled(block: u8x16, count: usize) -> u8x16
+    requires { count ≤ BLOCK }
+    ensures { result ≡ replicate count 0x80 ++ drop count block }
+{
+    let fill = block_at(&FILL, BLOCK - count);
+    fill.simd_eq(u8x16::splat(0)).select(block, fill)
+}
+
+/// Returns the columns of the bytes from `start` on, fewer than a block, or `None` if one isn't a
+/// letter's. Reads the last block of all bytes.
+#[inline(always)]
+fn last_columns(bytes: &[u8], start: usize) -> Option<usize>
+    requires room { BLOCK ≤ length bytes.now }
+    requires start { start ≤ length bytes.now }
+    requires few { length bytes.now ≤ start + BLOCK }
+    ensures { IfSome result (λ columns. AreLetters (drop start bytes.now) columns) }
+{
+    let at = bytes.len() - BLOCK;
+    block_columns(filled(block_at(bytes, at), start - at))
+}
+
+/// Returns the columns of the bytes from `start` on, or `None` if one isn't a letter's.
+pub(crate) fn letter_columns(bytes: &[u8], start: usize) -> Option<usize>
+    requires room { BLOCK ≤ length bytes.now }
+    requires start { start ≤ length bytes.now }
+    ensures { IfSome result (λ columns. AreLetters (drop start bytes.now) columns) }
+{
+    let mut at = start;
+    let mut columns = 0;
+    'whole: while bytes.len() - at >= BLOCK {
+        let count = block_columns(block_at(bytes, at))?;
+        columns += count;
+        at += BLOCK;
+    }
+    let last = last_columns(bytes, at)?;
+    Some(columns + last)
+}
+
+/// Goes over blocks of letters at the front that take at most n columns together. Returns where they
+/// end, which may be within a character, and their columns.
+fn letter_blocks(bytes: &[u8], n: usize) -> (usize, usize)
+    ensures end { result.0 ≤ length bytes.now }
+    ensures letters { AreLetters (take result.0 bytes.now) result.1 }
+    ensures fits { result.1 ≤ n }
+{
+    let mut at = 0;
+    let mut columns = 0;
+    'whole: while bytes.len() - at >= BLOCK {
+        let Some(count) = block_columns(block_at(bytes, at)) else {
+            break;
+        };
+        if count > n - columns {
+            break;
+        }
+        columns += count;
+        at += BLOCK;
+    }
+    (at, columns)
+}
+
+/// Returns where letters at the front of a text end that take at most n columns together, and their
+/// columns. More letters may follow them.
+pub(crate) fn letter_front(text: &str, n: usize) -> (usize, usize)
+    ensures letters { AreLetters (take result.0 text.now) result.1 }
+    ensures boundary { IsCharBoundary text.now result.0 }
+    ensures fits { result.1 ≤ n }
+{
+    let bytes = text.as_bytes();
+    let (at, columns) = letter_blocks(bytes, n);
+    (short_run_end(bytes, at, 0x80, 0xC1), columns)
+}
+
+/// Whether each byte of a block is a letter's, a tab or a line feed.
+#[inline(always)]
+fn is_text_block(block: u8x16) -> bool
+    ensures { result ≡ list_all is_letter_or_break block }
+{
+    let is_wide = (block - u8x16::splat(0xE4)).simd_le(u8x16::splat(5));
+    let is_break = (block - u8x16::splat(9)).simd_le(u8x16::splat(1));
+    let is_outside = u8x16::splat(0xB1).simd_lt(block - u8x16::splat(0x20));
+    let is_delete = block.simd_eq(u8x16::splat(0x7F));
+    let is_sign = block.simd_eq(u8x16::splat(0xC2));
+    let is_mark = (block | u8x16::splat(1)).simd_eq(u8x16::splat(0xCD));
+    let is_other = (is_wide ^ is_break ^ is_outside) | is_delete | is_sign | is_mark;
+    is_other.to_bitmask() == 0
+}
+
+/// Whether a byte is a letter's, a tab or a line feed.
+fn is_letter_or_break(byte: u8) -> bool
+    ensures { result ≡ is_letter_or_break byte }
+{
+    matches!(byte, b'\t' | b'\n' | 0x80..=0xC1) || is_narrow_lead(byte) || is_wide_lead(byte)
+}
+
+/// Whether all bytes are letters', tabs or line feeds, if those before `at` are. Less than a block
+/// follows these.
+fn ends_in_letters(bytes: &[u8], at: usize) -> bool
+    requires before { list_all is_letter_or_break (take at bytes.now) ≡ true }
+    requires few { length bytes.now ≤ at + BLOCK }
+    ensures { result ≡ list_all is_letter_or_break bytes.now }
+{
+    if bytes.len() >= BLOCK {
+        return is_text_block(block_at(bytes, bytes.len() - BLOCK));
+    }
+    bytes.iter().all(|byte| is_letter_or_break(*byte))
+}
+
+/// Whether a text is letters, tabs and line feeds alone. These letters are printable ASCII, the
+/// characters from U+00C0 to U+02FF and from U+0380 to U+047F, and those from U+4000 to U+9FFF: a
+/// line of them takes the sum of what its characters count.
+pub fn is_letter_text(text: &str) -> bool
+    ensures { result ≡ list_all is_letter_or_break text.now }
+{
+    let bytes = text.as_bytes();
+    let mut at = 0;
+    'whole: while bytes.len() - at >= BLOCK {
+        if !is_text_block(block_at(bytes, at)) {
+            return false;
+        }
+        at += BLOCK;
+    }
+    ends_in_letters(bytes, at)
+}
