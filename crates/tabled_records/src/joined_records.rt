@@ -18,7 +18,7 @@ use crate::row_ranges::{Pairs, RowRanges};
 use std::alloc::{AllocError, Global};
 use std::marker::Model;
 use tabled_base::{CellText, ExactRecords, PeekableRecords, Position, TableError};
-use tabled_text::{line_width, run_end, tail_measures};
+use tabled_text::{columns_between, run_end, tail_measures};
 
 /// Rows whose cells borrow one text. Rows shorter than the longest end with empty cells.
 #[derive(Debug, Drop)]
@@ -153,7 +153,7 @@ fn cell_columns(text: &str, start: usize, end: usize, printable: bool) -> usize
     if printable {
         end - start
     } else {
-        line_width(&text[start..end])
+        columns_between(text, start, end)
     }
 }
 

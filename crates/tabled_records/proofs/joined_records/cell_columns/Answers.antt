@@ -1,6 +1,5 @@
 use Rattle.tabled_records.proofs.Names.{ap, arith, drop, length, length-drop, length-take, slice_range, slice_split_none, sym, ◌-◌, ◌==◌}
 use Rattle.tabled_records.proofs.Names.{◌∙◌, ◌≡◌}
-use Rattle.tabled_text.specs.Measure.{line_columns}
 use Rattle.tabled_text.proofs.Bridge.{text_columns-one}
 use Rattle.tabled_text.proofs.PlainLines.{plain_line-printable, text_columns-plain_line}
 use Rattle.tabled_records.proofs.joined_records.cell_columns.Goals as goal
@@ -29,7 +28,7 @@ returns-else-printable c =
         ordered = c.requires.ordered;
         begins = c.requires.begins;
         ends = c.requires.ends;
-        counted = c.line_width.ensures.value ∙ ap line_columns c.range.ensures.value
+        counted = c.columns_between.ensures
             ∙ sym (text_columns-one (slice_range c.args.text.now c.args.start c.args.end) (ap length one));
       };
       line = ap length one;
