@@ -82,7 +82,7 @@ pub(crate) fn short_run_end(bytes: &[u8], from: usize, first: u8, last: u8) -> u
 }
 
 /// Returns the index of the first byte from `from` on that is outside of `first..=last`, or the
-/// length if there is none.
+/// length if there is none. The last bytes are tested in one block with bytes before them.
 #[inline(always)]
 pub fn run_end(bytes: &[u8], from: usize, first: u8, last: u8) -> usize
     requires from { from ≤ length bytes.now }
@@ -96,6 +96,10 @@ pub fn run_end(bytes: &[u8], from: usize, first: u8, last: u8) -> usize
         if count < BLOCK {
             return at;
         }
+    }
+    if bytes.len() - from >= BLOCK {
+        let start = bytes.len() - BLOCK;
+        return start + run_in_block(bytes, start, first, last);
     }
     short_run_end(bytes, at, first, last)
 }
