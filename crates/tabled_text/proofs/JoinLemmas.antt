@@ -1,7 +1,7 @@
 -- The lines and the columns of joined texts.
-use Rattle.tabled_text.proofs.Names.{All, All-head, All-tail, Bool, List, [], ap, arith, chars-nil, cond, encode_ascii, encode_utf8, false, greatest, join_with_byte}
-use Rattle.tabled_text.proofs.Names.{length, line_columns, lines_of, lit<, map, max, onto_first, refl, str_width, sum_by, sum_by-cons, sym}
-use Rattle.tabled_text.proofs.Names.{text_columns, true, ℕ, ◌++◌, ◌+◌, ◌<◌, ◌==◌, ◌∙◌, ◌∷◌, ◌≡◌}
+use Rattle.tabled_text.proofs.Names.{All, All-head, All-tail, Bool, List, [], ap, arith, chars-nil, cond, encode_ascii, encode_utf8, false}
+use Rattle.tabled_text.proofs.Names.{greatest, join_with_byte, length, line_columns, lines_of, lit<, map, max, onto_first, refl, str_width}
+use Rattle.tabled_text.proofs.Names.{sum_by, sum_by-cons, sym, text_columns, true, ℕ, ◌++◌, ◌+◌, ◌<◌, ◌==◌, ◌∙◌, ◌∷◌, ◌≡◌}
 use Rattle.std.proofs.lemmas.List.{length-append}
 use Rattle.tabled_text.proofs.Bridge.{some_line, lines_of-one, text_columns-one}
 

@@ -1,13 +1,13 @@
 -- Printable ASCII, broken between words: what is before a break stays as it is.
-use Rattle.tabled_text.proofs.Names.{All, Bool, Bor, IsSplitAt, List, None, Option, Some, TextUnit}
-use Rattle.tabled_text.proofs.Names.{[], ap, append-nil, append_all, append_assoc}
-use Rattle.tabled_text.proofs.Names.{arith, length-append, length-drop, units, used_after, zero, ⊤}
-use Rattle.tabled_text.proofs.Names.{cases_lt, columns_of, cond, drop, encode_utf8, encode_utf8_all, encodes-IsAscii, encodes-append}
-use Rattle.tabled_text.proofs.Names.{eqb, false, get_or, inl, inr, is_additive, le-leb, length, length-take-le, list_all, lt-leb, map}
-use Rattle.tabled_text.proofs.Names.{needed, onto_first, refl, slice_split_none, space, split_at, subst, suc, sym, take, true, unit_of_char}
-use Rattle.tabled_text.proofs.Names.{units_of_word, units_of_words, words_in, words_of, ℕ, ◌++◌, ◌+◌, ◌-◌, ◌<◌, ◌∙◌, ◌∷◌, ◌≡◌, ◌≤◌}
+use Rattle.tabled_text.proofs.Names.{All, All-cons, All-nil, Bool, Bor, IsSplitAt, List, None, Option, Some, TextUnit, [], and_parts, ap}
+use Rattle.tabled_text.proofs.Names.{append-nil, append_all, append_assoc, arith, cases_Bool, cases_lt, columns_of, cond, drop, encode_utf8}
+use Rattle.tabled_text.proofs.Names.{encode_utf8_all, encodes-IsAscii, encodes-append, eqb, eqb-true, false, get_or, inl, inr, is_additive}
+use Rattle.tabled_text.proofs.Names.{is_in_range, le-leb, length, length-append, length-drop, length-take-le, list_all, list_all-append}
+use Rattle.tabled_text.proofs.Names.{lt-leb, map, needed, onto_first, refl, slice_split_none, space, split_at, subst, suc, sym, take, true}
+use Rattle.tabled_text.proofs.Names.{unit_of_char, units, units_of_word, units_of_words, used_after, words_in, words_of, zero, ℕ, ⊎_elim, ⊤}
+use Rattle.tabled_text.proofs.Names.{◌++◌, ◌+◌, ◌-◌, ◌<◌, ◌∙◌, ◌∷◌, ◌≡◌, ◌≤◌}
 use Rattle.std.proofs.Common.{take-append-drop}
-use Rattle.std.proofs.Math.Seq.{drop-append_seam, drop-cons, take-append_seam, take-suc}
+use Rattle.std.proofs.Math.Seq.{drop-append_seam, drop-cons, get_or-append_seam, take-append_seam, take-suc}
 use Rattle.std.proofs.lemmas.List.{get_or-drop}
 use Rattle.std.proofs.lemmas.List.Elements.{All-drop}
 use Rattle.tabled_text.specs.Walk.{BreaksAt, written_line}
@@ -189,50 +189,79 @@ opened n w [] t none = ap (kept_units n) (append-nil w) ∙ own-word n w none �
 opened n w (c ∷ cs) t none = ap (λ d. kept_units n (w ++ d ∷ cs)) t ∙ units-around n w cs
     ∙ ap (λ l. l ++ space ∷ kept_units n cs) (own-word n w none)
 
-tail-of : (text word : List ℕ) (after : Option (Bor (List ℕ))) → IsSplitAt 32 text word after
-    → (tail : List ℕ) × (text ≡ word ++ tail) × IsTail tail
-tail-of text word None s = ([], whole-front 32 text word None s s.after_is ∙ sym (append-nil word), tt)
-tail-of text word (Some rest) s = (32 ∷ rest.now, whole-parts 32 text word rest s, refl)
+pub record BeginsWith (text word : List ℕ) : Type 0 where
+  tail : List ℕ
+  parts : text ≡ word ++ tail
+  tail_is : IsTail tail
+  none : All (λ b. eqb b 32 ≡ false) word
+
+pub word-split : (text word : List ℕ) (after : Option (Bor (List ℕ))) → IsSplitAt 32 text word after → BeginsWith text word
+word-split text word None s = record {
+  tail = [];
+  parts = whole-front 32 text word None s s.after_is ∙ sym (append-nil word);
+  tail_is = tt;
+  none = all-front 32 text word None s;
+}
+word-split text word (Some rest) s = record {
+  tail = 32 ∷ rest.now;
+  parts = whole-parts 32 text word rest s;
+  tail_is = refl;
+  none = all-front 32 text word (Some rest) s;
+}
+
+-- each text begins with a word, which may be empty
+begun : (text : List ℕ) → (word : List ℕ) × BeginsWith text word
+begun [] = ([], record { tail = []; parts = refl; tail_is = tt; none = All-nil (λ b. eqb b 32 ≡ false) })
+begun (c ∷ cs) = ⊎_elim
+    (λ yes. ([], record { tail = c ∷ cs; parts = refl; tail_is = eqb-true c 32 yes; none = All-nil (λ b. eqb b 32 ≡ false) }))
+    (λ no. let more = begun cs in
+    (c ∷ more.0, record { tail = more.1.tail; parts = ap (λ l. c ∷ l) more.1.parts; tail_is = more.1.tail_is; none = All-cons (λ b. eqb b 32 ≡ false) c more.0 no more.1.none }))
+    (cases_Bool (eqb c 32))
+
+-- a space follows it
+space-at : (word tail : List ℕ) → IsTail tail → 0 < length tail → get_or (word ++ tail) (length word) 0 ≡ 32
+space-at word [] t some = absurd (omega arith)
+space-at word (c ∷ cs) t some = get_or-append_seam word c cs 0 ∙ t
 
 -- a word that begins at k is wider than a line: it is broken where the line is full
-pub breaks-inside : (n k m : ℕ) (line word : List ℕ) (after : Option (Bor (List ℕ))) → 0 < n → is_printable line ≡ true
-    → n < length line → k + m ≡ n
-    → (0 < k → get_or line (k - 1) 0 ≡ 32) → IsSplitAt 32 (drop k line) word after → n < length word → BreaksAt n true line n
-breaks-inside n k m line word after some h long e at s wide =
+pub breaks-inside : (n k m : ℕ) (line word : List ℕ) → 0 < n → is_printable line ≡ true → n < length line → k + m ≡ n
+    → (0 < k → get_or line (k - 1) 0 ≡ 32) → BeginsWith (drop k line) word → n < length word → BreaksAt n true line n
+breaks-inside n k m line word some h long e at t wide =
     let front = take k line in
-    let none = all-front 32 (drop k line) word after s in
-    let t = tail-of (drop k line) word after s in
-    let us = tail_units n t.0 in
+    let none = t.none in
+    let us = tail_units n t.tail in
     let halves = parts-printable k line h in
-    let own : is_printable word ≡ true = ap is_printable s.front_is ∙ (parts-printable (length word) (drop k line) halves.1).0 in
+    let own : is_printable word ≡ true =
+    (and_parts (is_printable word) (is_printable t.tail)
+    (sym (list_all-append (is_in_range 0x20 0x7E) word t.tail) ∙ ap is_printable (sym t.parts) ∙ halves.1)).0 in
     let head = take m word in
     let w = drop m word in
     let front_len : length front ≡ k = length-take-le k line (omega arith) in
     let columns = columns-printable_line front halves.0 in
     let head_len : length head ≡ m = length-take-le m word (omega arith) in
     let len : length (front ++ head) ≡ n = omega (arith, length-append front head) in
-    let whole : line ≡ (front ++ head) ++ (w ++ t.0) =
+    let whole : line ≡ (front ++ head) ++ (w ++ t.tail) =
     sym (take-append-drop k line)
-    ∙ ap (λ l. front ++ l) (t.1 ∙ ap (λ l. l ++ t.0) (sym (take-append-drop m word)) ∙ append_assoc head w t.0)
-    ∙ sym (append_assoc front head (w ++ t.0)) in
-    let taken : take n line ≡ front ++ head = ap (take n) whole ∙ ap (λ i. take i ((front ++ head) ++ (w ++ t.0))) (sym len)
-    ∙ take-append_seam (front ++ head) (w ++ t.0) in
-    let dropped : drop n line ≡ w ++ t.0 = ap (drop n) whole ∙ ap (λ i. drop i ((front ++ head) ++ (w ++ t.0))) (sym len)
-    ∙ drop-append_seam (front ++ head) (w ++ t.0) in
+    ∙ ap (λ l. front ++ l) (t.parts ∙ ap (λ l. l ++ t.tail) (sym (take-append-drop m word)) ∙ append_assoc head w t.tail)
+    ∙ sym (append_assoc front head (w ++ t.tail)) in
+    let taken : take n line ≡ front ++ head = ap (take n) whole ∙ ap (λ i. take i ((front ++ head) ++ (w ++ t.tail))) (sym len)
+    ∙ take-append_seam (front ++ head) (w ++ t.tail) in
+    let dropped : drop n line ≡ w ++ t.tail = ap (drop n) whole ∙ ap (λ i. drop i ((front ++ head) ++ (w ++ t.tail))) (sym len)
+    ∙ drop-append_seam (front ++ head) (w ++ t.tail) in
     let next = append_all n 0 (kept_units n (drop n line)) in
     record {
       some = some;
       end = omega arith;
       rest = ap (append_all n 0) (around n k line (omega arith) at)
           ∙ ap (λ l. append_all n 0 (kept_units n front ++ l))
-          (ap (kept_units n) t.1 ∙ opened n word t.0 t.2 none
+          (ap (kept_units n) t.parts ∙ opened n word t.tail t.tail_is none
           ∙ ap (λ l. l ++ us) (wide-word n word (omega (arith, columns-printable_line word own)) (omega arith)))
           ∙ line_kept-before n true front (map unit_of_char word ++ us) (additive-printable front halves.0) (omega arith)
           ∙ ap (λ j. front ++ append_all n j (map unit_of_char word ++ us)) (columns ∙ front_len)
           ∙ ap (λ l. front ++ l) (filled-line n k m word us some e own (omega arith))
           ∙ ap (λ l. front ++ (head ++ 10 ∷ l))
           (as-chars n w us (parts-printable m word own).1 (All-drop (λ b. eqb b 32 ≡ false) m word none)
-          ∙ ap (append_all n 0) (sym (opened n w t.0 t.2 (All-drop (λ b. eqb b 32 ≡ false) m word none)) ∙ ap (kept_units n) (sym dropped)))
+          ∙ ap (append_all n 0) (sym (opened n w t.tail t.tail_is (All-drop (λ b. eqb b 32 ≡ false) m word none)) ∙ ap (kept_units n) (sym dropped)))
           ∙ sym (append_assoc front head (10 ∷ next))
           ∙ ap (λ l. l ++ 10 ∷ next) (sym taken);
     }
@@ -264,20 +293,28 @@ written-more n k words cs h b =
 -- ---- the word that passes a line
 
 -- where it begins at k, no byte from there to the end of the line is a space
-pub passes : (n k : ℕ) (line word : List ℕ) (after : Option (Bor (List ℕ))) → n < length line → k ≤ n
-    → IsSplitAt 32 (drop k line) word after
+pub passes : (n k : ℕ) (line word : List ℕ) → n < length line → k ≤ n → BeginsWith (drop k line) word
     → ((j : ℕ) → k ≤ j → j < n → get_or line j 0 ≡ 32 → ⊥) → (get_or line n 0 ≡ 32 → ⊥) → n < k + length word
-passes n k line word after long le s none next =
+passes n k line word long le t none next =
     elim (cases_lt n (k + length word)) [
       | inl wide ↦ wide
       | inr few ↦
           let here : get_or line (k + length word) 0 ≡ 32 =
-          sym (get_or-drop k line (length word) 0) ∙ s.first.found (omega (arith, length-drop k line)) in
+          sym (get_or-drop k line (length word) 0) ∙ ap (λ l. get_or l (length word) 0) t.parts
+          ∙ space-at word t.tail t.tail_is (omega (arith, length-drop k line, ap length t.parts, length-append word t.tail)) in
           absurd (elim (cases_lt (k + length word) n) [
             | inl before ↦ none (k + length word) (omega arith) before here
             | inr at ↦ (let same : k + length word ≡ n = omega arith in next (ap (λ j. get_or line j 0) (sym same) ∙ here))
           ])
     ]
+
+-- where a line has no space, it is broken where it is full
+pub breaks-one : (n : ℕ) (line : List ℕ) → 0 < n → is_printable line ≡ true → n < length line
+    → ((j : ℕ) → j < n → get_or line j 0 ≡ 32 → ⊥) → (get_or line n 0 ≡ 32 → ⊥) → BreaksAt n true line n
+breaks-one n line some h long none next =
+    let first = begun line in
+    let wide = passes n 0 line first.0 long (omega arith) first.1 (λ j _ to is. none j to is) next in
+    breaks-inside n 0 n line first.0 some h long (omega arith) (λ z. absurd (omega arith)) first.1 (omega (arith, wide))
 
 -- it is split off
 pub breaks-word : (n k : ℕ) (line word : List ℕ) (after : Option (Bor (List ℕ))) → 0 < n → is_printable line ≡ true → k ≤ n

@@ -202,6 +202,9 @@ fn line_end(line: &str, n: usize, words: bool) -> usize
         return n;
     }
     let at = after_space(bytes, n);
+    if at == 0 {
+        return n;
+    }
     let (_, after) = line.split_at(at);
     let (word, _) = split_at_byte(after, 0, b' ');
     let width = word.len();

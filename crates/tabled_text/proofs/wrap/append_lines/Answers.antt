@@ -1,5 +1,5 @@
-use Rattle.tabled_text.proofs.Names.{[], ap, append_all, chars, cond, encode_ascii, encode_utf8_all, false, lines_left, lit<, map}
-use Rattle.tabled_text.proofs.Names.{pending, subst, sym, true, units, ◌++◌, ◌∙◌, ◌∷◌}
+use Rattle.tabled_text.proofs.Names.{[], ap, append_all, chars, cond, encode_ascii, encode_utf8_all, false, lines_left, lit<, map, pending}
+use Rattle.tabled_text.proofs.Names.{subst, sym, true, units, ◌++◌, ◌∙◌, ◌∷◌}
 use Rattle.tabled_text.proofs.Bridge.{lines_of-chars}
 use Rattle.tabled_text.proofs.WriteLemmas.{encodes-pending}
 use Rattle.tabled_text.proofs.wrap.append_lines.Goals as goal

@@ -1,5 +1,5 @@
-use Rattle.tabled_text.proofs.Names.{IsCharBoundary-from_ascii, IsUtf8, IsUtf8-drop, ap, arith, drop, encode_utf8, length}
-use Rattle.tabled_text.proofs.Names.{lines_of, subst, sym, take, text_columns, ◌++◌, ◌∙◌, ◌≡◌}
+use Rattle.tabled_text.proofs.Names.{IsCharBoundary-from_ascii, IsUtf8, IsUtf8-drop, ap, arith, drop, encode_utf8, length, lines_of, subst}
+use Rattle.tabled_text.proofs.Names.{sym, take, text_columns, ◌++◌, ◌∙◌, ◌≡◌}
 use Rattle.tabled_text.specs.Walk.{written_line}
 use Rattle.tabled_text.proofs.Pieces.{is_printable, IsAscii-printable, parts-printable}
 use Rattle.tabled_text.proofs.PlainLines.{plain_line-lines, plain_line-printable, text_columns-plain_line}

@@ -1,5 +1,5 @@
-use Rattle.tabled_text.proofs.Names.{IfOk, IsWrapped, List, OnOk, [], ap, arith, chars, encode_utf8_all, eqb-true, false, inl, inr, length, lines_of}
-use Rattle.tabled_text.proofs.Names.{nil_from_length, on_ok_weaker, pending, subst, sym, text_columns, ℕ, ◌++◌, ◌∙◌, ◌≡◌}
+use Rattle.tabled_text.proofs.Names.{IfOk, IsWrapped, List, OnOk, [], ap, arith, chars, encode_utf8_all, eqb-true, false, inl, inr, length}
+use Rattle.tabled_text.proofs.Names.{lines_of, nil_from_length, on_ok_weaker, pending, subst, sym, text_columns, ℕ, ◌++◌, ◌∙◌, ◌≡◌}
 use Rattle.std.proofs.Common.{Err, Ok, Result, string_bytes}
 use Rattle.std.proofs.lemmas.Str.{IsUtf8-string_bytes}
 use Rattle.tabled_text.specs.Walk.{written_line}
