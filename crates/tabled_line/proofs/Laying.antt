@@ -1,9 +1,9 @@
 -- Rows that are laid over a blank one.
 use Rattle.tabled_line.proofs.Names.{ColumnSheet, IsCharBoundary, IsCharBoundary-after_ascii, IsCharBoundary-before_ascii, IsUtf8}
 use Rattle.tabled_line.proofs.Names.{IsUtf8-append, IsUtf8-drop, List, RowSheet, StandsAt, [], ap, append-nil, append_assoc, arith}
-use Rattle.tabled_line.proofs.Names.{blank_row, block_line, cell_piece, drop, fill, first_offset, flat_map, get_or, get_or-append-add}
+use Rattle.tabled_line.proofs.Names.{blank_row, block_line, cases_lt, cell_piece, drop, fill, first_offset, flat_map, get_or, get_or-append-add, inl, inr}
 use Rattle.tabled_line.proofs.Names.{has_bar, left_edge, length, length-append, lit<, piece, range_with_len, refl, right_edge, row_line}
-use Rattle.tabled_line.proofs.Names.{rule_line, rule_piece, subst, suc, sym, take, take-append-drop, take-append_seam, ℕ, ◌++◌, ◌+◌, ◌-◌}
+use Rattle.tabled_line.proofs.Names.{rule_line, rule_piece, subst, suc, sym, take, take-append-drop, take-append_seam, zero, ℕ, ◌++◌, ◌+◌, ◌-◌}
 use Rattle.tabled_line.proofs.Names.{◌<◌, ◌∙◌, ◌∷◌, ◌≡◌, ◌≤◌}
 use Rattle.std.proofs.Math.Seq.{drop-append-add, drop-append_seam}
 use Rattle.std.proofs.lemmas.Str.{IsUtf8-take}
@@ -12,16 +12,16 @@ use Rattle.tabled_line.proofs.Bars.{later-bar}
 use Rattle.tabled_line.proofs.Each.{each-more}
 use Rattle.tabled_line.proofs.Fills.{fill-first_bytes, fill-length, fill-parts}
 
--- a text of n bytes in the place of n spaces
-pub lay-text : (front back text bytes : List ℕ) (n place : ℕ) → length text ≡ n → place ≡ length front → bytes ≡ front ++ (fill 32 n ++ back)
-    → take place bytes ++ (text ++ drop (place + length text) bytes) ≡ front ++ (text ++ back)
-lay-text front back text bytes n place size begins whole =
+-- a text in the place of n spaces
+pub lay-text : (front back text bytes : List ℕ) (n place : ℕ) → place ≡ length front → bytes ≡ front ++ (fill 32 n ++ back)
+    → take place bytes ++ (text ++ drop (place + n) bytes) ≡ front ++ (text ++ back)
+lay-text front back text bytes n place begins whole =
     let first : take place bytes ≡ front = ap (λ k. take k bytes) begins ∙ ap (take (length front)) whole ∙ take-append_seam front (fill 32 n ++ back) in
-    let next : place + length text ≡ length front + length (fill 32 n) = omega (arith, begins, size, fill-length 32 n (lit< tt)) in
-    let last : drop (place + length text) bytes ≡ back =
+    let next : place + n ≡ length front + length (fill 32 n) = omega (arith, begins, fill-length 32 n (lit< tt)) in
+    let last : drop (place + n) bytes ≡ back =
     ap (λ k. drop k bytes) next ∙ ap (drop (length front + length (fill 32 n))) whole
     ∙ drop-append-add front (fill 32 n ++ back) (length (fill 32 n)) ∙ drop-append_seam (fill 32 n) back in
-    ap (λ u. u ++ (text ++ drop (place + length text) bytes)) first ∙ ap (λ u. front ++ (text ++ u)) last
+    ap (λ u. u ++ (text ++ drop (place + n) bytes)) first ∙ ap (λ u. front ++ (text ++ u)) last
 
 -- a cell in its place: its text among its spaces
 pub cell-parts : (front back text : List ℕ) (l r : ℕ)
@@ -40,17 +40,6 @@ blank-cell front back l n r w sum = ap (λ u. front ++ (u ++ back)) (fill-parts 
 pub behind-spaces : (front : List ℕ) (l place start : ℕ) → place ≡ length front → start ≡ place + l → start ≡ length (front ++ fill 32 l)
 behind-spaces front l place start begins e = omega (arith, length-append front (fill 32 l), fill-length 32 l (lit< tt), begins, e)
 
--- of the blank columns of a cell those of its text
-pub stands-inside : {bytes : List ℕ} {place : ℕ} (l n r w start : ℕ) → l + (n + r) ≡ w → start ≡ place + l
-    → StandsAt bytes place (fill 32 w) → StandsAt bytes start (fill 32 n)
-stands-inside {bytes} {place} l n r w start sum e h =
-    record {
-      front = h.front ++ fill 32 l;
-      back = fill 32 r ++ h.back;
-      whole = h.whole ∙ blank-cell h.front h.back l n r w sum;
-      begins = behind-spaces h.front l place start h.begins e;
-    }
-
 -- bytes reach as far as what stands in them
 pub stands-long : {bytes : List ℕ} {place : ℕ} (n : ℕ) → StandsAt bytes place (fill 32 n) → place + n ≤ length bytes
 stands-long {bytes} {place} n h =
@@ -66,22 +55,31 @@ space-at {bytes} {place} w j h l =
     ∙ get_or-append-add h.front (fill 32 w ++ h.back) j 0 in
     rw e (fill-first_bytes 32 w j h.back (lit< tt) l)
 
--- a text over spaces of a text leaves a text
-pub laid-utf8 : (bytes text : List ℕ) (place w : ℕ) → StandsAt bytes place (fill 32 w) → length text ≤ w → IsUtf8 text → IsUtf8 bytes
-    → IsUtf8 (take place bytes ++ (text ++ drop (place + length text) bytes))
-laid-utf8 bytes [] place w h l t u =
-    let e : place + 0 ≡ place = omega arith in
-    subst IsUtf8 (sym (ap (λ n. take place bytes ++ drop n bytes) e ∙ take-append-drop place bytes)) u
-laid-utf8 bytes (b ∷ bs) place w h l t u =
+-- characters begin and end at each of these spaces
+spaces-boundary : {bytes : List ℕ} {place : ℕ} (w j : ℕ) → IsUtf8 bytes → StandsAt bytes place (fill 32 w) → 0 < w → j ≤ w → IsCharBoundary bytes (place + j)
+spaces-boundary {bytes} {place} w j u h some within =
     let long = stands-long w h in
-    let n = length bs in
-    let here : place + 0 ≡ place = omega arith in
-    let first = IsCharBoundary-before_ascii bytes place (omega arith) (subst (λ i. get_or bytes i 0 < 128) here (space-at w 0 h (omega arith))) in
-    let byte = space-at w n h (omega arith) in
-    let behind : place + n + 1 ≡ place + suc n = omega arith in
-    let after = subst (IsCharBoundary bytes) behind (IsCharBoundary-after_ascii bytes (place + n) u (omega arith) byte) in
-    IsUtf8-append (take place bytes) ((b ∷ bs) ++ drop (place + suc n) bytes) (IsUtf8-take bytes place u first)
-    (IsUtf8-append (b ∷ bs) (drop (place + suc n) bytes) t (IsUtf8-drop bytes (place + suc n) u after))
+    elim (cases_lt j w) [
+      | inl before ↦ IsCharBoundary-before_ascii bytes (place + j) (omega (arith, long, before)) (space-at w j h before)
+      | inr last ↦
+          let next : place + (w - 1) + 1 ≡ place + j = omega (arith, last, within, some) in
+          subst (IsCharBoundary bytes) next
+          (IsCharBoundary-after_ascii bytes (place + (w - 1)) u (omega (arith, long, some)) (space-at w (w - 1) h (omega (arith, some))))
+    ]
+
+-- a text in the place of n of the spaces of a cell leaves a text; none is in a cell without spaces
+pub laid-utf8 : {bytes : List ℕ} {place : ℕ} (text : List ℕ) (w before n start : ℕ) → StandsAt bytes place (fill 32 w) → start ≡ place + before
+    → before + n ≤ w → (w ≡ 0 → length text ≡ 0) → IsUtf8 text → IsUtf8 bytes → IsUtf8 (take start bytes ++ (text ++ drop (start + n) bytes))
+laid-utf8 {bytes} {place} [] zero before n start h e fits none t u =
+    let same : start + n ≡ start = omega (arith, fits) in
+    subst IsUtf8 (sym (ap (λ k. take start bytes ++ drop k bytes) same ∙ take-append-drop start bytes)) u
+laid-utf8 {bytes} {place} (b ∷ bs) zero before n start h e fits none t u = absurd (omega (arith, none refl))
+laid-utf8 {bytes} {place} text (suc w) before n start h e fits none t u =
+    let first = subst (IsCharBoundary bytes) (sym e) (spaces-boundary (suc w) before u h (omega arith) (omega (arith, fits))) in
+    let behind : place + (before + n) ≡ start + n = omega (arith, e) in
+    let last = subst (IsCharBoundary bytes) behind (spaces-boundary (suc w) (before + n) u h (omega arith) fits) in
+    IsUtf8-append (take start bytes) (text ++ drop (start + n) bytes) (IsUtf8-take bytes start u first)
+    (IsUtf8-append text (drop (start + n) bytes) t (IsUtf8-drop bytes (start + n) u last))
 
 pub laid-length : (l r : ℕ) (text : List ℕ) → length (fill 32 l ++ (text ++ fill 32 r)) ≡ l + (length text + r)
 laid-length l r text =

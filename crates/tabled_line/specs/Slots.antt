@@ -1,10 +1,11 @@
 -- Row templates, and their slots: where the cells of a row begin.
-use Rattle.std.specs.Prelude.{◌≡◌, ◌∷◌, ℕ, zero, suc, ◌+◌, List, length, map, string_bytes}
+use Rattle.std.specs.Prelude.{◌≡◌, ◌∷◌, ℕ, zero, suc, ◌+◌, List, IsUtf8, length, map, string_bytes}
 use Rattle.std.specs.List.{range_with_len}
 use Rattle.tabled_line.specs.BlankRow.{blank_row, first_offset}
+use Rattle.tabled_line.specs.declared.row_template.BlankRow.{BlankRow}
 use Rattle.tabled_line.specs.declared.row_template.RowTemplate.{RowTemplate}
 use Rattle.tabled_line.specs.declared.row_template.Slot.{Slot}
-use Rattle.tabled_line.specs.Row.{ColumnSheet, piece}
+use Rattle.tabled_line.specs.Row.{ColumnSheet, RowSheet, piece, row_line}
 
 -- the offset of a column's cell, in bytes: each cell before it takes as many bytes as columns, and
 -- the bytes of a vertical line follow
@@ -20,9 +21,16 @@ slot_at columns column = record { place = offset_at columns column; width = colu
 abbrev pub AreSlots : ColumnSheet → List Slot → Type 0
 AreSlots columns slots = slots ≡ map (slot_at columns) (range_with_len 0 columns.count)
 
--- the template holds the blank row of the columns, with a line feed before it, and their slots; its
--- line is as long
-pub record IsTemplateOf (columns : ColumnSheet) (template : RowTemplate) : Type 0 where
-  pub blank : string_bytes template.blank ≡ 10 ∷ blank_row columns
-  pub slots : AreSlots columns template.slots.items
-  pub size : length template.line.items ≡ length (string_bytes template.blank)
+-- the blank row of the columns, with a line feed before it, and their slots
+pub record IsBlankOf (columns : ColumnSheet) (blank : BlankRow) : Type 0 where
+  pub text : string_bytes blank.text ≡ 10 ∷ blank_row columns
+  pub slots : AreSlots columns blank.slots.items
+
+-- the template has the blank row of the columns
+abbrev pub IsTemplateOf : ColumnSheet → RowTemplate → Type 0
+IsTemplateOf columns template = IsBlankOf columns template.blank
+
+-- the line of the template is line `index` of a row, with a line feed before it
+pub record IsFilled (row : RowSheet) (index : ℕ) (template : RowTemplate) : Type 0 where
+  pub line : template.line.items ≡ 10 ∷ row_line row index
+  pub utf8 : IsUtf8 template.line.items

@@ -3,7 +3,7 @@
 //! Pieces are written as soon as they are known, so printing needs no allocation. A row is anything
 //! that implements `Row`, so rows in memory and rows of a stream share the same code. What later
 //! lines can share is cached: the last horizontal line and, if the caller passes an allocator, a
-//! row template into which the texts of a row are copied.
+//! row template, which is a blank row that texts are put into.
 //!
 //! Sinks:
 //! - `text_sink`: what the text of a table is written to: strings, writers, and buffers for the
@@ -11,7 +11,8 @@
 //!
 //! Pieces of a line:
 //! - `padding`: padding, and runs of one character.
-//! - `rules`: the columns of a table, vertical lines, margins and horizontal lines.
+//! - `borders`: the columns of a table, vertical lines, margins and horizontal lines.
+//! - `separator`: the separator between two texts, which is cached.
 //! - `new_config`: the settings of a new table that is printed while its rows are read.
 //!
 //! The text of a cell:
@@ -21,8 +22,8 @@
 //! Rows:
 //! - `row`: the trait of a row, and writing one of its lines.
 //! - `placement`: where texts are in their columns.
+//! - `row_template`: a blank row that the texts of each line are put into.
 //! - `spaced_line`: lines written text by text, with separators between them.
-//! - `row_template`: a blank row that the texts of each row are copied into.
 //! - `laws`: facts about the lines of a row.
 //!
 //! Lines below each other:
@@ -30,6 +31,7 @@
 //!   between them, and caches the last horizontal line and a row template.
 #![tactic(auto)]
 
+mod borders;
 mod cell_block;
 mod cursor;
 pub mod laws;
@@ -39,10 +41,11 @@ mod padding;
 mod placement;
 mod row;
 mod row_template;
-mod rules;
+mod separator;
 mod spaced_line;
 mod text_sink;
 
+pub use borders::{TableColumns, count_drawn, write_bar, write_left_edge, write_right_edge};
 pub use cell_block::{CellBlock, Content, before_text};
 pub use cursor::{Cursor, FEW_CURSORS, MANY_CURSORS};
 pub use line_printer::{LinePrinter, write_break};
@@ -50,6 +53,5 @@ pub use new_config::new_compact_config;
 pub use padding::{write_char, write_fill, write_padded_text};
 pub use placement::{KnownPlacements, Placement, UniformPlacement};
 pub use row::Row;
-pub use rules::{TableColumns, count_drawn, write_bar, write_left_edge, write_right_edge};
-pub use spaced_line::ColumnSeparator;
+pub use separator::ColumnSeparator;
 pub use text_sink::{IoSink, TextSink, WriterSink};

@@ -9,11 +9,11 @@ ghost use Rattle.tabled_line.specs.Row.{row_line, row_lines, rule_if, rule_line}
 ghost use Rattle.tabled_line.specs.RowLines.{IsRowLine};
 ghost use Rattle.tabled_line.specs.Sent.{Sent, Writes};
 
+use crate::borders::{TableColumns, write_rule_line};
 use crate::cursor::{Cursor, RowLine, advance_cursors, are_top, begin_cursors};
 use crate::padding::write_fill;
 use crate::row::{Row, write_row_line};
 use crate::row_template::RowTemplate;
-use crate::rules::{TableColumns, write_rule_line};
 use crate::text_sink::{LineBuffer, TextSink};
 use std::alloc::Global;
 use tabled_base::TableError;

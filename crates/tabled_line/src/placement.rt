@@ -33,7 +33,7 @@ pub struct UniformPlacement {
 /// What is known of the placements of the texts in a row.
 #[derive(Clone, Copy)]
 pub enum KnownPlacements<'a> {
-    /// The placement of each text, which are cached.
+    /// The cached placements of the texts, one for each column.
     Cached(&'a [Placement]),
     /// One placement for all texts.
     Uniform(UniformPlacement),

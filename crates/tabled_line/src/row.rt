@@ -6,11 +6,12 @@ ghost use Rattle.tabled_line.specs.Row.{RowSheet, cell_piece, row_cells, row_lin
 ghost use Rattle.tabled_line.specs.RowLines.{IsRowLine};
 ghost use Rattle.tabled_line.specs.Sent.{Sent, Writes};
 
+use crate::borders::{write_bar, write_left_edge, write_right_edge};
 use crate::cell_block::{CellBlock, Content};
 use crate::cursor::RowLine;
 use crate::placement::KnownPlacements;
-use crate::rules::{write_bar, write_left_edge, write_right_edge};
-use crate::spaced_line::{ColumnSeparator, write_spaced_row};
+use crate::separator::ColumnSeparator;
+use crate::spaced_line::write_spaced_row;
 use crate::text_sink::TextSink;
 use tabled_base::TableError;
 use tabled_config::{Frame, RowStyles};

@@ -1,6 +1,6 @@
 use Rattle.tabled_line.proofs.Names.{left_edge, refl}
 use Rattle.tabled_line.proofs.Sending.{finished, stopped-first}
-use Rattle.tabled_line.proofs.rules.write_left_edge.Goals as goal
+use Rattle.tabled_line.proofs.borders.write_left_edge.Goals as goal
 
 pub returns-in_err-write_fill : goal.returns-in_err-write_fill
 unfolding left_edge

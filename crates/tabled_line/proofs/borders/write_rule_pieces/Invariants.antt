@@ -1,5 +1,5 @@
 use Rattle.tabled_line.proofs.Names.{Sends, flat_map, range_with_len, rule_piece}
-use Rattle.tabled_line.proofs.rules.write_rule_pieces.Given as goal
+use Rattle.tabled_line.proofs.borders.write_rule_pieces.Given as goal
 
 abbrev pub invariant-pieces : goal.invariant-pieces
 invariant-pieces g l =

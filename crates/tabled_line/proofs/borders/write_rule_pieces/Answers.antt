@@ -3,7 +3,7 @@ use Rattle.tabled_line.proofs.Names.{unwrap_or, ◌++◌, ◌<◌, ◌∙◌}
 use Rattle.tabled_line.proofs.Sending.{stopped, further, sends-along}
 use Rattle.tabled_line.proofs.Each.{each-first, each-more, each-rest}
 use Rattle.tabled_line.proofs.Bars.{no-piece}
-use Rattle.tabled_line.proofs.rules.write_rule_pieces.Goals as goal
+use Rattle.tabled_line.proofs.borders.write_rule_pieces.Goals as goal
 
 pub returns-in_err-write_bar : goal.returns-in_err-write_bar
 unfolding rule_piece

@@ -1,7 +1,9 @@
-use Rattle.tabled_line.proofs.Names.{ap, arith, refl, ◌+◌, ◌<◌}
+use Rattle.std.specs.Prelude.{IsUtf8}
+use Rattle.tabled_line.proofs.Names.{ap, arith, drop, length, offset_at, refl, subst, sym, take, ◌++◌, ◌+◌, ◌<◌, ◌∙◌, ◌≡◌}
 use Rattle.tabled_line.proofs.Laying.{stands-long}
-use Rattle.tabled_line.proofs.LaidSlots.{laid-to-end, none-laid, slot-is, slot-stands, slots-count, text-fits, text-laid, text-utf8}
-use Rattle.tabled_line.proofs.row_template.fill_placed_texts.Goals as goal
+use Rattle.tabled_line.proofs.LaidSlots.{IsLaidTo, IsTextAt, laid-to-end, none-laid, slot-is, slot-stands, slots-count, text-fits}
+use Rattle.tabled_line.proofs.LaidSlots.{text-laid, text-utf8, with_text}
+use Rattle.tabled_line.proofs.row_template.overlay_texts.Goals as goal
 
 pub texts-init : goal.texts-init
 texts-init g c =
@@ -22,7 +24,7 @@ overflow_add-slot g c =
     let rs = g.R.Row.sheet c.args.row.now in
     let within : c.texts.column < rs.columns.count = omega (arith, c.texts-test.true, slots-count rs.columns c.args.slots.now c.requires.slots) in
     let slot = slot-is rs.columns c.args.slots.now c.texts.column c.requires.slots within in
-    let long = stands-long _ (slot-stands c.texts.invariant.laid within) in
+    let long = stands-long _ (slot-stands (offset_at rs.columns c.texts.column) c.texts.invariant.laid within refl) in
     omega (arith, long, c.in-Some.ensures.whole, ap (λ s. s.place) slot)
 
 pub copy_at-requires : goal.copy_at-requires
@@ -38,12 +40,20 @@ texts-preserved g c =
     let rs = g.R.Row.sheet c.args.row.now in
     let within : c.texts.column < rs.columns.count = omega (arith, c.texts-test.true, slots-count rs.columns c.args.slots.now c.requires.slots) in
     let slot = slot-is rs.columns c.args.slots.now c.texts.column c.requires.slots within in
-    let begun = c.texts.invariant.laid in
     let known = c.in-Some.ensures in
-    let start = ap (λ s. s.place + c.in-Some.placed.before) slot in
+    let placed = c.in-Some.placed in
+    let size = c.if-placed.false in
+    let line = c.texts.line in
+    let here : IsTextAt rs c.args.at.now.index c.texts.column line placed 0 0 (offset_at rs.columns c.texts.column) =
+    record { laid = c.texts.invariant.laid; within = within; known = known; stands = refl } in
+    let start = ap (λ s. s.place + placed.before) slot in
+    let copied : c.copy_at.new.line ≡ with_text line placed (offset_at rs.columns c.texts.column + placed.before) =
+    c.copy_at.ensures.copied ∙ ap (λ n. take n line ++ (placed.text.now ++ drop (n + length placed.text.now) line)) start
+    ∙ ap (λ n. take (offset_at rs.columns c.texts.column + placed.before) line
+    ++ (placed.text.now ++ drop (offset_at rs.columns c.texts.column + placed.before + n) line)) size in
     record {
-      laid = text-laid _ _ begun within known c.if-placed.false start c.copy_at.ensures.copied;
-      utf8 = λ u. text-utf8 _ _ begun within known c.if-placed.false start c.copy_at.ensures.copied c.copy_at.ensures.text (c.texts.invariant.utf8 u);
+      laid = subst (λ u. IsLaidTo rs c.args.at.now.index u (c.texts.column + 1) 0 0) (sym copied) (text-laid 0 0 here (omega (arith, size)));
+      utf8 = λ u. subst IsUtf8 (sym copied) (text-utf8 here (λ none. omega (arith, none, size, known.whole)) c.copy_at.ensures.text (c.texts.invariant.utf8 u));
     }
 
 pub returns-clause-laid : goal.returns-clause-laid

@@ -1,6 +1,6 @@
 use Rattle.tabled_line.proofs.Names.{indent, refl, right_edge}
 use Rattle.tabled_line.proofs.Sending.{finished, stopped-first}
-use Rattle.tabled_line.proofs.rules.write_right_edge.Goals as goal
+use Rattle.tabled_line.proofs.borders.write_right_edge.Goals as goal
 
 pub returns-in_err-write_bar : goal.returns-in_err-write_bar
 unfolding right_edge

@@ -1,6 +1,6 @@
 use Rattle.tabled_line.proofs.Names.{append_assoc, refl, rule_line}
 use Rattle.tabled_line.proofs.Sending.{further, finished, stopped, stopped-first}
-use Rattle.tabled_line.proofs.rules.write_rule_line.Goals as goal
+use Rattle.tabled_line.proofs.borders.write_rule_line.Goals as goal
 
 pub returns-in_err-write_left_edge : goal.returns-in_err-write_left_edge
 unfolding rule_line
