@@ -21,6 +21,7 @@ pub mod FittingLaws
 pub mod JoinLemmas
 pub mod Joining
 pub mod LetterBytes
+pub mod LetterFronts
 pub mod LetterLanes
 pub mod LetterLemmas
 pub mod LineLaws

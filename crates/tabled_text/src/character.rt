@@ -14,6 +14,7 @@ ghost use Rattle.tabled_text.specs.Plain.{is_additive_or_feed, IsAdditive, IsAdd
 ghost use Rattle.tabled_text.specs.FramedLines.{IsSeparatorColumn};
 ghost use Rattle.tabled_text.specs.Separators.{is_keycap_base};
 
+use crate::letters::split_letters;
 use unicode_width::UnicodeWidthChar;
 
 /// Whether a character is from U+00C0 to U+02FF or from U+0380 to U+047F. Each takes one column.
@@ -124,8 +125,7 @@ pub(crate) fn split_count(text: &str) -> Option<(usize, &str)>
 pub(crate) fn split_piece(text: &str, n: usize) -> (&str, usize, &str)
     ensures { IsPiece n text.now result.0.now result.1 result.2.now }
 {
-    let mut rest = text;
-    let mut columns = 0;
+    let (_, mut columns, mut rest) = split_letters(text, n);
     'chars: while let Some((count, after)) = split_count(rest) {
         if count > n - columns {
             break;

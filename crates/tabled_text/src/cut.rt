@@ -6,6 +6,7 @@ ghost use Rattle.std.specs.Cow.{cow_str_bytes, IsOwnedStr};
 ghost use Rattle.tabled_text.specs.Cut.{IsCut, IsSplit, IsParted, NeedsFill};
 
 use crate::character::split_count;
+use crate::letters::split_letters;
 use crate::runs::is_run;
 use crate::sink::append_copies;
 use std::alloc::{AllocError, Global};
@@ -29,8 +30,7 @@ fn part_by_chars(text: &str, n: usize) -> Parts<'_>
     ensures beginning { take (length result.front.now) text.now ≡ result.front.now }
     ensures boundary { IsCharBoundary text.now (length result.front.now) }
 {
-    let mut rest = text;
-    let mut columns = 0;
+    let (_, mut columns, mut rest) = split_letters(text, n);
     'chars: while let Some((count, after)) = split_count(rest) {
         if columns == n {
             break;

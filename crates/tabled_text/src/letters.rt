@@ -1,8 +1,7 @@
 //! Measures letters by their bytes, 16 at a time.
 ghost use Rattle.std.specs.Prelude.{◌≡◌, ◌+◌, ◌++◌, ◌≤◌, IfSome, drop, length, map};
-ghost use Rattle.std.specs.Prelude.{replicate, take, true};
+ghost use Rattle.std.specs.Prelude.{replicate, take, true, IsUtf8};
 ghost use Rattle.std.specs.List.{list_all};
-ghost use Rattle.std.specs.Str.{IsCharBoundary};
 ghost use Rattle.tabled_text.specs.Letters.{AreLetters, byte_columns, is_letter_byte};
 ghost use Rattle.tabled_text.specs.Letters.{is_letter_or_break};
 
@@ -115,16 +114,19 @@ fn letter_blocks(bytes: &[u8], n: usize) -> (usize, usize)
     (at, columns)
 }
 
-/// Returns where letters at the front of a text end that take at most n columns together, and their
-/// columns. More letters may follow them.
-pub(crate) fn letter_front(text: &str, n: usize) -> (usize, usize)
-    ensures letters { AreLetters (take result.0 text.now) result.1 }
-    ensures boundary { IsCharBoundary text.now result.0 }
+/// Splits off letters at the front of a text that take at most n columns together. Returns their
+/// text, their columns and the rest, which may begin with more letters.
+pub(crate) fn split_letters(text: &str, n: usize) -> (&str, usize, &str)
+    ensures parts { text.now ≡ result.0.now ++ result.2.now }
+    ensures front { IsUtf8 result.0.now }
+    ensures rest { IsUtf8 result.2.now }
+    ensures letters { AreLetters result.0.now result.1 }
     ensures fits { result.1 ≤ n }
 {
     let bytes = text.as_bytes();
     let (at, columns) = letter_blocks(bytes, n);
-    (short_run_end(bytes, at, 0x80, 0xC1), columns)
+    let (front, rest) = text.split_at(short_run_end(bytes, at, 0x80, 0xC1));
+    (front, columns, rest)
 }
 
 /// Whether each byte of a block is a letter's, a tab or a line feed.

@@ -1,10 +1,13 @@
 use Rattle.tabled_text.proofs.Names.{IsPiece, arith, subst, sym, ◌∙◌}
 use Rattle.tabled_text.proofs.CutLemmas.{front_boundary, front_taken}
-use Rattle.tabled_text.proofs.Pieces.{Taken-more, Taken-start}
+use Rattle.tabled_text.proofs.LetterFronts.{letters-taken}
+use Rattle.tabled_text.proofs.Pieces.{Taken-more}
 use Rattle.tabled_text.proofs.character.split_piece.Goals as goal
 
 pub chars-init : goal.chars-init
-chars-init c = Taken-start c.args.n c.args.text.now c.utf8.text
+chars-init c =
+    let e = c.split_letters-columns.ensures in
+    letters-taken c.args.n c.split_letters-columns.result.1 e.parts e.front e.rest e.letters e.fits
 
 pub chars-preserved : goal.chars-preserved
 chars-preserved c =

@@ -1,13 +1,16 @@
 use Rattle.tabled_text.proofs.Names.{IsCharBoundary, IsParted, IsUtf8-past_char, ap, arith, char_count, chars, get_or, subst, sym, ◌+◌, ◌<◌}
 use Rattle.tabled_text.proofs.Names.{◌∙◌, ◌≤◌}
-use Rattle.tabled_text.proofs.CutLemmas.{Walked, Walked-start, Walked-le, Walked-feed, Walked-push, IsParted-wide, IsParted-full}
+use Rattle.tabled_text.proofs.CutLemmas.{Walked, Walked-le, Walked-feed, Walked-push, IsParted-wide, IsParted-full}
 use Rattle.tabled_text.proofs.CutLemmas.{IsParted-end, front_taken, rest_taken, front_boundary}
+use Rattle.tabled_text.proofs.LetterFronts.{letters-walked}
 use Rattle.tabled_text.proofs.LetterLemmas.{feed-lead, lead-feed}
 use Rattle.tabled_text.proofs.cut.part_by_chars.Goals as goal
 use Rattle.tabled_text.proofs.cut.part_by_chars.Goals.{in-Some+then-columns-n, in_default}
 
 pub chars-init : goal.chars-init
-chars-init c = (Walked-start c.args.n c.args.text.now, c.utf8.text)
+chars-init c =
+    let e = c.split_letters-columns.ensures in
+    (letters-walked c.args.n c.split_letters-columns.result.1 e.parts e.front e.letters e.fits, e.rest)
 
 pub overflow_sub-n : goal.overflow_sub-n
 overflow_sub-n c = Walked-le c.chars.invariant.0
