@@ -275,7 +275,7 @@ pub(crate) struct First {
 
 impl First {
     /// Looks at the piece at a position, too.
-    fn or_at(self, line: &Line<'_, '_, '_, '_>, numbers: &[usize], x: usize, y: usize) -> First
+    fn or_at(self, line: &Line<'_, '_, '_, '_>, numbers: &[u32], x: usize, y: usize) -> First
         requires { IsFirst (plan_of line.now.drawing.now) line.now.y self }
         ensures earlier { IsEarlier (plan_of line.now.drawing.now) line.now.y self result }
         ensures skips { Skips (plan_of line.now.drawing.now) self.x line.now.y result.number x y }
@@ -297,7 +297,7 @@ impl First {
     }
 
     /// Looks at the pieces of line `y` at the column and on both sides of it, too.
-    fn or_beside(self, line: &Line<'_, '_, '_, '_>, numbers: &[usize], y: usize) -> First
+    fn or_beside(self, line: &Line<'_, '_, '_, '_>, numbers: &[u32], y: usize) -> First
         requires { IsFirst (plan_of line.now.drawing.now) line.now.y self }
         ensures earlier { IsEarlier (plan_of line.now.drawing.now) line.now.y self result }
         ensures skips { SkipsBeside (plan_of line.now.drawing.now) line.now.y self result y }

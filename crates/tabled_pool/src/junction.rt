@@ -18,6 +18,7 @@ pub(crate) fn has_top(borders: &Borders<char>) -> bool
         || borders.top_right.is_some()
 }
 
+/// Whether there is a bottom border: any of its characters is set.
 pub(crate) fn has_bottom(borders: &Borders<char>) -> bool
     ensures { result ≡ has_bottom borders.now }
 {
@@ -27,12 +28,15 @@ pub(crate) fn has_bottom(borders: &Borders<char>) -> bool
         || borders.bottom_right.is_some()
 }
 
+/// Whether `size` columns or lines from `start` on are the last of `whole`.
 pub(crate) fn ends_at(start: usize, size: usize, whole: usize) -> bool
     ensures { result ≡ (start + size == whole) }
 {
     size <= whole && start == whole - size
 }
 
+/// The character of a border where no other meets it. The outer right and bottom borders have their
+/// own. A text has none.
 fn main_of(drawing: &Drawing<'_, '_>, kind: Kind, place: Rectangle) -> Option<char>
     ensures { result ≡ main_of (plan_of drawing.now) kind place }
 {
@@ -56,6 +60,7 @@ fn main_of(drawing: &Drawing<'_, '_>, kind: Kind, place: Rectangle) -> Option<ch
     }
 }
 
+/// On which sides of a position a border is.
 #[derive(Clone, Copy)]
 pub(crate) struct Arms {
     pub left: bool,
@@ -64,6 +69,8 @@ pub(crate) struct Arms {
     pub down: bool,
 }
 
+/// The character of a border at a position: that of a junction if borders are at its left or right
+/// and above or below, else that of the border. A missing character is a space.
 pub(crate) fn border_char(drawing: &Drawing<'_, '_>, piece: &Piece<'_>, arms: Arms) -> char
     ensures { result ≡ armed_char (plan_of drawing.now) piece.now.kind piece.now.place arms.left
         arms.right arms.up arms.down }

@@ -61,7 +61,7 @@ pub(crate) struct Stretch {
 fn stretch_at(
     drawing: &Drawing<'_, '_>,
     known: Stretch,
-    line: &[usize],
+    line: &[u32],
     x: usize,
     y: usize,
 ) -> Stretch

@@ -1,5 +1,6 @@
-//! `Rectangle`; `Piece`, a text or a border in its rectangle; `Drawing`, the pieces and their
-//! settings; and the rectangles of texts, of the borders between boxes, and of those around a tree.
+//! `Rectangle`; `Piece`, a text or a border in its rectangle; `Pieces`, a list of them; `Drawing`,
+//! the pieces and their settings; and the rectangles of texts, of the borders between boxes, and of
+//! those around a tree.
 ghost use Rattle.std.specs.Prelude.{IfOk, Some, [], map, ◌++◌, ◌+◌, ◌<◌, ◌^◌, ◌∷◌, ◌≡◌, ◌≤◌};
 ghost use Rattle.tabled_pool.specs.Boxes.{IsSize, behind_border, border_kind, border_part};
 ghost use Rattle.tabled_pool.specs.Boxes.{box_along, box_of, first_part, is_line_kind, list_box};
@@ -11,6 +12,7 @@ ghost use Rattle.tabled_pool.specs.Tiling.{AreTiles, framed};
 use crate::sizes::{BoxSpacing, Direction, Size, own_size};
 use crate::tree::TableValue;
 use std::alloc::{AllocError, Global};
+use std::mem;
 use tabled_config::{ANSIStr, Borders, CellStyle, Sides};
 use tabled_size::DimensionPriority;
 
@@ -73,11 +75,17 @@ pub enum Kind {
     Rule,
 }
 
+/// The number of no piece.
+pub(crate) const NO_PIECE: u32 = u32::MAX;
+
 /// A text or a border, with its rectangle.
 #[derive(Clone, Copy)]
 pub struct Piece<'a> {
     /// What it is.
     pub kind: Kind,
+    /// The number of the piece before it that begins on the same line. No contract says that it is
+    /// right.
+    pub earlier: u32,
     /// Where it is.
     pub place: Rectangle,
     /// Its text; a border has none.
@@ -93,10 +101,52 @@ pub fn is_line_kind(kind: Kind) -> bool
     }
 }
 
+/// Placed pieces, in the order of their tree.
+#[derive(Drop)]
+pub struct Pieces<'a> {
+    pub list: Vec<Piece<'a>>,
+    /// For each line, the number of the last piece that begins there. No contract says that it is
+    /// right. The list is empty if an allocation failed.
+    pub begins: Vec<u32>,
+}
+
+impl<'a> Pieces<'a> {
+    /// No pieces, for a drawing of `height` lines.
+    pub fn new(alloc: Global, height: usize) -> Pieces<'a>
+        ensures { result.list.items ≡ [] }
+    {
+        Pieces {
+            list: Vec::new(alloc),
+            begins: no_pieces(alloc, height),
+        }
+    }
+
+    /// Makes the next piece the last that begins on its line, and returns the one that was.
+    fn link(&mut self, place: Rectangle) -> u32
+        ensures { self.new.list.items ≡ self.old.list.items }
+    {
+        if place.width == 0 || place.height == 0 {
+            return NO_PIECE;
+        }
+        let number = u32::try_from(self.list.len()).unwrap_or(NO_PIECE);
+        match self.begins.get_mut(place.y) {
+            Some(last) => mem::replace(last, number),
+            None => NO_PIECE,
+        }
+    }
+}
+
+/// A list of `count` numbers of no piece, or an empty one if an allocation fails.
+pub(crate) fn no_pieces(alloc: Global, count: usize) -> Vec<u32> {
+    Vec::from_elem(alloc, NO_PIECE, count).unwrap_or_else(|_| Vec::new(alloc))
+}
+
 /// Placed pieces, and the settings that they are drawn with.
 #[derive(Clone, Copy)]
 pub struct Drawing<'d, 'a> {
     pub pieces: &'d [Piece<'a>],
+    /// For each line, the number of the last piece that begins there, as `Pieces` has it.
+    pub begins: &'d [u32],
     pub width: usize,
     pub height: usize,
     pub borders: Borders<char>,
@@ -130,16 +180,23 @@ fn share(priority: DimensionPriority, surplus: usize, count: usize) -> usize
     }
 }
 
+/// Adds a piece.
 pub fn place_piece<'a>(
     kind: Kind,
     place: Rectangle,
     text: &'a str,
-    pieces: &mut Vec<Piece<'a>>,
+    pieces: &mut Pieces<'a>,
 ) -> Result<(), AllocError>
-    ensures { IfOk result (λ _. map shown pieces.new.items ≡ map shown pieces.old.items
+    ensures { IfOk result (λ _. map shown pieces.new.list.items ≡ map shown pieces.old.list.items
         ++ (part_of kind place text.now ∷ [])) }
 {
-    pieces.push(Piece { kind, place, text })?;
+    let earlier = pieces.link(place);
+    pieces.list.push(Piece {
+        kind,
+        earlier,
+        place,
+        text,
+    })?;
     Ok(())
 }
 
@@ -229,13 +286,13 @@ fn place_list<'a>(
     children: &'a [TableValue],
     spacing: &BoxSpacing,
     whole: BoxPlace,
-    pieces: &mut Vec<Piece<'a>>,
+    pieces: &mut Pieces<'a>,
 ) -> Result<(), AllocError>
     requires own { IsSize (Some whole.own)
         (list_box direction spacing.now (map (box_of spacing.now) children.now)) }
     requires fits { Fits (list_box direction spacing.now (map (box_of spacing.now) children.now))
         whole.place }
-    ensures { IfOk result (λ _. map shown pieces.new.items ≡ map shown pieces.old.items
+    ensures { IfOk result (λ _. map shown pieces.new.list.items ≡ map shown pieces.old.list.items
         ++ (list_box direction spacing.now (map (box_of spacing.now) children.now)).parts
         whole.place) }
 {
@@ -268,11 +325,11 @@ pub fn place_value<'a>(
     value: &'a TableValue,
     spacing: &BoxSpacing,
     whole: BoxPlace,
-    pieces: &mut Vec<Piece<'a>>,
+    pieces: &mut Pieces<'a>,
 ) -> Result<(), AllocError>
     requires own { IsSize (Some whole.own) (box_of spacing.now value.now) }
     requires fits { Fits (box_of spacing.now value.now) whole.place }
-    ensures { IfOk result (λ _. map shown pieces.new.items ≡ map shown pieces.old.items
+    ensures { IfOk result (λ _. map shown pieces.new.list.items ≡ map shown pieces.old.list.items
         ++ (box_of spacing.now value.now).parts whole.place) }
 {
     match value.inner() {
@@ -297,7 +354,7 @@ pub fn place_tree<'a>(
     spacing: &BoxSpacing,
     frame: &Sides<usize>,
     whole: Rectangle,
-    pieces: &mut Vec<Piece<'a>>,
+    pieces: &mut Pieces<'a>,
 ) -> Result<(), AllocError>
     requires wide { whole.width
         ≡ frame.now.left + (box_of spacing.now value.now).width + frame.now.right }
@@ -305,7 +362,7 @@ pub fn place_tree<'a>(
         ≡ frame.now.top + (box_of spacing.now value.now).height + frame.now.bottom }
     requires right { whole.x + whole.width < 2 ^ 64 }
     requires low { whole.y + whole.height < 2 ^ 64 }
-    ensures { IfOk result (λ _. map shown pieces.new.items ≡ map shown pieces.old.items
+    ensures { IfOk result (λ _. map shown pieces.new.list.items ≡ map shown pieces.old.list.items
         ++ framed (frame.now) (box_of spacing.now value.now) whole) }
 {
     let rest = whole.rest_part(Direction::Across, frame.left);

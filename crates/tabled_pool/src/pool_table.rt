@@ -1,6 +1,6 @@
 //! `PoolTable`: its settings, its size, and how it is printed.
 ghost use Rattle.std.specs.Prelude.{◌≡◌, ◌⊎◌, IfErr, IfOk, MatchOption, length, map, ◌<◌, [], ◌++◌};
-ghost use Rattle.std.specs.Prelude.{string_bytes};
+ghost use Rattle.std.specs.Prelude.{not, string_bytes};
 ghost use Rattle.tabled_base.specs.declared.error.TableError.TheVariants.{Memory, Range};
 ghost use Rattle.tabled_config.specs.Styles.{ascii};
 ghost use Rattle.tabled_line.specs.Plain.{EachLineTakes};
@@ -23,7 +23,7 @@ ghost use Rattle.tabled_pool.specs.Tiled.{Tiled};
 
 use crate::bordered_text::DrawnBlock;
 use crate::junction::{has_bottom, has_top};
-use crate::places::{Drawing, Piece, Rectangle, place_tree};
+use crate::places::{Drawing, Piece, Pieces, Rectangle, place_tree};
 use crate::sizes::{BoxSpacing, Size, own_size, sum};
 use crate::table_lines::{ColoredMargin, TableLines, draw_lines};
 use crate::tree::TableValue;
@@ -190,12 +190,12 @@ impl PoolTable {
         Some(Size { width, height })
     }
 
-    fn pieces(&self, size: Size) -> Result<Vec<Piece<'_>>, AllocError>
+    fn pieces(&self, size: Size) -> Result<Pieces<'_>, AllocError>
         requires width { size.width ≡ framed_width self.now }
         requires height { size.height ≡ framed_height self.now }
-        ensures { IfOk result (λ pieces. map shown pieces.items ≡ (plan self.now).parts) }
+        ensures { IfOk result (λ pieces. map shown pieces.list.items ≡ (plan self.now).parts) }
     {
-        let mut pieces = Vec::new(self.value.allocator());
+        let mut pieces = Pieces::new(self.value.allocator(), size.height);
         let frame = frame_of(self.config.get_borders());
         let whole = Rectangle {
             x: 0,
@@ -207,16 +207,17 @@ impl PoolTable {
         Ok(pieces)
     }
 
-    fn drawing<'d, 'a>(&self, pieces: &'d [Piece<'a>], size: Size) -> Drawing<'d, 'a>
+    fn drawing<'d, 'a>(&self, pieces: &'d Pieces<'a>, size: Size) -> Drawing<'d, 'a>
         requires width { size.width ≡ framed_width self.now }
         requires height { size.height ≡ framed_height self.now }
-        requires places { map shown pieces.now ≡ (plan self.now).parts }
+        requires places { map shown pieces.now.list.items ≡ (plan self.now).parts }
         ensures plan { plan_of result ≡ plan self.now }
         ensures width { result.width ≡ size.width }
         ensures height { result.height ≡ size.height }
     {
         Drawing {
-            pieces,
+            pieces: pieces.list.as_slice(),
+            begins: pieces.begins.as_slice(),
             width: size.width,
             height: size.height,
             borders: *self.config.get_borders(),
@@ -227,6 +228,16 @@ impl PoolTable {
         }
     }
 
+    /// Whether each text has at least one column. Side padding gives it one.
+    fn has_columns(&self, pieces: &[Piece<'_>]) -> bool
+        requires { map shown pieces.now ≡ (plan self.now).parts }
+        ensures { has_zero_width (plan self.now).parts ≡ not result }
+    {
+        let padding = self.config.get_padding();
+        let more = padding.left.size.max(padding.right.size);
+        more > 0 || !has_zero_width(pieces)
+    }
+
     /// Writes the table, if its totals fit in `usize`.
     fn write_checked<S: TextSink>(&self, sink: &mut S) -> Result<(), TableError>
         ensures { WritesPool self.now (S.sent sink.old) result (S.sent sink.new) }
@@ -235,8 +246,9 @@ impl PoolTable {
             return Err(TableError::Range);
         };
         let pieces = self.pieces(size)?;
-        let drawing = self.drawing(pieces.as_slice(), size);
-        if !has_zero_width(pieces.as_slice()) {
+        let has_columns = self.has_columns(pieces.list.as_slice());
+        let drawing = self.drawing(&pieces, size);
+        if has_columns {
             let margin = self.colored_margin(*self.config.get_margin());
             return draw_lines(sink, TableLines::Placed(&drawing), &margin);
         }

@@ -7,33 +7,21 @@ ghost use Rattle.tabled_pool.specs.Shown.{shown};
 ghost use Rattle.tabled_pool.specs.Owner.{contains, owner};
 ghost use Rattle.tabled_pool.specs.Numbers.{IsNumber};
 
-use crate::places::{Drawing, Piece, Rectangle};
+use crate::places::{Drawing, Piece, Rectangle, no_pieces};
 use std::alloc::Global;
 use std::mem;
-
-/// The number of no piece.
-const NONE: usize = usize::MAX;
 
 /// The numbers of the pieces on three lines, by column. No contract says that they are right: who
 /// uses one looks whether the piece is there. A list is too short if an allocation failed.
 #[derive(Drop)]
 pub(crate) struct Sweep {
-    /// For each line, the last piece that begins there.
-    begins: Vec<usize>,
-    /// For each piece, the one before it that begins on the same line.
-    earlier: Vec<usize>,
-    pub above: Vec<usize>,
-    pub here: Vec<usize>,
-    pub below: Vec<usize>,
-}
-
-/// A list of `count` numbers of no piece, or an empty one if an allocation fails.
-fn unknown(alloc: Global, count: usize) -> Vec<usize> {
-    Vec::from_elem(alloc, NONE, count).unwrap_or_else(|_| Vec::new(alloc))
+    pub above: Vec<u32>,
+    pub here: Vec<u32>,
+    pub below: Vec<u32>,
 }
 
 /// Sets the number of the piece in the columns of a rectangle.
-fn mark(line: &mut [usize], place: Rectangle, number: usize) {
+fn mark(line: &mut [u32], place: Rectangle, number: u32) {
     let end = place.x.saturating_add(place.width).min(line.len());
     if place.x < end {
         line[place.x..end].fill(number);
@@ -41,60 +29,48 @@ fn mark(line: &mut [usize], place: Rectangle, number: usize) {
 }
 
 impl Sweep {
-    /// A sweep above the first line.
-    pub(crate) fn new(alloc: Global, pieces: &[Piece<'_>], width: usize, height: usize) -> Sweep {
-        let mut sweep = Sweep {
-            begins: unknown(alloc, height),
-            earlier: unknown(alloc, pieces.len()),
+    /// A sweep over no pieces.
+    pub(crate) fn empty(alloc: Global) -> Sweep {
+        Sweep {
             above: Vec::new(alloc),
-            here: unknown(alloc, width),
-            below: unknown(alloc, width),
-        };
-        for number in 0..pieces.len() {
-            sweep.link(pieces[number].place, number);
+            here: Vec::new(alloc),
+            below: Vec::new(alloc),
         }
-        sweep.mark_line(pieces, 0);
+    }
+
+    /// A sweep above the first line.
+    pub(crate) fn new(drawing: &Drawing<'_, '_>) -> Sweep {
+        let mut sweep = Sweep {
+            above: Vec::new(drawing.alloc),
+            here: no_pieces(drawing.alloc, drawing.width),
+            below: no_pieces(drawing.alloc, drawing.width),
+        };
+        sweep.mark_line(drawing, 0);
         sweep
     }
 
-    /// Adds a piece to those that begin on its line.
-    fn link(&mut self, place: Rectangle, number: usize) {
-        if place.height == 0 {
-            return;
-        }
-        if let Some(last) = self.begins.get_mut(place.y)
-            && let Some(earlier) = self.earlier.get_mut(number)
-        {
-            *earlier = *last;
-            *last = number;
-        }
-    }
-
     /// Sets the pieces that begin on line `y`, which is the line below.
-    fn mark_line(&mut self, pieces: &[Piece<'_>], y: usize) {
-        let Some(last) = self.begins.as_slice().get(y) else {
+    fn mark_line(&mut self, drawing: &Drawing<'_, '_>, y: usize) {
+        let Some(last) = drawing.begins.get(y) else {
             return;
         };
         let mut number = *last;
-        'pieces: while number < pieces.len() {
-            mark(self.below.as_mut_slice(), pieces[number].place, number);
-            let Some(earlier) = self.earlier.as_slice().get(number) else {
-                return;
-            };
-            if *earlier >= number {
+        'pieces: while let Some(piece) = drawing.pieces.get(number as usize) {
+            mark(self.below.as_mut_slice(), piece.place, number);
+            if piece.earlier >= number {
                 return;
             }
-            number = *earlier;
+            number = piece.earlier;
         }
     }
 
     /// Goes on to line `y`.
-    pub(crate) fn advance(&mut self, pieces: &[Piece<'_>], y: usize) {
+    pub(crate) fn advance(&mut self, drawing: &Drawing<'_, '_>, y: usize) {
         mem::swap(&mut self.above, &mut self.here);
         mem::swap(&mut self.here, &mut self.below);
         self.below.clear();
         if self.below.extend_from_slice(self.here.as_slice()).is_ok() {
-            self.mark_line(pieces, y.saturating_add(1));
+            self.mark_line(drawing, y.saturating_add(1));
         }
     }
 }
@@ -128,17 +104,17 @@ fn find(pieces: &[Piece<'_>], x: usize, y: usize) -> Option<usize>
 /// there, else the one that a search finds.
 pub(crate) fn number_at(
     drawing: &Drawing<'_, '_>,
-    line: &[usize],
+    line: &[u32],
     x: usize,
     y: usize,
 ) -> Option<usize>
     ensures { IsNumber drawing.now.pieces.now x y result }
 {
     if let Some(number) = line.get(x)
-        && let Some(piece) = drawing.pieces.get(*number)
+        && let Some(piece) = drawing.pieces.get(*number as usize)
         && contains(piece.place, x, y)
     {
-        return Some(*number);
+        return Some(*number as usize);
     }
     if x >= drawing.width {
         return None;
@@ -151,7 +127,7 @@ pub(crate) fn number_at(
 
 pub(crate) fn piece_at<'d, 'a>(
     drawing: &Drawing<'d, 'a>,
-    line: &[usize],
+    line: &[u32],
     x: usize,
     y: usize,
 ) -> Option<&'d Piece<'a>>

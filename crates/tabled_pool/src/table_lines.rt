@@ -140,13 +140,13 @@ fn draw_inner_lines<S: TextSink>(
         (sheet_of lines.entry).lines) }
 {
     let mut sweep = match lines {
-        TableLines::Placed(d) => Sweep::new(d.alloc, d.pieces, d.width, d.height),
-        TableLines::Drawn(block) => Sweep::new(*block.lines.allocator(), &[], 0, 0),
+        TableLines::Placed(drawing) => Sweep::new(drawing),
+        TableLines::Drawn(block) => Sweep::empty(*block.lines.allocator()),
     };
     let height = lines.size().height;
     'lines: for y in 0..height {
         if let TableLines::Placed(drawing) = lines {
-            sweep.advance(drawing.pieces, y);
+            sweep.advance(drawing, y);
         }
         draw_next(sink, begun, margin, lines.line(&sweep, y))?;
     }

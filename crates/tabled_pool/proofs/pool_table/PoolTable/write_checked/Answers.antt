@@ -17,8 +17,8 @@ draw_lines-requires g c =
     let columns : has_zero_width (plan c.args.self.now).parts ≡ false = grind (arith, common_steps) in
     subst (λ (q : DrawingPlan). AreSized q.parts) (sym c.drawing-drawing.ensures.plan) (sized_parts c.args.self.now columns)
 
-pub returns-then-not-has_zero_width : goal.returns-then-not-has_zero_width
-returns-then-not-has_zero_width g c =
+pub returns-then-has_columns : goal.returns-then-has_columns
+returns-then-has_columns g c =
     let t = c.args.self.now in
     let m = c.colored_margin-margin.ensures in
     let columns : has_zero_width (plan t).parts ≡ false = grind (arith, common_steps) in
