@@ -363,24 +363,29 @@ impl JoinedRecords {
 impl ExactRecords for JoinedRecords {
     ghost cells = { λ r. r };
 
+    #[inline(always)]
     fn count_rows(&self) -> usize {
         self.rows.len()
     }
 
+    #[inline(always)]
     fn count_columns(&self) -> usize {
         self.rows.columns()
     }
 }
 
 impl PeekableRecords for JoinedRecords {
+    #[inline(always)]
     fn get_text(&self, at: Position) -> &str {
         self.get_measured(at).0
     }
 
+    #[inline(always)]
     fn get_width(&self, at: Position) -> usize {
         self.get_measured(at).1
     }
 
+    #[inline(always)]
     fn count_lines(&self, at: Position) -> usize {
         self.get_measured(at).2
     }

@@ -1,6 +1,6 @@
 //! Rows as ranges of a list of texts, and pairs of numbers in half the memory.
 ghost use Rattle.std.specs.Prelude.{◌≡◌, ◌<◌, ◌++◌, [], ◌∷◌, IfErr, IfOk, IfSome, OnErr, OnOk, length};
-ghost use Rattle.std.specs.Prelude.{◌^◌, MatchOption};
+ghost use Rattle.std.specs.Prelude.{◌^◌, List, MatchOption, ℕ};
 ghost use Rattle.std.specs.List.{slice_index_or};
 ghost use Rattle.tabled_base.specs.declared.error.TableError.TheVariants.{Memory};
 ghost use Rattle.tabled_base.specs.Cells.{IsInside, cell_at};
@@ -33,6 +33,16 @@ fn small(pair: (usize, usize)) -> Option<(u32, u32)>
     ensures { IfSome result (λ s. s ≡ pair) }
 {
     Some((u32::try_from(pair.0).ok()?, u32::try_from(pair.1).ok()?))
+}
+
+/// Returns the pair at an index.
+#[inline(always)]
+fn wide(small: &[(u32, u32)], place: usize) -> (usize, usize)
+    requires { place < length small.now }
+    ensures { (more : List (ℕ × ℕ)) → result ≡ slice_index_or (small.now ++ more) place result }
+{
+    let (first, second) = small[place];
+    (first as usize, second as usize)
 }
 
 impl Pairs {
@@ -71,10 +81,7 @@ impl Pairs {
         ensures { result ≡ slice_index_or self.now place result }
     {
         match place.checked_sub(self.small.len()) {
-            None => {
-                let (first, second) = self.small[place];
-                (first as usize, second as usize)
-            }
+            None => wide(&self.small, place),
             Some(behind) => self.great[behind],
         }
     }
@@ -112,17 +119,24 @@ impl Model for RowRanges {
     ghost invariant = { λ r. r.columns ≡ longest_range r.ranges };
 }
 
-/// Returns the byte where a text begins: `gap` bytes after the end of the one before it.
+/// Returns the byte where a text begins, `gap` bytes after the end of the one before it, and its
+/// end with its columns.
 #[inline(always)]
-fn start_of(ends: &Pairs, gap: usize, place: usize) -> usize
+fn bounds_of(ends: &Pairs, gap: usize, place: usize) -> (usize, (usize, usize))
     requires inside { place < length ends.now }
     requires fits { begin gap 0 ends.now place < 2 ^ 64 }
-    ensures { result ≡ begin gap 0 ends.now place }
+    ensures begin { result.0 ≡ begin gap 0 ends.now place }
+    ensures end { result.1 ≡ slice_index_or ends.now place result.1 }
 {
-    match place.checked_sub(1) {
-        Some(before) => ends.at(before).0 + gap,
-        None => 0,
+    let Some(before) = place.checked_sub(1) else {
+        return (0, ends.at(place));
+    };
+    // The pair before a small one is small.
+    if place < ends.small.len() {
+        let small = ends.small.as_slice();
+        return (wide(small, before).0 + gap, wide(small, place));
     }
+    (ends.at(before).0 + gap, ends.at(place))
 }
 
 impl RowRanges {
@@ -205,7 +219,7 @@ impl RowRanges {
         // The number of texts is a `usize`, and so each index is in range.
         let _count = ends.len();
         let place = start + at.column;
-        let (end, columns) = ends.at(place);
-        Some((&whole[start_of(ends, gap, place)..end], columns, place))
+        let (first, (end, columns)) = bounds_of(ends, gap, place);
+        Some((&whole[first..end], columns, place))
     }
 }

@@ -1,9 +1,9 @@
-use Rattle.tabled_records.proofs.Names.{AreRanges, IsCharBoundary, IsJoined, [], ap, arith, begin, get_or, length, slice_range, subst, sym}
+use Rattle.tabled_records.proofs.Names.{AreRanges, IsJoined, [], ap, arith, begin, get_or, length, slice_range, subst, sym}
 use Rattle.tabled_records.proofs.Names.{text_columns, texts_from, ◌+◌, ◌<◌, ◌∙◌, ◌≤◌}
 use Rattle.tabled_records.proofs.Joining.{joined-at, length-texts, text-at}
 use Rattle.tabled_records.proofs.Rows.{cell-behind, cell-there, length-rows}
 use Rattle.tabled_records.proofs.row_ranges.RowRanges.cell.Goals as goal
-use Rattle.tabled_records.proofs.row_ranges.RowRanges.cell.Goals.{After-at-end, After-len-count}
+use Rattle.tabled_records.proofs.row_ranges.RowRanges.cell.Goals.{After-bounds_of-first, After-len-count}
 
 pub at-start-requires : goal.at-start-requires
 at-start-requires c =
@@ -31,45 +31,38 @@ place_in c =
     (omega (arith, row_in, length-rows (texts_from c.args.gap c.args.whole.now 0 c.args.ends.now) ranges)) in
     omega (arith, inside, ap (λ r. r.0) c.at-start.ensures, ap (λ r. r.1) c.at-start.ensures, c.if-at-count.false)
 
--- the text there
-own : (c : After-at-end) → c.at-start.result.0 + c.args.at.column < length c.args.ends.now
-    → IsJoined c.args.whole.now (begin c.args.gap 0 c.args.ends.now (c.at-start.result.0 + c.args.at.column)) c.at-end.result
-own c inside =
-    let gap = c.args.gap in
-    let whole = c.args.whole.now in
-    let ends = c.args.ends.now in
-    let place = c.at-start.result.0 + c.args.at.column in
-    subst (IsJoined whole (begin gap 0 ends place)) (sym c.at-end.ensures)
-    (joined-at gap whole 0 ends place c.at-end.result c.requires.joined inside)
-
 pub overflow_add-place : goal.overflow_add-place
 overflow_add-place c = omega (arith, place_in (goal.at.overflow_add-place c).After-len-count, c.len-count.ensures)
 
-pub at-end-requires : goal.at-end-requires
-at-end-requires c = place_in (goal.at.at-end-requires c).After-len-count
-
-pub start_of-requires-clause-inside : goal.start_of-requires-clause-inside
-start_of-requires-clause-inside c = place_in (goal.at.start_of-requires-clause-inside c).After-len-count
-
-pub start_of-requires-clause-fits : goal.start_of-requires-clause-fits
-start_of-requires-clause-fits c =
-    let d = goal.at.start_of-requires-clause-fits c in
-    let it = own d.After-at-end (place_in d.After-len-count) in
+pub bounds_of-first-requires-clause-fits : goal.bounds_of-first-requires-clause-fits
+bounds_of-first-requires-clause-fits c =
+    let inside = place_in (goal.at.bounds_of-first-requires-clause-fits c).After-len-count in
+    let it = joined-at c.args.gap c.args.whole.now 0 c.args.ends.now (c.at-start.result.0 + c.args.at.column) (0, 0) c.requires.joined inside in
     omega (arith, it.ordered, it.ends.0)
+
+-- the text there
+own : (c : After-bounds_of-first) → c.at-start.result.0 + c.args.at.column < length c.args.ends.now
+    → IsJoined c.args.whole.now c.bounds_of-first.result.0 c.bounds_of-first.result.1
+own c inside =
+    let whole = c.args.whole.now in
+    let ends = c.args.ends.now in
+    let place = c.at-start.result.0 + c.args.at.column in
+    let end = c.bounds_of-first.result.1 in
+    subst (λ start. IsJoined whole start end) (sym c.bounds_of-first.ensures.begin)
+    (subst (IsJoined whole (begin c.args.gap 0 ends place)) (sym c.bounds_of-first.ensures.end)
+    (joined-at c.args.gap whole 0 ends place end c.requires.joined inside))
 
 pub range-requires-clause-start_le_end : goal.range-requires-clause-start_le_end
 range-requires-clause-start_le_end c =
-    let d = goal.at.range-requires-clause-start_le_end c in
-    omega (arith, (own d.After-at-end (place_in d.After-len-count)).ordered, c.start_of.ensures)
+    let d = goal.at.range-requires-clause-start_le_end c in (own d.After-bounds_of-first (place_in d.After-len-count)).ordered
 
 pub range-requires-clause-start_boundary : goal.range-requires-clause-start_boundary
 range-requires-clause-start_boundary c =
-    let d = goal.at.range-requires-clause-start_boundary c in
-    λ _. subst (IsCharBoundary c.args.whole.now) (sym c.start_of.ensures) (own d.After-at-end (place_in d.After-len-count)).begins
+    let d = goal.at.range-requires-clause-start_boundary c in λ _. (own d.After-bounds_of-first (place_in d.After-len-count)).begins
 
 pub range-requires-clause-end_boundary : goal.range-requires-clause-end_boundary
 range-requires-clause-end_boundary c =
-    let d = goal.at.range-requires-clause-end_boundary c in (own d.After-at-end (place_in d.After-len-count)).ends
+    let d = goal.at.range-requires-clause-end_boundary c in (own d.After-bounds_of-first (place_in d.After-len-count)).ends
 
 pub returns : goal.returns
 returns c =
@@ -79,6 +72,7 @@ returns c =
     let ends = c.args.ends.now in
     let ranges = c.args.self.now in
     let place = c.at-start.result.0 + at.column in
+    let bounds = c.bounds_of-first.result in
     let texts = texts_from gap whole 0 ends in
     let size = length-texts gap whole 0 ends in
     let d = goal.at.returns c in
@@ -87,12 +81,13 @@ returns c =
     let found = ap (λ r. get_or texts (r.0 + at.column) []) c.at-start.ensures
     ∙ cell-there texts ranges at.row at.column c.at-start.result (subst (λ n. AreRanges n ranges) (sym size) c.requires.ranges)
     (omega (arith, row_in, length-rows texts ranges)) (subst (λ r. at.column < r.1) c.at-start.ensures c.if-at-count.false) in
-    let shown = c.range.ensures.value ∙ ap (λ start. slice_range whole start c.at-end.result.0) c.start_of.ensures in
-    let same = shown ∙ ap (λ end. slice_range whole (begin gap 0 ends place) end.0) c.at-end.ensures
-    ∙ sym (text-at gap whole 0 ends place c.at-end.result inside) ∙ found in
+    let shown = c.range.ensures.value in
+    let same = shown ∙ ap (λ start. slice_range whole start bounds.1.0) c.bounds_of-first.ensures.begin
+    ∙ ap (λ end. slice_range whole (begin gap 0 ends place) end.0) c.bounds_of-first.ensures.end
+    ∙ sym (text-at gap whole 0 ends place bounds.1 inside) ∙ found in
     record {
       there = omega (arith, inside, size);
       found = found;
       same = same;
-      wide = (own d.After-at-end inside).counted ∙ ap text_columns (sym shown ∙ same);
+      wide = (own d.After-bounds_of-first inside).counted ∙ ap text_columns (sym shown ∙ same);
     }

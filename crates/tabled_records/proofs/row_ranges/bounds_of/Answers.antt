@@ -1,0 +1,45 @@
+use Rattle.tabled_records.proofs.Names.{List, ap, arith, begin, get_or, length, suc, ℕ, ◌++◌, ◌+◌, ◌<◌, ◌∙◌, ◌≡◌}
+use Rattle.tabled_records.proofs.Joining.{begin-behind, begin-first}
+use Rattle.tabled_records.proofs.row_ranges.bounds_of.Goals as goal
+
+-- a text begins behind the one before it
+behind-pair : (gap : ℕ) (ends : List (ℕ × ℕ)) (place before : ℕ) (pair : ℕ × ℕ) → place ≡ suc before → place < length ends
+    → pair ≡ get_or ends before pair → pair.0 + gap ≡ begin gap 0 ends place
+behind-pair gap ends place before pair is inside e =
+    ap (λ p. p.0 + gap) e ∙ begin-behind gap 0 ends place before pair is (omega (arith, is, inside))
+
+pub returns-in_default-clause-begin : goal.returns-in_default-clause-begin
+returns-in_default-clause-begin c =
+    let is = c.in_default.ensures in
+    begin-first c.args.gap 0 c.args.ends.now c.args.place (omega (arith, is))
+
+pub returns-then-place-len-clause-begin : goal.returns-then-place-len-clause-begin
+returns-then-place-len-clause-begin c =
+    let is = c.in-Some.ensures in
+    let pair = c.wide.result in
+    let great = c.ends.inside.great.items in
+    behind-pair c.args.gap c.args.ends.now c.args.place c.in-Some.before pair (omega (arith, is)) c.requires.inside
+    (c.wide.ensures great ∙ ap (λ small. get_or (small ++ great) c.in-Some.before pair) c.as_slice-small.ensures.value
+    ∙ ap (λ pairs. get_or pairs c.in-Some.before pair) c.ends.view_is)
+
+pub overflow_add-result : goal.overflow_add-result
+overflow_add-result c =
+    let is = c.in-Some.ensures in
+    let pair = c.wide.result in
+    let great = c.ends.inside.great.items in
+    let begins = behind-pair c.args.gap c.args.ends.now c.args.place c.in-Some.before pair (omega (arith, is)) c.requires.inside
+    (c.wide.ensures great ∙ ap (λ small. get_or (small ++ great) c.in-Some.before pair) c.as_slice-small.ensures.value
+    ∙ ap (λ pairs. get_or pairs c.in-Some.before pair) c.ends.view_is) in
+    omega (arith, begins, c.requires.fits)
+
+pub returns-clause-begin : goal.returns-clause-begin
+returns-clause-begin c =
+    let is = c.in-Some.ensures in
+    behind-pair c.args.gap c.args.ends.now c.args.place c.in-Some.before c.at-2.result (omega (arith, is)) c.requires.inside c.at-2.ensures
+
+pub overflow_add-result-2 : goal.overflow_add-result-2
+overflow_add-result-2 c =
+    let is = c.in-Some.ensures in
+    let begins = behind-pair c.args.gap c.args.ends.now c.args.place c.in-Some.before c.at-2.result (omega (arith, is)) c.requires.inside
+    c.at-2.ensures in
+    omega (arith, begins, c.requires.fits)
