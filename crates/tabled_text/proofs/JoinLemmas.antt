@@ -1,9 +1,9 @@
 -- The lines and the columns of joined texts.
-use Rattle.tabled_text.proofs.Names.{All, All-head, All-tail, Bool, List, [], ap, arith, chars-nil, cond, encode_ascii, encode_utf8, false}
-use Rattle.tabled_text.proofs.Names.{greatest, join_with_byte, length, line_columns, lines_of, lit<, map, max, onto_first, refl, str_width}
-use Rattle.tabled_text.proofs.Names.{sum_by, sum_by-cons, sym, text_columns, true, ℕ, ◌++◌, ◌+◌, ◌<◌, ◌==◌, ◌∙◌, ◌∷◌, ◌≡◌}
+use Rattle.tabled_text.proofs.Names.{All, All-head, All-tail, Bool, List, [], ap, arith, chars-nil, cond, false, greatest, join_with_byte}
+use Rattle.tabled_text.proofs.Names.{length, line_columns, lines_of, map, max, onto_first, refl, str_width, sum_by, sum_by-cons}
+use Rattle.tabled_text.proofs.Names.{text_columns, true, ℕ, ◌++◌, ◌+◌, ◌<◌, ◌==◌, ◌∙◌, ◌∷◌, ◌≡◌}
 use Rattle.std.proofs.lemmas.List.{length-append}
-use Rattle.tabled_text.proofs.Bridge.{some_line, lines_of-one, text_columns-one}
+use Rattle.tabled_text.proofs.Bridge.{some_line, lines_of-one}
 
 pub onto_first-append : (c : ℕ) (ls ms : List (List ℕ)) → 0 < length ls → onto_first c (ls ++ ms) ≡ onto_first c ls ++ ms
 onto_first-append c [] ms h = absurd (omega arith)
@@ -33,21 +33,6 @@ greatest-append f (l ∷ ls) ms = let e = greatest-append f ls ms in omega arith
 pub text_columns-feed : (front back : List ℕ) → text_columns (front ++ 10 ∷ back) ≡ max (text_columns front) (text_columns back)
 text_columns-feed front back = ap (λ ls. greatest (map line_columns ls)) (lines_of-feed front back) ∙ greatest-append
     line_columns (lines_of front) (lines_of back)
-
--- the measures of a text whose first line takes n columns
-pub record MeasuresMore (columns : ℕ) (whole rest : List ℕ) : Type 0 where
-  pub columns_are : text_columns whole ≡ max columns (text_columns rest)
-  pub lines : length (lines_of whole) ≡ 1 + length (lines_of rest)
-
-pub measures-more : (columns : ℕ) (front rest whole : List ℕ) → front ++ (encode_utf8 10 ++ rest) ≡ whole → lines_of front ≡ front ∷ []
-    → line_columns front ≡ columns → MeasuresMore columns whole rest
-measures-more columns front rest whole e one own =
-    let joined : whole ≡ front ++ 10 ∷ rest = sym e ∙ ap (λ feed. front ++ (feed ++ rest)) (encode_ascii 10 (lit< tt)) in
-    record {
-      columns_are = ap text_columns joined ∙ text_columns-feed front rest
-          ∙ ap (λ m. max m (text_columns rest)) (text_columns-one front (ap length one) ∙ own);
-      lines = ap (λ l. length (lines_of l)) joined ∙ count_lines-feed front rest ∙ ap (λ ls. length ls + length (lines_of rest)) one;
-    }
 
 -- ---- lists of texts
 

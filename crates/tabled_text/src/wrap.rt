@@ -326,7 +326,7 @@ pub fn wrap_into(
     }
     if fits_bytes(text, n) {
         out.push_str(text)?;
-        return Ok(text_measures(text));
+        return Ok(text_measures(out.as_str()));
     }
     out.reserve_exact(text.len().saturating_add(text.len() / n))?;
     if is_printable(text) {

@@ -1,9 +1,9 @@
-use Rattle.tabled_text.proofs.Names.{IsCharBoundary-from_ascii, IsUtf8, IsUtf8-drop, ap, arith, drop, encode_utf8, length, lines_of, subst}
-use Rattle.tabled_text.proofs.Names.{sym, take, text_columns, ◌++◌, ◌∙◌, ◌≡◌}
+use Rattle.tabled_text.proofs.Names.{IsCharBoundary-from_ascii, IsUtf8, IsUtf8-drop, ap, arith, drop, encode_ascii, encode_utf8, length}
+use Rattle.tabled_text.proofs.Names.{lines_of, lit<, subst, sym, take, text_columns, ◌++◌, ◌∙◌, ◌∷◌, ◌≡◌}
 use Rattle.tabled_text.specs.Walk.{written_line}
 use Rattle.tabled_text.proofs.Pieces.{is_printable, IsAscii-printable, parts-printable}
 use Rattle.tabled_text.proofs.PlainLines.{plain_line-lines, plain_line-printable, text_columns-plain_line}
-use Rattle.tabled_text.proofs.JoinLemmas.{measures-more}
+use Rattle.tabled_text.proofs.JoinLemmas.{count_lines-feed, text_columns-feed}
 use Rattle.tabled_text.proofs.WordBreaks.{written-more}
 use Rattle.tabled_text.proofs.WrapWhole.{written-short}
 use Rattle.tabled_text.proofs.wrap.append_printable.Goals as goal
@@ -22,8 +22,9 @@ lines-preserved g c =
     let h = c.lines.invariant.printable in
     let next = written_line n words (drop end rest) in
     let more = written-more n end words rest h c.line_end.ensures in
-    let own = plain_line-printable (take end rest) (parts-printable end rest h).0 in
-    let m = measures-more (length (take end rest)) (take end rest) next (written_line n words rest) more (plain_line-lines own) own.columns in
+    let front = take end rest in
+    let own = plain_line-printable front (parts-printable end rest h).0 in
+    let joined : written_line n words rest ≡ front ++ 10 ∷ next = sym more ∙ ap (λ feed. front ++ (feed ++ next)) (encode_ascii 10 (lit< tt)) in
     let same : written_line n words c.split_at.result.1.now ≡ next = ap (written_line n words) back in
     let at = IsCharBoundary-from_ascii rest end (IsAscii-printable rest h) (omega (arith, c.line_end.ensures.end)) in
     record {
@@ -33,8 +34,22 @@ lines-preserved g c =
           (subst (λ x. g.S.Sink.adds c.lines.out x c.append_str.new.self) c.split_at.ensures.front c.in_ok-append_str.ensures)
           (g.met.S.Sink.adds_more c.append_str.new.self c.append_char.new.self t (encode_utf8 10) next c.in_ok-append_char.ensures
           (subst (λ x. g.S.Sink.adds c.append_char.new.self x t) same k))));
-      columns = omega (arith, ap text_columns same, m.columns_are, ap length c.split_at.ensures.front, c.max-widest.ensures, c.lines.invariant.columns);
-      counted = omega (arith, ap (λ l. length (lines_of l)) same, m.lines, c.lines.invariant.counted);
+      columns = omega (
+        arith,
+        ap text_columns (joined ∙ ap (λ l. front ++ 10 ∷ l) (sym same)),
+        text_columns-feed front (written_line n words c.split_at.result.1.now),
+        text_columns-plain_line own,
+        ap length c.split_at.ensures.front,
+        c.max-widest.ensures,
+        c.lines.invariant.columns,
+      );
+      counted = omega (
+        arith,
+        ap (λ l. length (lines_of l)) (joined ∙ ap (λ l. front ++ 10 ∷ l) (sym same)),
+        count_lines-feed front (written_line n words c.split_at.result.1.now),
+        ap length (plain_line-lines own),
+        c.lines.invariant.counted,
+      );
       few = omega (arith, c.lines.invariant.few, c.split_at.ensures.back_len, c.line_end.ensures.some, c.line_end.ensures.end);
       printable = ap is_printable back ∙ (parts-printable end rest h).1;
       utf8 = subst IsUtf8 (sym back) (IsUtf8-drop rest end c.lines.invariant.utf8 at);

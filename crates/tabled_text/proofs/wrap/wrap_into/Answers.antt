@@ -32,17 +32,6 @@ returns-then-fits_bytes-clause-wrapped c =
     subst (IsWrapped c.args.n c.args.words text) (sym (c.in_ok-push_str.ensures.bytes ∙ ap (λ l. l ++ text) c.clear.ensures.bytes))
     (c.fits_bytes.ensures.wrapped c.args.words c.if-fits_bytes.true (omega arith))
 
-pub returns-then-fits_bytes-clause-columns : goal.returns-then-fits_bytes-clause-columns
-returns-then-fits_bytes-clause-columns c =
-    let text = c.args.text.now in
-    c.text_measures.ensures.columns ∙ sym (ap text_columns (c.in_ok-push_str.ensures.bytes ∙ ap (λ l. l ++ text) c.clear.ensures.bytes))
-
-pub returns-then-fits_bytes-clause-lines : goal.returns-then-fits_bytes-clause-lines
-returns-then-fits_bytes-clause-lines c =
-    let text = c.args.text.now in
-    c.text_measures.ensures.lines
-    ∙ sym (ap (λ l. length (lines_of l)) (c.in_ok-push_str.ensures.bytes ∙ ap (λ l. l ++ text) c.clear.ensures.bytes))
-
 pub returns-then-is_printable-clause-wrapped : goal.returns-then-is_printable-clause-wrapped
 returns-then-is_printable-clause-wrapped c =
     on_ok_weaker c.append_printable.result
