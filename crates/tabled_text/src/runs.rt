@@ -89,6 +89,9 @@ pub fn run_end(bytes: &[u8], from: usize, first: u8, last: u8) -> usize
     requires range { first ≤ last }
     ensures { EndsRun first last bytes.now from result }
 {
+    if bytes.len() - from < BLOCK {
+        return short_run_end(bytes, from, first, last);
+    }
     let mut at = from;
     'whole: while bytes.len() - at >= BLOCK {
         let count = run_in_block(bytes, at, first, last);
@@ -97,11 +100,8 @@ pub fn run_end(bytes: &[u8], from: usize, first: u8, last: u8) -> usize
             return at;
         }
     }
-    if bytes.len() - from >= BLOCK {
-        let start = bytes.len() - BLOCK;
-        return start + run_in_block(bytes, start, first, last);
-    }
-    short_run_end(bytes, at, first, last)
+    let start = bytes.len() - BLOCK;
+    start + run_in_block(bytes, start, first, last)
 }
 
 /// Whether all bytes from `from` on are in `first..=last`.

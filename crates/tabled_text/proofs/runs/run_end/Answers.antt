@@ -1,8 +1,8 @@
 use Rattle.tabled_text.proofs.Names.{arith, cases_lt, inl, inr}
 use Rattle.tabled_text.proofs.runs.run_end.Goals as goal
 
-pub returns-then-bytes-from-ge-BLOCK : goal.returns-then-bytes-from-ge-BLOCK
-returns-then-bytes-from-ge-BLOCK c =
+pub returns : goal.returns
+returns c =
     let block = c.run_in_block.ensures in
     let run = c.whole.invariant in
     record {
