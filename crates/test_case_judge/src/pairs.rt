@@ -4,7 +4,6 @@ use crate::checking::set_each;
 use crate::drawing::{count_lines_of_width, texts_of};
 use crate::fault::Fault;
 use crate::reading::{list_at, list_of, number_at};
-use crate::report::compare;
 use std::alloc::Global;
 use tabled::Table;
 use tabled::builder::Builder;
@@ -14,15 +13,27 @@ use toml::Value;
 /// width of its table.
 pub fn check_pairs(alloc: Global, case: &toml::Table, report: &mut String) -> Result<(), Fault> {
     let characters = texts_of(alloc, list_at(case, "characters")?)?;
+    let ways = list_at(case, "ways")?;
+    let count = count_each_way(alloc, characters.as_slice(), ways, report)?;
+    let expected = number_at(case, "lines")?;
+    if count != expected {
+        write!(report, "lines: {count}, wanted: {expected}\n")?;
+    }
+    Ok(())
+}
+
+fn count_each_way(
+    alloc: Global,
+    characters: &[&str],
+    ways: &[Value],
+    report: &mut String,
+) -> Result<usize, Fault> {
     let mut count: usize = 0;
-    for way in list_at(case, "ways")? {
-        let lines = count_all_lines(alloc, characters.as_slice(), list_of(way)?, report)?;
+    for way in ways {
+        let lines = count_all_lines(alloc, characters, list_of(way)?, report)?;
         count = count.saturating_add(lines);
     }
-    let count = format!(in alloc; "{count}")?;
-    let expected = format!(in alloc; "{}", number_at(case, "lines")?)?;
-    compare(report, "lines", count.as_str(), expected.as_str())?;
-    Ok(())
+    Ok(count)
 }
 
 // The lines of one table per character, which pairs it with all characters.
@@ -35,26 +46,41 @@ fn count_all_lines(
     let mut count: usize = 0;
     for first in characters {
         let mut table = pairs_of(alloc, *first, characters)?;
-        if let Some(error) = set_each(alloc, &mut table, commands, report)? {
-            return Err(Fault::Refused(error));
-        }
-        count = count.saturating_add(count_lines(&table)?);
+        let lines = count_set_lines(alloc, &mut table, commands, report)?;
+        count = count.saturating_add(lines);
     }
     Ok(count)
 }
 
-// One row per pair: each character alone, both joined, and both in the other order.
+fn count_set_lines(
+    alloc: Global,
+    table: &mut Table,
+    commands: &[Value],
+    report: &mut String,
+) -> Result<usize, Fault> {
+    match set_each(alloc, table, commands, report)? {
+        Some(error) => Err(Fault::Refused(error)),
+        None => count_lines(table),
+    }
+}
+
+// One row per pair.
 fn pairs_of(alloc: Global, first: &str, others: &[&str]) -> Result<Table, Fault> {
     let mut builder = Builder::new(alloc);
     for second in others {
-        let mut cells = Vec::new(alloc);
-        cells.push(String::from_str(alloc, first)?)?;
-        cells.push(String::from_str(alloc, *second)?)?;
-        cells.push(format!(in alloc; "{first}{second}")?)?;
-        cells.push(format!(in alloc; "{second}{first}{second}{first}{first}")?)?;
-        builder.add_record(cells)?;
+        builder.add_record(cells_of(alloc, first, *second)?)?;
     }
     Ok(Table::from(builder))
+}
+
+// Each character alone, both joined, and both in the other order.
+fn cells_of(alloc: Global, first: &str, second: &str) -> Result<Vec<String>, Fault> {
+    let mut cells = Vec::new(alloc);
+    cells.push(String::from_str(alloc, first)?)?;
+    cells.push(String::from_str(alloc, second)?)?;
+    cells.push(format!(in alloc; "{first}{second}")?)?;
+    cells.push(format!(in alloc; "{second}{first}{second}{first}{first}")?)?;
+    Ok(cells)
 }
 
 // Fails if a line doesn't have the total width.

@@ -45,25 +45,56 @@ impl PrintOptions {
     /// Sets the option that a command names. `kind` says which options exist.
     pub fn set(&mut self, alloc: Global, kind: &str, command: &str) -> Result<(), Fault> {
         let mut words = Words::new(command);
-        match (kind, words.word()) {
-            ("compact", "widths") => self.widths = words.numbers(alloc)?,
-            ("compact", "skip") => self.skip = words.number()?,
-            ("stream", "sniff") => self.sniff = Some(words.number()?),
-            ("stream", "height") => self.height = Some(words.number()?),
-            ("stream" | "compact", "width") => self.width = Some(words.number()?),
-            ("stream" | "compact", "columns") => self.columns = Some(words.number()?),
-            ("stream" | "compact", "rows") => self.rows = Some(words.number()?),
-            ("boxes", "left_over") => {
-                let width = priority(words.word())?;
-                self.boxes = PoolTableDimension::new(width, priority(words.word())?);
-            }
-            (_, name) => self.config = configured(self.config, name, &mut words)?,
+        let name = words.word();
+        if has_number(kind, name) {
+            self.set_number(name, words.number()?);
+        } else {
+            self.set_other(alloc, (kind, name), &mut words)?;
         }
         if words.has_more() {
             return Err(Fault::Unknown("too many words"));
         }
         Ok(())
     }
+
+    fn set_number(&mut self, name: &str, number: usize) {
+        match name {
+            "skip" => self.skip = number,
+            "sniff" => self.sniff = Some(number),
+            "height" => self.height = Some(number),
+            "width" => self.width = Some(number),
+            "columns" => self.columns = Some(number),
+            _ => self.rows = Some(number),
+        }
+    }
+
+    fn set_other(
+        &mut self,
+        alloc: Global,
+        kind_and_name: (&str, &str),
+        words: &mut Words<'_>,
+    ) -> Result<(), Fault> {
+        match kind_and_name {
+            ("compact", "widths") => self.widths = words.numbers(alloc)?,
+            ("boxes", "left_over") => self.boxes = left_over(words)?,
+            (_, name) => self.config = configured(self.config, name, words)?,
+        }
+        Ok(())
+    }
+}
+
+// Whether an option of a kind of printers is one number.
+fn has_number(kind: &str, name: &str) -> bool {
+    match kind {
+        "stream" => matches!(name, "sniff" | "height" | "width" | "columns" | "rows"),
+        "compact" => matches!(name, "skip" | "width" | "columns" | "rows"),
+        _ => false,
+    }
+}
+
+fn left_over(words: &mut Words<'_>) -> Result<PoolTableDimension, Fault> {
+    let width = priority(words.word())?;
+    Ok(PoolTableDimension::new(width, priority(words.word())?))
 }
 
 // Which boxes get the surplus size.
@@ -86,9 +117,19 @@ fn configured(
         "padding" => Ok(config.set_padding(read_sides(words)?)),
         "margin" => Ok(config.set_margin(read_sides(words)?)),
         "right" => Ok(config.set_alignment_horizontal(AlignmentHorizontal::Right)),
+        _ => colored(config, name, words),
+    }
+}
+
+fn colored(
+    config: CompactConfig,
+    name: &str,
+    words: &mut Words<'_>,
+) -> Result<CompactConfig, Fault> {
+    match name {
         "color" => {
-            let colors = *config.get_borders_color();
-            Ok(config.set_borders_color(with_color(colors, words)?))
+            let colors = with_color(*config.get_borders_color(), words)?;
+            Ok(config.set_borders_color(colors))
         }
         "padding_colors" => Ok(config.set_padding_color(read_colors(words)?)),
         "margin_colors" => Ok(config.set_margin_color(read_colors(words)?)),

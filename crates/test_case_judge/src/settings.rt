@@ -16,25 +16,40 @@ use tabled::settings::{Height, Margin, Padding, Style, Width};
 /// Fails if the command is unknown or malformed, or if the library returns an error.
 pub fn set(alloc: Global, table: &mut Table, command: &str) -> Result<(), Fault> {
     let mut words = Words::new(command);
-    let kind = words.word();
-    match kind {
-        "wrap" => resize(table, Change::Wrap, &mut words)?,
-        "truncate" => resize(table, Change::Truncate, &mut words)?,
-        "increase" => resize(table, Change::Increase, &mut words)?,
-        "heighten" => resize(table, Change::Heighten, &mut words)?,
-        "limit" => resize(table, Change::Limit, &mut words)?,
-        "wrap_to" => wrap_to(table, words.word())?,
-        "truncate_to" => truncate_to(table, words.word())?,
-        "justify_to" => justify_to(table, words.word())?,
-        "limit_to" => limit_to(table, words.word())?,
-        "wrap_by" | "truncate_by" => narrow_by(table, kind, words.number()?)?,
-        "widths" | "heights" | "list" => set_sizes(alloc, table, kind, &mut words)?,
-        _ => set_format(table, kind, &mut words)?,
-    }
+    set_kind(alloc, table, words.word(), &mut words)?;
     if words.has_more() {
         return Err(Fault::Unknown("too many words"));
     }
     Ok(())
+}
+
+fn set_kind(
+    alloc: Global,
+    table: &mut Table,
+    kind: &str,
+    words: &mut Words<'_>,
+) -> Result<(), Fault> {
+    match kind {
+        "wrap" => resize(table, Change::Wrap, words),
+        "truncate" => resize(table, Change::Truncate, words),
+        "increase" => resize(table, Change::Increase, words),
+        "heighten" => resize(table, Change::Heighten, words),
+        "limit" => resize(table, Change::Limit, words),
+        "widths" | "heights" | "list" => set_sizes(alloc, table, kind, words),
+        _ => set_measured(table, kind, words),
+    }
+}
+
+// Sizes that are read from the table.
+fn set_measured(table: &mut Table, kind: &str, words: &mut Words<'_>) -> Result<(), Fault> {
+    match kind {
+        "wrap_to" => wrap_to(table, words.word()),
+        "truncate_to" => truncate_to(table, words.word()),
+        "justify_to" => justify_to(table, words.word()),
+        "limit_to" => limit_to(table, words.word()),
+        "wrap_by" | "truncate_by" => narrow_by(table, kind, words.number()?),
+        _ => set_format(table, kind, words),
+    }
 }
 
 // `list` sets the sizes by an option; without it they are stored directly.

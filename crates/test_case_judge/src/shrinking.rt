@@ -34,17 +34,33 @@ fn check_list(
     value: &Value,
     report: &mut String,
 ) -> Result<(), Fault> {
-    let minimums = numbers_of(alloc, list_at(case, "minimums")?)?;
-    let mut sizes = numbers_of(alloc, list_at(case, "sizes")?)?;
-    let by = number_at(case, "by")?;
-    let steps = shrink(priority, minimums.as_slice(), sizes.as_mut_slice(), by)?;
-    if steps > max_steps(sizes.len()) {
-        return Err(Fault::Unknown("too many steps"));
-    }
-    let actual = shown_numbers(alloc, sizes.as_slice())?;
+    let actual = shrunk(alloc, case, priority)?;
     let expected = numbers_of(alloc, list_of(value)?)?;
     let expected = shown_numbers(alloc, expected.as_slice())?;
     compare(report, priority, actual.as_str(), expected.as_str())?;
+    Ok(())
+}
+
+// The sizes that a priority leaves.
+fn shrunk(alloc: Global, case: &toml::Table, priority: &str) -> Result<String, Fault> {
+    let by = number_at(case, "by")?;
+    let (minimums, sizes) = (list_at(case, "minimums")?, list_at(case, "sizes")?);
+    let minimums = numbers_of(alloc, minimums)?;
+    let mut sizes = numbers_of(alloc, sizes)?;
+    shrink_quickly(priority, minimums.as_slice(), sizes.as_mut_slice(), by)?;
+    Ok(shown_numbers(alloc, sizes.as_slice())?)
+}
+
+fn shrink_quickly(
+    priority: &str,
+    minimums: &[usize],
+    sizes: &mut [usize],
+    by: usize,
+) -> Result<(), Fault> {
+    let max_steps = max_steps(sizes.len());
+    if shrink(priority, minimums, sizes, by)? > max_steps {
+        return Err(Fault::Unknown("too many steps"));
+    }
     Ok(())
 }
 

@@ -225,27 +225,27 @@ fn percent(measure: &str) -> Result<Percent, Fault> {
     }
 }
 
-/// Cuts, splits, wraps or truncates one string. `split` puts a bar between the two parts.
+fn cut(alloc: Global, text: &str, columns: usize) -> Result<String, TableError> {
+    Ok(Truncate::truncate(alloc, text, columns)?.into_owned(alloc)?)
+}
+
+// Puts a bar between the two parts.
+fn split(alloc: Global, text: &str, columns: usize) -> Result<String, TableError> {
+    let (cut, rest) = split_str(alloc, text, columns)?;
+    Ok(format!(in alloc; "{}|{rest}", cut.as_str())?)
+}
+
+/// Cuts, splits, wraps or truncates one string.
 pub fn narrowed(alloc: Global, text: &str, by: &str) -> Result<String, Fault> {
     let mut words = Words::new(by);
-    match words.word() {
-        "cut" => {
-            let cut = Truncate::truncate(alloc, text, number(words.others())?)?;
-            Ok(cut.into_owned(alloc)?)
-        }
-        "split" => {
-            let (cut, rest) = split_str(alloc, text, number(words.others())?)?;
-            Ok(format!(in alloc; "{}|{rest}", cut.as_str())?)
-        }
-        "wrap" => {
-            let sizing = read(&mut words)?;
-            Ok(Wrap::wrap(alloc, text, sizing.size, sizing.keep_words)?)
-        }
-        "truncate" => {
-            let sizing = read(&mut words)?;
-            let truncate = sizing.truncate();
-            Ok(truncate.shorten(alloc, text, sizing.size)?)
-        }
-        _ => Err(Fault::Unknown("no such way to narrow a text")),
-    }
+    let kind = words.word();
+    let sizing = read(&mut words)?;
+    let narrowed = match kind {
+        "cut" => cut(alloc, text, sizing.size),
+        "split" => split(alloc, text, sizing.size),
+        "wrap" => Wrap::wrap(alloc, text, sizing.size, sizing.keep_words),
+        "truncate" => sizing.truncate().shorten(alloc, text, sizing.size),
+        _ => return Err(Fault::Unknown("no such way to narrow a text")),
+    };
+    Ok(narrowed?)
 }
