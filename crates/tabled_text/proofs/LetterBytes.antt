@@ -134,7 +134,7 @@ letter-encoded c h =
     (or_cases (is_narrow_lead lead) (is_wide_lead lead || is_inner_byte lead) own)
 
 -- bytes within a character go on with letters
-pub letters-inner : (bytes : List ℕ) (at end n : ℕ) → at ≤ end → end ≤ length bytes → LieWithin 0x80 0xC1 bytes at end
+pub letters-inner : (bytes : List ℕ) (at end n : ℕ) → at ≤ end → end ≤ length bytes → LieWithin 0x80 0xBF bytes at end
     → AreLetters (take at bytes) n → AreLetters (take end bytes) n
 letters-inner bytes at end n o e within h =
     let k = end - at in

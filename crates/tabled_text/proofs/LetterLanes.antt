@@ -1,12 +1,15 @@
 -- Blocks of bytes whose lanes are computed, held to the tests of letters at each of the 256 bytes.
-use Rattle.tabled_text.proofs.Names.{Bool, List, [], ap, append_assoc, arith, chunk, cond, drop, drop_at, eqb, false, length, length-append}
+use Rattle.tabled_text.proofs.Names.{Bool, List, [], and_parts, ap, append_assoc, arith, chunk, cond, drop, drop_at, eqb, false, get_or, get_or-map, length, length-append}
 use Rattle.tabled_text.proofs.Names.{length-map, list_all, map, mask_l, nat_tests, ne_eqb, not}
 use Rattle.tabled_text.proofs.Names.{refl, replicate, suc, sum_by, sym, take, take_at, zero}
-use Rattle.tabled_text.proofs.Names.{sum_by-cons, true, w8, ℕ, ◌%◌, ◌&&◌, ◌*◌, ◌++◌, ◌+◌, ◌-◌, ◌==◌, ◌∙◌, ◌∷◌, ◌≡◌, ◌≤◌}
-use Rattle.std.proofs.Common.{Fits, ap₂, ◌^◌}
+use Rattle.tabled_text.proofs.Names.{sum_by-cons, true, w8, ℕ, ◌%◌, ◌&&◌, ◌*◌, ◌++◌, ◌+◌, ◌-◌, ◌<◌, ◌==◌, ◌||◌, ◌∙◌, ◌∷◌, ◌≡◌, ◌≤◌}
+use Rattle.std.proofs.Common.{Fits, ap₂, bit_and, ◌/◌, ◌^◌}
+use Rattle.std.proofs.lemmas.Nat.{and_le_r}
 use Rattle.std.proofs.lemmas.Bool.{agree_below, agree_below_at, eqb-true}
-use Rattle.std.proofs.lemmas.Simd.{length-replicate, map-map, mask_l-mod, splat_is_map, zip2_splat}
-use Rattle.std.proofs.lemmas.List.{replicate-append-replicate}
+use Rattle.std.proofs.lemmas.Simd.{Each1-all, Each1-get_or, Each1-weaker, Each1-zip2, Each2-splat, SwzOk, SwzOk-from_below, below_from_Fits}
+use Rattle.std.proofs.lemmas.Simd.{get_or-swz_l_below, length-swz_l, length-zip2, swz_l}
+use Rattle.std.proofs.lemmas.Simd.{length-replicate, map-map, mask_l-mod, zip2_splat}
+use Rattle.std.proofs.lemmas.List.{ext_get_or, replicate-append-replicate}
 use Rattle.std.specs.Simd.Lanes.{Each1, sel_l, sum_l, top, zip2}
 
 each-test : (f g : ℕ → Bool) → agree_below f g 256 ≡ true → (v : List ℕ) → Each1 (Fits w8) v → map f v ≡ map g v
@@ -30,23 +33,41 @@ all-lanes f q v z short fits e all =
     ap (λ l. eqb (mask_l l % 2 ^ 64) 0) (ap (map (top 7)) e ∙ map-map (top 7) f v ∙ each-test (λ x. top 7 (f x)) p all v fits)
     ∙ ap (λ m. eqb m 0) (mask_l-mod (map p v) 64 (omega (arith, length-map v p))) ∙ mask-all q v
 
-pub each-number : (f g : ℕ → ℕ) → agree_below (λ x. f x == g x) (λ _. true) 256 ≡ true → (v : List ℕ) → Each1 (Fits w8) v → map f v ≡ map g v
-each-number f g all [] h = refl
-each-number f g all (x ∷ xs) h =
-    ap₂ (λ a b. a ∷ b) (eqb-true (f x) (g x) (agree_below_at (λ y. f y == g y) (λ _. true) 256 x all h.0.fits)) (each-number f g all xs h.1)
+-- numbers of lanes that pass a test
+pub each-passed : (q : ℕ → Bool) (f g : ℕ → ℕ) → agree_below (λ x. not (q x) || (f x == g x)) (λ _. true) 256 ≡ true
+    → (v : List ℕ) → Each1 (Fits w8) v → list_all q v ≡ true → map f v ≡ map g v
+each-passed q f g all [] h p = refl
+each-passed q f g all (x ∷ xs) h p =
+    let parts = and_parts (q x) (list_all q xs) p in
+    let own = agree_below_at (λ y. not (q y) || (f y == g y)) (λ _. true) 256 x all h.0.fits in
+    ap₂ (λ a b. a ∷ b) (eqb-true (f x) (g x) (sym (ap (λ b. not b || (f x == g x)) parts.0) ∙ own)) (each-passed q f g all xs h.1 parts.1)
 
-select-map : (p : ℕ → Bool) (f g : ℕ → ℕ) (v : List ℕ) → sel_l (map p v) (map f v) (map g v) ≡ map (λ x. cond (p x) (f x) (g x)) v
-select-map p f g [] = refl
-select-map p f g (x ∷ xs) = ap (λ l. cond (p x) (f x) (g x) ∷ l) (select-map p f g xs)
+-- ---- a table of 16 numbers, which is read at places g x
 
--- a choice between two numbers by lanes
-pub chosen : (f : ℕ → ℕ) (v z : List ℕ) (n a b : ℕ) → length v ≡ n → z ≡ map f v
-    → sel_l (map (top 7) z) (replicate n a) (replicate n b) ≡ map (λ x. cond (top 7 (f x)) a b) v
-chosen f v z n a b long e =
-    let p : ℕ → Bool = λ x. top 7 (f x) in
-    ap (λ l. sel_l l (replicate n a) (replicate n b)) (ap (map (top 7)) e ∙ map-map (top 7) f v)
-    ∙ ap₂ (sel_l (map p v)) (splat_is_map v n a long) (splat_is_map v n b long)
-    ∙ select-map p (λ _. a) (λ _. b) v
+pub looked-up : (t : List ℕ) (g : ℕ → ℕ) (v js : List ℕ) → length v ≡ 16 → Each1 (Fits w8) v → js ≡ map g v → ((x : ℕ) → x < 256 → g x < 16)
+    → swz_l w8 16 t 0 js ≡ map (λ x. get_or t (g x) 0) v
+looked-up t g v js size fits e small =
+    let long : length js ≡ 16 = ap length e ∙ length-map v g ∙ size in
+    ext_get_or 0 _ _ (length-swz_l w8 16 t 0 js ∙ long ∙ sym (length-map v (λ x. get_or t (g x) 0) ∙ size)) (λ i h.
+    let lt : i < length js = omega (arith, h, length-swz_l w8 16 t 0 js) in
+    let within : i < length v = omega (arith, lt, long, size) in
+    let is : get_or js i 0 ≡ g (get_or v i 0) = ap (λ l. get_or l i 0) e ∙ get_or-map g v i 0 0 within in
+    let byte : get_or v i 0 < 256 = (Each1-get_or (Fits w8) v i 0 within fits).fits in
+    let below : get_or js i 0 < 16 = omega (arith, is, small (get_or v i 0) byte) in
+    let place : 16 * ((0 + i) / 16) + get_or js i 0 ≡ g (get_or v i 0) = omega (arith, is, lt, long) in
+    get_or-swz_l_below w8 16 t 0 js i lt below ∙ ap (λ k. get_or t k 0) place ∙ sym (get_or-map (λ x. get_or t (g x) 0) v i 0 0 within))
+
+pub upper-ok : (v : List ℕ) → length v ≡ 16 → Each1 (Fits w8) v → SwzOk w8 16 16 0 (zip2 (λ a b. a / 2 ^ b) v (replicate 16 4))
+upper-ok v size fits =
+    let small = Each1-weaker (λ a. a < 256) (λ a. a / 16 < 16) (λ a h. omega arith) v (below_from_Fits w8 v fits) in
+    SwzOk-from_below w8 16 1 16 0 (zip2 (λ a b. a / 2 ^ b) v (replicate 16 4)) refl (omega (arith, length-zip2 (λ a b. a / 2 ^ b) v (replicate 16 4) size))
+    (Each1-zip2 (λ a b. a / 2 ^ b) (λ j. j < 16) v (replicate 16 4) (Each2-splat (λ a b. a / 2 ^ b < 16) v 16 4 small))
+
+pub lower-ok : (v : List ℕ) → length v ≡ 16 → SwzOk w8 16 16 0 (zip2 bit_and v (replicate 16 15))
+lower-ok v size =
+    let small = Each1-all (λ a. bit_and a 15 < 16) (λ a. omega (arith, and_le_r a 15)) v in
+    SwzOk-from_below w8 16 1 16 0 (zip2 bit_and v (replicate 16 15)) refl (omega (arith, length-zip2 bit_and v (replicate 16 15) size))
+    (Each1-zip2 bit_and (λ j. j < 16) v (replicate 16 15) (Each2-splat (λ a b. bit_and a b < 16) v 16 15 small))
 
 pub sum-map : (f : ℕ → ℕ) (v : List ℕ) → sum_l (map f v) ≡ sum_by f v
 sum-map f [] = refl

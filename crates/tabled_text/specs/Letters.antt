@@ -43,9 +43,9 @@ is_wide_letter c = is_in_range 0x4000 0x9FFF c
 
 -- ---- letters by their bytes
 
--- a byte within a character, from 0x80 to 0xBF. No text has 0xC0 or 0xC1
+-- a byte within a character, which continues it
 abbrev pub is_inner_byte : ℕ → Bool
-is_inner_byte byte = is_in_range 0x80 0xC1 byte
+is_inner_byte byte = is_in_range 0x80 0xBF byte
 
 -- a byte that begins a letter or is within a character
 abbrev pub is_letter_byte : ℕ → Bool

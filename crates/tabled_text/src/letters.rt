@@ -1,38 +1,51 @@
 //! Measures letters by their bytes, 16 at a time.
-ghost use Rattle.std.specs.Prelude.{◌≡◌, ◌+◌, ◌++◌, ◌≤◌, IfSome, drop, length, map};
-ghost use Rattle.std.specs.Prelude.{replicate, take, true, IsUtf8};
+ghost use Rattle.std.specs.Prelude.{◌≡◌, ◌+◌, ◌/◌, ◌++◌, ◌≤◌, IfSome, bit_and, drop, length, map};
+ghost use Rattle.std.specs.Prelude.{replicate, slice_index, take, true, IsUtf8};
 ghost use Rattle.std.specs.List.{list_all};
-ghost use Rattle.tabled_text.specs.Letters.{AreLetters, byte_columns, is_letter_byte};
+ghost use Rattle.tabled_text.specs.Letters.{AreLetters, is_letter_byte};
 ghost use Rattle.tabled_text.specs.Letters.{is_letter_or_break};
 
 use crate::character::{is_narrow_lead, is_wide_lead};
 use crate::runs::{BLOCK, block_at, short_run_end};
 use std::simd::prelude::*;
 
+/// The columns of the letter that a byte begins, by its upper half.
+const COLUMNS: [u8; 16] = [0, 0, 1, 1, 1, 1, 1, 1, 0, 0, 0, 0, 1, 1, 2, 0];
+
+/// What the upper half of a byte may say against it: a bit for each kind of byte that isn't a
+/// letter's. It isn't one if its lower half has a bit of these. 1 is a tab or a line feed, 2 another
+/// control character up to U+000F, 4 a control character from U+0010 on or a character of 4 bytes,
+/// 8 U+007F, and 16, 32 and 64 are first bytes of 2, 2 and 3 bytes.
+const UPPER: [u8; 16] = [3, 4, 0, 0, 0, 0, 0, 8, 0, 0, 0, 0, 16, 32, 64, 4];
+
+/// The same by its lower half.
+const LOWER: [u8; 16] = [
+    86, 86, 118, 102, 38, 38, 38, 38, 38, 37, 101, 102, 118, 118, 102, 110,
+];
+
+/// Looks up the upper half of each byte.
+#[inline(always)]
+fn by_upper(table: [u8; 16], block: u8x16) -> u8x16
+    ensures { result ≡ map (λ byte. slice_index table (byte / 16)) block }
+{
+    u8x16::from_array(table).swizzle_dyn(block >> u8x16::splat(4))
+}
+
+/// Looks up the lower half of each byte.
+#[inline(always)]
+fn by_lower(table: [u8; 16], block: u8x16) -> u8x16
+    ensures { result ≡ map (λ byte. slice_index table (bit_and byte 15)) block }
+{
+    u8x16::from_array(table).swizzle_dyn(block & u8x16::splat(15))
+}
+
 /// Whether each byte of a block is a letter's.
 #[inline(always)]
 fn is_letter_block(block: u8x16) -> bool
     ensures { result ≡ list_all is_letter_byte block }
 {
-    let is_wide = (block - u8x16::splat(0xE4)).simd_le(u8x16::splat(5));
-    let is_outside = u8x16::splat(0xB1).simd_lt(block - u8x16::splat(0x20));
-    let is_delete = block.simd_eq(u8x16::splat(0x7F));
-    let is_sign = block.simd_eq(u8x16::splat(0xC2));
-    let is_mark = (block | u8x16::splat(1)).simd_eq(u8x16::splat(0xCD));
-    let is_other = (is_wide ^ is_outside) | is_delete | is_sign | is_mark;
-    is_other.to_bitmask() == 0
-}
-
-/// Returns the columns of the letters that the bytes of a block begin.
-#[inline(always)]
-fn lane_columns(block: u8x16) -> u8x16
-    ensures { result ≡ map byte_columns block }
-{
-    let one = u8x16::splat(1);
-    let none = u8x16::splat(0);
-    let is_wide = (block - u8x16::splat(0xE4)).simd_le(u8x16::splat(5));
-    let is_first = u8x16::splat(0x41).simd_lt(block - u8x16::splat(0x80));
-    is_first.select(one, none) + is_wide.select(one, none)
+    let kinds = by_upper(UPPER, block) & by_lower(LOWER, block);
+    u8x16::splat(0).simd_lt(kinds).to_bitmask() == 0
 }
 
 /// Returns the columns of a block of letters, or `None` if a byte isn't a letter's.
@@ -43,7 +56,7 @@ fn block_columns(block: u8x16) -> Option<usize>
     if !is_letter_block(block) {
         return None;
     }
-    Some(lane_columns(block).strict_reduce_sum() as usize)
+    Some(by_upper(COLUMNS, block).strict_reduce_sum() as usize)
 }
 
 /// What replaces the front of a block, and zeros.
@@ -125,7 +138,7 @@ pub(crate) fn split_letters(text: &str, n: usize) -> (&str, usize, &str)
 {
     let bytes = text.as_bytes();
     let (at, columns) = letter_blocks(bytes, n);
-    let (front, rest) = text.split_at(short_run_end(bytes, at, 0x80, 0xC1));
+    let (front, rest) = text.split_at(short_run_end(bytes, at, 0x80, 0xBF));
     (front, columns, rest)
 }
 
@@ -134,21 +147,15 @@ pub(crate) fn split_letters(text: &str, n: usize) -> (&str, usize, &str)
 fn is_text_block(block: u8x16) -> bool
     ensures { result ≡ list_all is_letter_or_break block }
 {
-    let is_wide = (block - u8x16::splat(0xE4)).simd_le(u8x16::splat(5));
-    let is_break = (block - u8x16::splat(9)).simd_le(u8x16::splat(1));
-    let is_outside = u8x16::splat(0xB1).simd_lt(block - u8x16::splat(0x20));
-    let is_delete = block.simd_eq(u8x16::splat(0x7F));
-    let is_sign = block.simd_eq(u8x16::splat(0xC2));
-    let is_mark = (block | u8x16::splat(1)).simd_eq(u8x16::splat(0xCD));
-    let is_other = (is_wide ^ is_break ^ is_outside) | is_delete | is_sign | is_mark;
-    is_other.to_bitmask() == 0
+    let kinds = by_upper(UPPER, block) & by_lower(LOWER, block);
+    u8x16::splat(1).simd_lt(kinds).to_bitmask() == 0
 }
 
 /// Whether a byte is a letter's, a tab or a line feed.
 fn is_letter_or_break(byte: u8) -> bool
     ensures { result ≡ is_letter_or_break byte }
 {
-    matches!(byte, b'\t' | b'\n' | 0x80..=0xC1) || is_narrow_lead(byte) || is_wide_lead(byte)
+    matches!(byte, b'\t' | b'\n' | 0x80..=0xBF) || is_narrow_lead(byte) || is_wide_lead(byte)
 }
 
 /// Whether all bytes are letters', tabs or line feeds, if those before `at` are. Less than a block
