@@ -1,13 +1,14 @@
 -- Letters by their bytes: the columns of the letters that these begin add up to those of a text.
 use Rattle.tabled_text.proofs.Names.{Bool, IsLetter, IsLine, IsUtf8, LieWithin, List, [], and_from, and_parts, ap, arith, char_columns, char_count, chars, chunk, cond}
 use Rattle.tabled_text.proofs.Names.{count_of, drop, encode_utf8_all, encodes-chars, false, get_or, is_narrow_lead}
-use Rattle.tabled_text.proofs.Names.{is_no_feed, is_simple, is_wide_lead, length, length-drop, length-map, line_columns, lines_of, list_all, list_all-append, map}
+use Rattle.tabled_text.proofs.Names.{is_no_feed, is_simple, is_wide_lead, length, length-drop, length-map, lines_of, list_all, list_all-append, map}
 use Rattle.tabled_text.proofs.Names.{nat_lt, nat_tests, or_cases, or_right, refl, str_width-simple, subst, suc, sum_by, sum_by-append}
 use Rattle.tabled_text.proofs.Names.{sum_by-cons, sym, take, take_all, true, zero, ℕ, ⊎_elim, ◌%◌, ◌*◌, ◌++◌, ◌+◌, ◌-◌, ◌||◌, ◌∙◌, ◌∷◌, ◌≡◌, ◌≤◌}
 use Rattle.std.proofs.Common.{replicate, ◌/◌}
 use Rattle.std.specs.Char.{encode_utf8}
 use Rattle.std.proofs.Math.Seq.{take-add}
-use Rattle.std.proofs.lemmas.List.{drop-drop, get_or-drop}
+use Rattle.std.proofs.lemmas.List.{drop-append-le, drop-drop, get_or-drop, take-append-drop}
+use Rattle.std.proofs.lemmas.List.Sums.{sum_by-take-drop}
 use Rattle.std.proofs.lemmas.Simd.{chunk-drop}
 use Rattle.std.proofs.lemmas.Bool.{agree_below_at, cond-false, cond-true}
 use Rattle.tabled_text.specs.Exact.{IsExactLine}
@@ -51,6 +52,28 @@ letters-last bytes at start n e o h =
     let whole : chunk at 16 bytes ≡ drop at bytes = take_all 16 (drop at bytes) (omega (arith, length-drop at bytes)) in
     subst (λ l. AreLetters l n) (ap (drop k) whole ∙ drop-drop k at bytes ∙ ap (λ i. drop i bytes) place)
     (letters-behind k n (drop k (chunk at 16 bytes)) h)
+
+-- 8 to 16 bytes: the last 8, filled up to those that the first 8 leave, and the first 8
+pub letters-halves : (bytes : List ℕ) (n : ℕ) → 8 ≤ length bytes → length bytes ≤ 16
+    → AreLetters (replicate (16 - length bytes) 0x80 ++ drop (16 - length bytes) (chunk (length bytes - 8) 8 bytes ++ chunk 0 8 bytes)) n → AreLetters bytes n
+letters-halves bytes n some few h =
+    let k = 16 - length bytes in
+    let last = length bytes - 8 in
+    let place : last + k ≡ 8 = omega arith in
+    let size = length-drop last bytes in
+    let back : chunk last 8 bytes ≡ drop last bytes = take_all 8 (drop last bytes) (omega (arith, size)) in
+    let behind : drop k (chunk last 8 bytes) ≡ drop 8 bytes = ap (drop k) back ∙ drop-drop k last bytes ∙ ap (λ i. drop i bytes) place in
+    let parts : drop k (chunk last 8 bytes ++ take 8 bytes) ≡ drop 8 bytes ++ take 8 bytes =
+    drop-append-le k (chunk last 8 bytes) (take 8 bytes) (omega (arith, ap length back, size)) ∙ ap (λ l. l ++ take 8 bytes) behind in
+    let both = subst (λ l. AreLetters l n) parts (letters-behind k n (drop k (chunk last 8 bytes ++ take 8 bytes)) h) in
+    let passed = and_parts (list_all is_letter_byte (drop 8 bytes)) (list_all is_letter_byte (take 8 bytes))
+    (sym (list_all-append is_letter_byte (drop 8 bytes) (take 8 bytes)) ∙ both.all) in
+    let sum = sum_by-append byte_columns (drop 8 bytes) (take 8 bytes) in
+    record {
+      all = ap (list_all is_letter_byte) (sym (take-append-drop 8 bytes)) ∙ list_all-append is_letter_byte (take 8 bytes) (drop 8 bytes)
+          ∙ and_from (list_all is_letter_byte (take 8 bytes)) (list_all is_letter_byte (drop 8 bytes)) passed.1 passed.0;
+      columns = omega (arith, both.columns, sum, sum_by-take-drop byte_columns bytes 8);
+    }
 
 two : (byte : ℕ) → byte_columns byte ≤ 2
 two byte = join (is_inner_byte byte) (is_wide_lead byte)
@@ -156,29 +179,30 @@ pub record AreCounted (cs : List ℕ) (n : ℕ) : Type 0 where
   pub columns : sum_by char_columns cs ≡ n
   pub counts : count_of cs ≡ n
 
+pub counted-nil : AreCounted [] 0
+counted-nil = record { simple = refl; columns = refl; counts = refl }
+
+pub counted-cons : (c k : ℕ) (cs : List ℕ) (n : ℕ) → IsLetter c k → AreCounted cs n → AreCounted (c ∷ cs) (k + n)
+counted-cons c k cs n own more = record {
+  simple = and_from (is_simple c) (list_all is_simple cs) own.simple more.simple;
+  columns = omega (arith, sum_by-cons char_columns c cs, own.columns, more.columns);
+  counts = omega (arith, sum_by-cons char_count c cs, own.columns, own.some, more.counts);
+}
+
 counted-encoded : (cs : List ℕ) → list_all is_letter_byte (encode_utf8_all cs) ≡ true → AreCounted cs (sum_by byte_columns (encode_utf8_all cs))
-counted-encoded [] h = record { simple = refl; columns = refl; counts = refl }
+counted-encoded [] h = counted-nil
 counted-encoded (c ∷ cs) h =
     let front = encode_utf8 c in
     let back = encode_utf8_all cs in
     let parts = and_parts (list_all is_letter_byte front) (list_all is_letter_byte back) (sym (list_all-append is_letter_byte front back) ∙ h) in
-    let own = letter-encoded c parts.0 in
-    let more = counted-encoded cs parts.1 in
-    let sum = sum_by-append byte_columns front back in
-    record {
-      simple = and_from (is_simple c) (list_all is_simple cs) own.simple more.simple;
-      columns = omega (arith, sum_by-cons char_columns c cs, own.columns, more.columns, sum);
-      counts = omega (arith, sum_by-cons char_count c cs, own.columns, own.some, more.counts, sum);
-    }
+    subst (AreCounted (c ∷ cs)) (sym (sum_by-append byte_columns front back))
+    (counted-cons c (sum_by byte_columns front) cs (sum_by byte_columns back) (letter-encoded c parts.0) (counted-encoded cs parts.1))
 
 pub letters-counted : (text : List ℕ) (n : ℕ) → IsUtf8 text → AreLetters text n → AreCounted (chars text) n
 letters-counted text n u h =
     let same = encodes-chars text u in
     subst (AreCounted (chars text)) (ap (sum_by byte_columns) same ∙ sym h.columns)
     (counted-encoded (chars text) (ap (list_all is_letter_byte) same ∙ h.all))
-
-pub letters-columns : (text : List ℕ) (n : ℕ) → IsUtf8 text → AreLetters text n → line_columns text ≡ n
-letters-columns text n u h = let c = letters-counted text n u h in str_width-simple false (chars text) c.simple ∙ c.columns
 
 simple-no_feed : (c : ℕ) → is_simple c ≡ true → is_no_feed c ≡ true
 simple-no_feed c h = grind (arith, nat_tests)
@@ -190,12 +214,15 @@ simple-feedless (c ∷ cs) h =
     and_from (is_no_feed c) (list_all is_no_feed cs) (simple-no_feed c parts.0) (simple-feedless cs parts.1)
 
 -- letters alone are a line
-pub letters-line : (text : List ℕ) (n : ℕ) → IsUtf8 text → AreLetters text n → IsLine text n
-letters-line text n u h = record {
+pub counted-line : (text : List ℕ) (n : ℕ) → IsUtf8 text → AreCounted (chars text) n → IsLine text n
+counted-line text n u c = record {
   utf8 = u;
-  feedless = simple-feedless (chars text) (letters-counted text n u h).simple;
-  columns = letters-columns text n u h;
+  feedless = simple-feedless (chars text) c.simple;
+  columns = str_width-simple false (chars text) c.simple ∙ c.columns;
 }
+
+pub letters-line : (text : List ℕ) (n : ℕ) → IsUtf8 text → AreLetters text n → IsLine text n
+letters-line text n u h = counted-line text n u (letters-counted text n u h)
 
 pub line-alone : (line : List ℕ) (n : ℕ) → IsLine line n → length (lines_of line) ≡ 1
 line-alone line n h =
@@ -207,9 +234,10 @@ pub letters-exact : (text : List ℕ) → IsUtf8 text → list_all is_letter_byt
 letters-exact text u h =
     let n = sum_by byte_columns text in
     let letters : AreLetters text n = record { all = h; columns = refl } in
-    let one = line-alone text n (letters-line text n u letters) in
+    let line = letters-line text n u letters in
+    let one = line-alone text n line in
     record {
       utf8 = u;
       one = one;
-      counted = (letters-counted text n u letters).counts ∙ sym (text_columns-one text one ∙ letters-columns text n u letters);
+      counted = (letters-counted text n u letters).counts ∙ sym (text_columns-one text one ∙ line.columns);
     }

@@ -9,6 +9,9 @@ use crate::character::{is_narrow_lead, is_wide_lead};
 use crate::runs::{BLOCK, block_at, short_run_end};
 use std::simd::prelude::*;
 
+/// The size of half a block in bytes.
+pub(crate) const HALF_BLOCK: usize = 8;
+
 /// The columns of the letter that a byte begins, by its upper half.
 const COLUMNS: [u8; 16] = [0, 0, 1, 1, 1, 1, 1, 1, 0, 0, 0, 0, 1, 1, 2, 0];
 
@@ -103,6 +106,34 @@ pub(crate) fn letter_columns(bytes: &[u8], start: usize) -> Option<usize>
     }
     let last = last_columns(bytes, at)?;
     Some(columns + last)
+}
+
+/// Returns the columns of 8 to 15 bytes, or `None` if one isn't a letter's. Reads the last 8 and the
+/// first 8 in one block, and those that are read twice once.
+#[inline(always)]
+fn few_columns(bytes: &[u8]) -> Option<usize>
+    requires some { HALF_BLOCK ≤ length bytes.now }
+    requires few { length bytes.now ≤ BLOCK }
+    ensures { IfSome result (λ columns. AreLetters bytes.now columns) }
+{
+    let front = u8x8::from_slice(bytes);
+    let back = u8x8::from_slice(&bytes[bytes.len() - HALF_BLOCK..]);
+    let both: u8x16 = back.shuffle(
+        front,
+        [0, 1, 2, 3, 4, 5, 6, 7, 8, 9, 10, 11, 12, 13, 14, 15],
+    );
+    block_columns(filled(both, BLOCK - bytes.len()))
+}
+
+/// Returns the columns of bytes, at least 8, or `None` if one isn't a letter's.
+pub(crate) fn whole_columns(bytes: &[u8]) -> Option<usize>
+    requires { HALF_BLOCK ≤ length bytes.now }
+    ensures { IfSome result (λ columns. AreLetters bytes.now columns) }
+{
+    if bytes.len() < BLOCK {
+        return few_columns(bytes);
+    }
+    letter_columns(bytes, 0)
 }
 
 /// Goes over blocks of letters at the front that take at most n columns together. Returns where they

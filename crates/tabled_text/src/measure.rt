@@ -12,7 +12,7 @@ ghost use Rattle.tabled_text.specs.FramedLines.{IsLine};
 ghost use Rattle.tabled_text.specs.Runs.{EndsRun};
 
 use crate::character::split_letter;
-use crate::letters::letter_columns;
+use crate::letters::{HALF_BLOCK, letter_columns, whole_columns};
 use crate::runs::{BLOCK, is_run, run_end, split_at_byte};
 use unicode_width::UnicodeWidthStr;
 
@@ -117,6 +117,19 @@ fn measures_of_lines(text: &str, run: usize) -> (usize, usize)
     }
 }
 
+/// Returns the columns of a line of letters alone, or `None` if it has other characters or if byte
+/// `run` is ASCII.
+fn letters_from(text: &str, run: usize) -> Option<usize>
+    requires { run < length text.now }
+    ensures line { IfSome result (IsLine text.now) }
+    ensures bound { IfSome result (λ columns. columns ≤ 2 * length text.now) }
+{
+    if text.as_bytes()[run] < 0x80 {
+        return None;
+    }
+    letters_width(text)
+}
+
 /// Returns the columns and the number of lines of a text. Printable ASCII is measured fastest.
 #[inline]
 pub fn text_measures(text: &str) -> (usize, usize)
@@ -126,9 +139,11 @@ pub fn text_measures(text: &str) -> (usize, usize)
 {
     let run = run_end(text.as_bytes(), 0, b' ', b'~');
     if run == text.len() {
-        (run, 1)
-    } else {
-        measures_of_lines(text, run)
+        return (run, 1);
+    }
+    match letters_from(text, run) {
+        Some(columns) => (columns, 1),
+        None => measures_of_lines(text, run),
     }
 }
 
@@ -178,19 +193,19 @@ pub fn columns_between(text: &str, start: usize, end: usize) -> usize
 
 /// Returns the columns of a line of letters alone, or `None` if it has other characters.
 fn letters_width(line: &str) -> Option<usize>
-    ensures value { IfSome result (λ columns. columns ≡ line_columns line.now) }
+    ensures line { IfSome result (IsLine line.now) }
     ensures bound { IfSome result (λ columns. columns ≤ 2 * length line.now) }
 {
-    if line.len() < BLOCK {
+    if line.len() < HALF_BLOCK {
         return few_letters_width(line);
     }
-    letter_columns(line.as_bytes(), 0)
+    whole_columns(line.as_bytes())
 }
 
 /// Returns the columns of a line of letters alone, which goes letter by letter, or `None` if it has
 /// other characters.
 fn few_letters_width(line: &str) -> Option<usize>
-    ensures value { IfSome result (λ columns. columns ≡ line_columns line.now) }
+    ensures line { IfSome result (IsLine line.now) }
     ensures bound { IfSome result (λ columns. columns ≤ 2 * length line.now) }
 {
     let mut rest = line;
