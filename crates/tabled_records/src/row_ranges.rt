@@ -128,9 +128,10 @@ fn bounds_of(ends: &Pairs, gap: usize, place: usize) -> (usize, (usize, usize))
     ensures begin { result.0 ≡ begin gap 0 ends.now place }
     ensures end { result.1 ≡ slice_index_or ends.now place result.1 }
 {
-    let Some(before) = place.checked_sub(1) else {
+    if place == 0 {
         return (0, ends.at(place));
-    };
+    }
+    let before = place - 1;
     // The pair before a small one is small.
     if place < ends.small.len() {
         let small = ends.small.as_slice();
