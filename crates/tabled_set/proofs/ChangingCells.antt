@@ -14,7 +14,7 @@ match-true P Q e p = subst (λ x. MatchBool x P Q) (sym e) p
 pub match-false : {b : Bool} (P Q : Type 0) → b ≡ false → Q → MatchBool b P Q
 match-false P Q e q = subst (λ x. MatchBool x P Q) (sym e) q
 
-columns-first : (cells : List (List (List ℕ))) → columns cells ≡ length (slice_index_or cells 0 [])
+pub columns-first : (cells : List (List (List ℕ))) → columns cells ≡ length (slice_index_or cells 0 [])
 columns-first [] = refl
 columns-first (row ∷ rows) = refl
 

@@ -8,6 +8,7 @@ pub mod JoinedLines
 pub mod NarrowingTables
 pub mod Picking
 pub mod PromisedSizes
+pub mod RewrittenRecords
 pub mod WrappedAndTruncated
 pub mod Stopping
 pub mod TruncatedTexts

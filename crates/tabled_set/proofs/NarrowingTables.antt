@@ -1,6 +1,6 @@
 -- Tables that are narrowed.
 use Rattle.tabled_set.proofs.Names.{AreChanged, AreChangedBefore, Bool, ByColumn, CompleteDimension, Err, IfErr, IfSome, IsFilledIn}
-use Rattle.tabled_set.proofs.Names.{IsFound, IsNarrowed, List, Memory, NarrowingOutOfRange, Narrows, None, Ok, Option, Range, Result, Sheet}
+use Rattle.tabled_set.proofs.Names.{IsFound, IsNarrowed, List, MatchBool-at_false, MatchBool-at_true, MatchOption, Memory, NarrowingOutOfRange, Narrows, None, Ok, Option, Range, Result, Sheet}
 use Rattle.tabled_set.proofs.Names.{Shrinks, Some, SpannedConfig, TableError, WalkOrder, ap, arith, at, cases_Bool, cell_at, columns, cond}
 use Rattle.tabled_set.proofs.Names.{content_width, effective, effective_sizes, emptied, estimated_heights, estimated_widths, false}
 use Rattle.tabled_set.proofs.Names.{filled_width, for_content_size, heights_length, heights_of, if_sized, if◌then◌else◌, inl, inr, is_empty}
@@ -11,13 +11,14 @@ use Rattle.std.proofs.Common.{IsOk, IsTrue, unwrap_or, is_some}
 use Rattle.std.proofs.lemmas.List.{get_or-take}
 use Rattle.tabled_set.specs.Common.{FitsMinimums, IsTooWide}
 use Rattle.tabled_set.specs.CellChanges.{NeedsMemoryIn, if_taken, CellFilter}
-use Rattle.tabled_set.specs.Narrowed.{is_permitted, needs_for_content_size, StopsNarrowing, WiderOutOfRange}
+use Rattle.tabled_set.specs.Narrowed.{FitsAlready, HasWidths, StopsEarly, StopsNarrowing, WiderOutOfRange, is_permitted, needs_for_content_size}
 use Rattle.tabled_config.specs.Settings.{style_at}
 use Rattle.tabled_entity.specs.Changes.{shared}
 use Rattle.tabled_config.specs.declared.sides.Indent.{Indent}
 use Rattle.tabled_config.specs.declared.sides.Sides.{Sides}
 use Rattle.tabled_set.proofs.ChangingCells.{AreChanged-as, match-false, match-true}
 use Rattle.std.specs.Result.{IsErrAnd}
+use Rattle.std.proofs.Common.{IfNone, OnErr}
 use Rattle.tabled_set.proofs.Emptied.{minimums-length}
 use Rattle.tabled_set.proofs.Totals.{short-widths}
 
@@ -157,16 +158,6 @@ module _ {P : Type 0} (shrinks : Shrinks P) (priority : P) (n : ℕ) where
           stopped = inr (e, record { wider = is.wider; widths = widths; shrunk = is.shrunk; changed = changed });
         })
 
-    -- one before a cell has changed
-    pub stops-wider : (cell_filter : CellFilter) (in_place : ℕ → List ℕ → Type 0) (error : TableError) → n < total_width (effective cells config mid)
-        → StopsNarrowing shrinks priority cell_filter in_place change n error cells config old cells mid
-    stops-wider cell_filter in_place error wide =
-        inr (record {
-          wider = subst (λ t. n < total_width t) (effective-filled cells config old mid filled) wide;
-          filled = filled;
-          stopped = inl refl;
-        })
-
 -- ---- what fails
 
 -- a call that doesn't fail where both lists are stored
@@ -184,3 +175,71 @@ pub passes-before : (O : Type 0) (n : ℕ) (cells : List (List (List ℕ))) (con
 passes-before O n cells config old mid e some filled cause =
     let P : Sheet → Type 0 = λ t. (2 ^ 64 ≤ total_width t) ⊎ ((n < total_width t) × IsTooWide (emptied cells) config) in
     ⊎_elim (λ m. inl m) (λ h. inr (h.0, (some, inr (inr (subst P (effective-filled cells config old mid filled) h.1))))) cause
+
+-- ---- what is found before a cell changes
+
+-- the value of an option that holds one
+pub at-some : {X : Type 0} (P : X → Type 0) (o : Option X) (x : X) → o ≡ Some x → IfSome o P → P x
+at-some P o x is h = subst (λ o. IfSome o P) is h
+
+pub at-none : {X : Type 0} (A : Type 0) (o : Option X) → o ≡ None → IfNone o A → A
+at-none A o is h = subst (λ o. IfNone o A) is h
+
+module _ (n k : ℕ) (cells : List (List (List ℕ))) (config : SpannedConfig) (old mid : CompleteDimension) (measured : k ≡ n)
+    (some : is_empty cells ≡ false) (filled : IsFilledIn old cells config mid) where
+  -- no widths are found for a table that isn't wider
+  pub fits-already : {X : Type 0} (Q : X → Type 0) (o : Option X) → MatchOption o (total_width (effective cells config mid) ≤ k) Q
+      → IfNone o (FitsAlready n cells config old mid)
+  fits-already Q None h =
+      let e = ap total_width (effective-filled cells config old mid filled) in
+      let fits : total_width (effective cells config old) ≤ n = omega (arith, h, e, measured) in
+      match-false (mid ≡ old) ((total_width (effective cells config old) ≤ n) × IsFilledIn old cells config mid) some (fits, filled)
+  fits-already Q (Some x) h = tt
+
+  -- those that are found
+  pub has-widths : {P X : Type 0} (shrinks : Shrinks P) (priority : P) (A : Type 0) (widths : X → List ℕ) (o : Option X)
+      → MatchOption o A (λ x. IsFound shrinks priority k (effective cells config mid) (widths x))
+      → IfSome o (λ x. HasWidths shrinks priority n cells config old mid (widths x))
+  has-widths shrinks priority A widths None h = tt
+  has-widths shrinks priority A widths (Some x) h = record {
+    some = some;
+    filled = filled;
+    found = subst (λ (m : ℕ). IsFound shrinks priority m (effective cells config mid) (widths x)) measured h;
+  }
+
+  -- an error of a table that is wider
+  pub early-wider : {T : Type 0} (r : Result T TableError) → OnErr r (k < total_width (effective cells config mid))
+      → IfErr r (λ e. StopsEarly n e cells config old mid)
+  early-wider (Ok x) h = tt
+  early-wider (Err e) h =
+      let wide = subst (λ t. k < total_width t) (effective-filled cells config old mid filled) h in
+      record { some = some; left = inr (omega (arith, wide, measured), filled) }
+
+module _ {P : Type 0} (shrinks : Shrinks P) (priority : P) (change : ℕ → List ℕ → List ℕ → Type 0) (n : ℕ)
+    (cells : List (List (List ℕ))) (config : SpannedConfig) (old mid : CompleteDimension) where
+  -- a table that isn't wider is left so
+  pub narrows-fitting : FitsAlready n cells config old mid → Narrows shrinks priority change n cells config old cells mid
+  narrows-fitting h =
+      ⊎_elim
+      (λ yes. match-true ((cells ≡ cells) × (mid ≡ old)) _ yes (refl, MatchBool-at_true (mid ≡ old) _ yes h))
+      (λ no.
+      let left = MatchBool-at_false (mid ≡ old) ((total_width (effective cells config old) ≤ n) × IsFilledIn old cells config mid) no h in
+      let e = ap total_width (effective-filled cells config old mid left.1) in
+      narrows-none shrinks priority n change cells config old mid no left.1 (omega (arith, left.0, e)))
+      (cases_Bool (is_empty cells))
+
+  -- an error before a cell has changed
+  pub stops-early : (cell_filter : CellFilter) (in_place : ℕ → List ℕ → Type 0) (e : TableError) → StopsEarly n e cells config old mid
+      → (is_empty cells ≡ false) × StopsNarrowing shrinks priority cell_filter in_place change n e cells config old cells mid
+  stops-early cell_filter in_place e h = (
+    h.some,
+    ⊎_elim (λ filling. inl (refl, filling)) (λ wide. inr (record { wider = wide.0; filled = wide.1; stopped = inl refl })) h.left,
+  )
+
+-- an error once the widths are found
+pub early-found : {P : Type 0} (shrinks : Shrinks P) (priority : P) (n : ℕ) (cells : List (List (List ℕ))) (config : SpannedConfig)
+    (old mid : CompleteDimension) (widths : List ℕ) (e : TableError) → HasWidths shrinks priority n cells config old mid widths
+    → StopsEarly n e cells config old mid
+early-found shrinks priority n cells config old mid widths e h =
+    let wide = subst (λ t. n < total_width t) (effective-filled cells config old mid h.filled) h.found.wider in
+    record { some = h.some; left = inr (wide, h.filled) }

@@ -111,6 +111,25 @@ pub record IsFound {P : Type 0} (shrinks : Shrinks P) (priority : P) (n : ℕ) (
   pub wider : n < total_width t
   pub shrunk : IsShrunkTo shrinks priority n t widths
 
+-- a table that isn't wider than n: it is empty and its sizes don't change, or they are filled in
+abbrev pub FitsAlready : ℕ → List (List (List ℕ)) → SpannedConfig → CompleteDimension → CompleteDimension → Type 0
+FitsAlready n cells config sizes sizes' =
+    MatchBool (is_empty cells) (sizes' ≡ sizes) ((total_width (effective cells config sizes) ≤ n) × IsFilledIn sizes cells config sizes')
+
+-- a table that is wider than n: its sizes are filled in, and its columns shrink to these widths
+pub record HasWidths {P : Type 0} (shrinks : Shrinks P) (priority : P) (n : ℕ) (cells : List (List (List ℕ)))
+    (config : SpannedConfig) (sizes sizes' : CompleteDimension) (widths : List ℕ) : Type 0 where
+  pub some : is_empty cells ≡ false
+  pub filled : IsFilledIn sizes cells config sizes'
+  pub found : IsFound shrinks priority n (effective cells config sizes') widths
+
+-- what an error leaves while no cell has changed: the sizes unchanged while they are estimated, or
+-- filled in if the table is wider than n
+pub record StopsEarly (n : ℕ) (error : TableError) (cells : List (List (List ℕ))) (config : SpannedConfig)
+    (sizes sizes' : CompleteDimension) : Type 0 where
+  pub some : is_empty cells ≡ false
+  pub left : StopsFilling error sizes sizes' ⊎ ((n < total_width (effective cells config sizes)) × IsFilledIn sizes cells config sizes')
+
 -- ---- rows that shrink to a total
 
 -- a cell with more lines than its row's height keeps that many of its first lines, whatever its

@@ -20,6 +20,7 @@
 //!
 //! Changing cells and tables:
 //! - `walk`: changes the cells of an entity, row by row or column by column
+//! - `rewriting`: writes records anew, row by row, with some cells changed
 //! - `narrowing`: narrows a table, and changes its cells to fit
 #![tactic(auto)]
 
@@ -29,6 +30,7 @@ mod measurement;
 mod min_width;
 mod narrowing;
 mod resize;
+mod rewriting;
 mod sizes;
 mod spaces;
 mod truncate;
@@ -39,6 +41,7 @@ pub use heights::{CellHeightIncrease, CellHeightLimit, TableHeightIncrease, Tabl
 pub use measurement::{Height, Max, Measurement, Min, Percent, Width};
 pub use min_width::{Justify, MinWidth};
 pub use resize::{CellFilter, Change, ContentSizes};
+pub use rewriting::changed_records;
 pub use sizes::{HeightList, WidthList};
 pub use spaces::{Margin, Padding, PaddingExpand};
 pub use truncate::{SuffixLimit, Truncate, Truncating, columns_beside};

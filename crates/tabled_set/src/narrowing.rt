@@ -1,22 +1,24 @@
 //! Narrows a table to a total width, and changes its cells to fit.
 ghost use Rattle.std.specs.Prelude.{◌≡◌, ◌⊎◌, ℕ, IfErr, IfOk, IfSome, ◌<◌, ◌≤◌, MatchOption, OnErr};
 ghost use Rattle.std.specs.Prelude.{Some, false, is_some, true, None, ◌-◌, OnOk, slice_index_or};
+ghost use Rattle.std.specs.Prelude.{IfNone, unwrap_or};
 ghost use Rattle.tabled_set.specs.Common.{effective, is_empty, IsRectangular, Memory, Range};
 ghost use Rattle.tabled_set.specs.Common.{total_width, widths_of};
 ghost use Rattle.tabled_set.specs.CellChanges.{if_taken};
 ghost use Rattle.tabled_set.specs.Narrowed.{less_padding, permitted_width, WiderOutOfRange};
 ghost use Rattle.tabled_set.specs.Narrowed.{NarrowingOutOfRange, Narrows, StopsNarrowing, IsFound};
-ghost use Rattle.tabled_set.specs.Narrowed.{content_width};
+ghost use Rattle.tabled_set.specs.Narrowed.{FitsAlready, HasWidths, StopsEarly, content_width};
 ghost use Rattle.tabled_set.specs.Minimums.{emptied, own_padding, side_columns};
 
 use crate::measurement::{Measurement, Width};
 use crate::resize::{CellFilter, Change, ContentSizes, Resize, TextTransform};
+use crate::rewriting::changed_records;
 use crate::sizes::{shrunk, stored_columns};
 use crate::walk::{WalkOrder, change_cells};
 use std::alloc::{AllocError, Global};
-use tabled_base::{Entity, ExactRecords, Position, RecordsMut, TableError};
+use tabled_base::{Entity, ExactRecords, PeekableRecords, Position, RecordsMut, TableError};
 use tabled_config::{Indent, Sides, SpannedConfig};
-use tabled_records::EmptyRecords;
+use tabled_records::{EmptyRecords, JoinedRecords};
 use tabled_size::{CompleteDimension, Estimate, Peaker, estimate_widths, is_empty};
 
 /// Returns the widths to which the columns of a table shrink, with the content widths of its cells,
@@ -120,6 +122,44 @@ impl<'a> ContentSizes for ColumnWidths<'a> {
     }
 }
 
+/// Returns the widths to which the columns of a table shrink, so that its total is the measured
+/// width, or `None` if the table isn't wider. Missing sizes are estimated first, and are stored
+/// even if an error follows.
+fn wanted_widths<'a, W: Measurement<Width>, P: Peaker + Drop, R: PeekableRecords>(
+    size: &W,
+    priority: P,
+    records: &R,
+    config: &'a SpannedConfig,
+    sizes: &mut CompleteDimension,
+) -> Result<Option<ColumnWidths<'a>>, TableError>
+    ensures rectangular { IsRectangular (R.cells records.now) }
+    ensures none { IfOk result (λ answer. IfNone answer
+        (FitsAlready (W.measures size.now (R.cells records.now) config.now)
+        (R.cells records.now) config.now sizes.old sizes.new)) }
+    ensures some { IfOk result (λ answer. IfSome answer (λ found. HasWidths P.shrinks priority
+        (W.measures size.now (R.cells records.now) config.now)
+        (R.cells records.now) config.now sizes.old sizes.new found.widths.items)) }
+    ensures sized { let t = effective (R.cells records.now) config.now sizes.new in
+        IfOk result (λ answer. IfSome answer (λ found. (row column : ℕ)
+        → less_padding (slice_index_or found.content.items column None)
+        (own_padding found.config.now row column)
+        ≡ content_width t found.widths.items row column)) }
+    ensures err { IfErr result (λ e. StopsEarly
+        (W.measures size.now (R.cells records.now) config.now) e
+        (R.cells records.now) config.now sizes.old sizes.new) }
+    ensures only { IfErr result (λ e. (e ≡ Memory) ⊎ ((e ≡ Range)
+        × NarrowingOutOfRange (W.out_of_range size.now (R.cells records.now) config.now)
+        (W.measures size.now (R.cells records.now) config.now)
+        (R.cells records.now) config.now sizes.old)) }
+{
+    if is_empty(records) {
+        return Ok(None);
+    }
+    let n = size.measure(records, config)?;
+    sizes.estimate(records, config)?;
+    narrowed_widths(priority, records, config, sizes, n)
+}
+
 /// Narrows a table to a total of the measured width, and changes its cells, column by column from
 /// the top. Missing sizes are estimated first, and are stored even if an error follows.
 pub(crate) fn narrow_table<
@@ -149,12 +189,8 @@ pub(crate) fn narrow_table<
         (W.measures option.size (R.cells records.old) config.now)
         (R.cells records.old) config.now sizes.old)) }
 {
-    if is_empty(records) {
-        return Ok(());
-    }
-    let n = option.size.measure(records, config)?;
-    sizes.estimate(records, config)?;
-    let Some(found) = narrowed_widths(option.priority, records, config, sizes, n)? else {
+    let priority = option.priority;
+    let Some(found) = wanted_widths(&option.size, priority, records, config, sizes)? else {
         return Ok(());
     };
     let change = Change {
@@ -166,4 +202,47 @@ pub(crate) fn narrow_table<
     sizes.set_widths(found.widths);
     sizes.clear_height();
     Ok(())
+}
+
+/// Returns the cells of a table that is narrowed to a total of the measured width, or `None` if it
+/// isn't wider. The records don't change. Missing sizes are estimated first, and are stored even if
+/// an error follows.
+pub(crate) fn narrowed_records<
+    T: TextTransform + Drop,
+    W: Measurement<Width> + Drop,
+    P: Peaker + Drop,
+    R: PeekableRecords,
+>(
+    option: Resize<T, W, P>,
+    cell_filter: CellFilter,
+    records: &R,
+    config: &SpannedConfig,
+    sizes: &mut CompleteDimension,
+) -> Result<Option<JoinedRecords>, TableError>
+    ensures rectangular { IsRectangular (R.cells records.now) }
+    ensures ok { IfOk result (λ changed. Narrows P.shrinks option.priority
+        (if_taken cell_filter (T.makes option.transform))
+        (W.measures option.size (R.cells records.now) config.now) (R.cells records.now)
+        config.now sizes.old (unwrap_or changed (R.cells records.now)) sizes.new) }
+    ensures err { IfErr result (λ e. StopsEarly
+        (W.measures option.size (R.cells records.now) config.now) e
+        (R.cells records.now) config.now sizes.old sizes.new) }
+    ensures only { IfErr result (λ e. (e ≡ Memory) ⊎ ((e ≡ Range)
+        × NarrowingOutOfRange (W.out_of_range option.size (R.cells records.now) config.now)
+        (W.measures option.size (R.cells records.now) config.now)
+        (R.cells records.now) config.now sizes.old)) }
+{
+    let priority = option.priority;
+    let Some(found) = wanted_widths(&option.size, priority, records, config, sizes)? else {
+        return Ok(None);
+    };
+    let change = Change {
+        transform: &option.transform,
+        cell_filter,
+        content_sizes: &found,
+    };
+    let changed = changed_records(sizes.allocator(), &change, records)?;
+    sizes.set_widths(found.widths);
+    sizes.clear_height();
+    Ok(Some(changed))
 }

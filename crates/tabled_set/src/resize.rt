@@ -1,9 +1,10 @@
 //! `Resize`, the type of the options that change widths and heights: their transforms of one text,
 //! the cells that they are for, and the change of one, in place if possible.
 ghost use Rattle.std.specs.Prelude.{◌≡◌, ℕ, Option, Some, true, IfErr, IfNone, IfSome, List};
-ghost use Rattle.std.specs.Prelude.{OnErr, OnOk, string_bytes};
+ghost use Rattle.std.specs.Prelude.{IfOk, OnErr, OnOk, length, string_bytes};
 ghost use Rattle.std.specs.Str.{IsCharBoundary};
-ghost use Rattle.tabled_set.specs.Common.{Cell, cell_at, covers, IsInside, Memory};
+ghost use Rattle.tabled_set.specs.Common.{Cell, cell_at, covers, IsInside, lines_of, Memory};
+ghost use Rattle.tabled_set.specs.Common.{text_columns};
 ghost use Rattle.tabled_base.specs.ShortOr.{FitsBehind};
 ghost use Rattle.tabled_set.specs.CellChanges.{takes_size, AreChanged, CellFilter};
 ghost use Rattle.tabled_set.specs.CellChanges.{leaves, needs, ChangesEntity, StopsEntity, if_taken};
@@ -15,6 +16,7 @@ use std::alloc::AllocError;
 use tabled_base::{CellOption, Entity, Position, RecordsMut, SHORT_TEXT, TableError};
 use tabled_config::ColoredConfig;
 use tabled_size::{Peaker, PriorityNone};
+use tabled_text::text_measures;
 
 /// Changes cells that have too few or too many columns or lines. As a table option it changes the
 /// total width or height of a table, and its columns or rows in the order of `priority`.
@@ -196,6 +198,21 @@ pub trait TextTransform {
     /// Replaces `out` by the transformed text.
     fn apply(&self, out: &mut String, text: &str, content_size: usize) -> Result<(), AllocError>
         ensures { OnOk result (makes self.now content_size text.now (string_bytes out.new)) };
+
+    /// Replaces `out` by the transformed text, and returns its columns and its number of lines.
+    fn apply_measured(
+        &self,
+        out: &mut String,
+        text: &str,
+        content_size: usize,
+    ) -> Result<(usize, usize), AllocError>
+        ensures made { OnOk result (makes self.now content_size text.now (string_bytes out.new)) }
+        ensures columns { IfOk result (λ found. found.0 ≡ text_columns (string_bytes out.new)) }
+        ensures lines { IfOk result (λ found. found.1 ≡ length (lines_of (string_bytes out.new))) }
+    {
+        self.apply(out, text, content_size)?;
+        Ok(text_measures(out.as_str()))
+    }
 }
 
 /// Does nothing. Its contract says that a text can be cut at its start.

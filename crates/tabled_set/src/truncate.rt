@@ -2,21 +2,23 @@
 //! text.
 ghost use Rattle.std.specs.Cow.{cow_str_bytes, IsOwnedStr};
 ghost use Rattle.std.specs.Prelude.{◌≡◌, ◌-◌, [], IfErr, IfNone, IfOk, IfSome, None, OnErr, OnOk};
-ghost use Rattle.std.specs.Prelude.{Some, false, if◌then◌else◌, nat_lt, string_bytes};
-ghost use Rattle.tabled_set.specs.Common.{effective, is_empty, IsCut, Memory, NeedsFill};
+ghost use Rattle.std.specs.Prelude.{Some, false, if◌then◌else◌, nat_lt, string_bytes, unwrap_or, ◌⊎◌};
+ghost use Rattle.tabled_set.specs.Common.{effective, is_empty, IsCut, Memory, NeedsFill, Range};
 ghost use Rattle.tabled_set.specs.CellChanges.{truncating, if_wider, Wider};
-ghost use Rattle.tabled_set.specs.Narrowed.{Narrows, NarrowingOutOfRange, StopsNarrowing};
+ghost use Rattle.tabled_set.specs.Narrowed.{Narrows, NarrowingOutOfRange, StopsEarly};
+ghost use Rattle.tabled_set.specs.Narrowed.{StopsNarrowing};
 ghost use Rattle.tabled_set.specs.Truncated.{AddsEnded, Cut, HasEndedLines, IsMade, IsTruncated};
 ghost use Rattle.tabled_set.specs.Truncated.{IsUsed, suffix_columns, truncating_in_place};
 ghost use Rattle.tabled_set.specs.Promised.{AfterClearing, TruncatesAsPromised};
 
 use crate::measurement::{Measurement, Width};
-use crate::narrowing::narrow_table;
+use crate::narrowing::{narrow_table, narrowed_records};
 use crate::resize::{Beginning, CellFilter, Resize, TextTransform};
 use std::alloc::{AllocError, Global};
 use std::borrow::CowStr;
-use tabled_base::{Entity, RecordsMut, SHORT_TEXT, TableError, TableOption};
-use tabled_config::ColoredConfig;
+use tabled_base::{Entity, PeekableRecords, RecordsMut, SHORT_TEXT, TableError, TableOption};
+use tabled_config::{ColoredConfig, SpannedConfig};
+use tabled_records::JoinedRecords;
 use tabled_size::{CompleteDimension, Peaker, PriorityNone};
 use tabled_text::{copies, count_lines, cut_length, cut_str, line_width, lines};
 
@@ -270,6 +272,41 @@ impl<'a, W, P> Truncate<'a, W, P> {
         let mut answer = String::new(alloc);
         self.transform.apply(&mut answer, text, content_size)?;
         Ok(answer)
+    }
+}
+
+impl<'a, W: Measurement<Width> + Drop, P: Peaker + Drop> Truncate<'a, W, P> {
+    /// Narrows a table whose records are only borrowed. Returns its cells as the table option
+    /// changes them, or `None` if the table isn't too wide.
+    ///
+    /// The sizes are stored as by the table option. It fails with `Memory` only if sizes are
+    /// missing or the table is too wide, and with `Range` as the table option does.
+    pub fn narrowed<R: PeekableRecords>(
+        self,
+        records: &R,
+        cfg: &SpannedConfig,
+        dims: &mut CompleteDimension,
+    ) -> Result<Option<JoinedRecords>, TableError>
+        ensures ok { let by = self.entry.transform in IfOk result (λ changed.
+            Narrows P.shrinks self.entry.priority
+            (if_wider (truncating by.suffix.now by.limit by.multiline))
+            (W.measures self.entry.size (R.cells records.now) cfg.now) (R.cells records.now)
+            cfg.now dims.old (unwrap_or changed (R.cells records.now)) dims.new) }
+        ensures promised { let by = self.entry.transform in
+            IfOk result (λ changed. AfterClearing None dims.new (λ left.
+            TruncatesAsPromised P.shrinks self.entry.priority by.suffix.now by.limit by.multiline
+            (W.measures self.entry.size (R.cells records.now) cfg.now)
+            (effective (R.cells records.now) cfg.now dims.old)
+            (effective (unwrap_or changed (R.cells records.now)) cfg.now left))) }
+        ensures err { IfErr result (λ e. StopsEarly
+            (W.measures self.entry.size (R.cells records.now) cfg.now) e
+            (R.cells records.now) cfg.now dims.old dims.new) }
+        ensures only { IfErr result (λ e. (e ≡ Memory) ⊎ ((e ≡ Range)
+            × NarrowingOutOfRange (W.out_of_range self.entry.size (R.cells records.now) cfg.now)
+            (W.measures self.entry.size (R.cells records.now) cfg.now)
+            (R.cells records.now) cfg.now dims.old)) }
+    {
+        narrowed_records(self, CellFilter::Wider, records, cfg, dims)
     }
 }
 

@@ -1,19 +1,21 @@
 //! The option `Wrap`, which wraps cells and narrows tables.
 ghost use Rattle.std.specs.Prelude.{◌≡◌, ◌<◌, IfErr, IfOk, OnErr, Some, false, length};
-ghost use Rattle.std.specs.Prelude.{string_bytes};
-ghost use Rattle.tabled_set.specs.Common.{effective, is_empty, Memory, Row};
+ghost use Rattle.std.specs.Prelude.{string_bytes, unwrap_or, ◌⊎◌};
+ghost use Rattle.tabled_set.specs.Common.{effective, is_empty, Memory, Range, Row};
 ghost use Rattle.tabled_set.specs.CellChanges.{never_in_place, wrapping, Every, Wider};
-ghost use Rattle.tabled_set.specs.Narrowed.{Narrows, NarrowingOutOfRange, StopsNarrowing};
+ghost use Rattle.tabled_set.specs.Narrowed.{Narrows, NarrowingOutOfRange, StopsEarly};
+ghost use Rattle.tabled_set.specs.Narrowed.{StopsNarrowing};
 ghost use Rattle.tabled_set.specs.Promised.{AfterClearing, WrapsAsPromised};
 ghost use Rattle.tabled_text.specs.Breaking.{EachUnitFits, HasFewestLines, IsLeastBreaking};
 ghost use Rattle.tabled_text.specs.Wrapping.{IsWrapped};
 
 use crate::measurement::{Measurement, Width};
-use crate::narrowing::narrow_table;
+use crate::narrowing::{narrow_table, narrowed_records};
 use crate::resize::{Beginning, CellFilter, Resize, TextTransform};
 use std::alloc::{AllocError, Global};
-use tabled_base::{Entity, RecordsMut, TableError, TableOption};
-use tabled_config::ColoredConfig;
+use tabled_base::{Entity, PeekableRecords, RecordsMut, TableError, TableOption};
+use tabled_config::{ColoredConfig, SpannedConfig};
+use tabled_records::JoinedRecords;
 use tabled_size::{CompleteDimension, Peaker, PriorityNone};
 use tabled_text::{fits_bytes, wrap_into, wrap_text};
 
@@ -65,6 +67,39 @@ impl<W, P> Wrap<W, P> {
     {
         self.transform.keep_words = on;
         self
+    }
+}
+
+impl<W: Measurement<Width> + Drop, P: Peaker + Drop> Wrap<W, P> {
+    /// Narrows a table whose records are only borrowed. Returns its cells as the table option
+    /// changes them, or `None` if the table isn't too wide.
+    ///
+    /// The sizes are stored as by the table option. It fails with `Memory` only if sizes are
+    /// missing or the table is too wide, and with `Range` as the table option does.
+    pub fn narrowed<R: PeekableRecords>(
+        self,
+        records: &R,
+        cfg: &SpannedConfig,
+        dims: &mut CompleteDimension,
+    ) -> Result<Option<JoinedRecords>, TableError>
+        ensures ok { IfOk result (λ changed. Narrows P.shrinks self.priority
+            (wrapping self.transform.keep_words)
+            (W.measures self.size (R.cells records.now) cfg.now) (R.cells records.now)
+            cfg.now dims.old (unwrap_or changed (R.cells records.now)) dims.new) }
+        ensures promised { let t = effective (R.cells records.now) cfg.now dims.old in
+            IfOk result (λ changed. AfterClearing (Some (Row 0)) dims.new (λ left.
+            WrapsAsPromised P.shrinks self.priority self.transform.keep_words
+            (W.measures self.size (R.cells records.now) cfg.now) t
+            (effective (unwrap_or changed (R.cells records.now)) cfg.now left))) }
+        ensures err { IfErr result (λ e. StopsEarly
+            (W.measures self.size (R.cells records.now) cfg.now) e
+            (R.cells records.now) cfg.now dims.old dims.new) }
+        ensures only { IfErr result (λ e. (e ≡ Memory) ⊎ ((e ≡ Range)
+            × NarrowingOutOfRange (W.out_of_range self.size (R.cells records.now) cfg.now)
+            (W.measures self.size (R.cells records.now) cfg.now)
+            (R.cells records.now) cfg.now dims.old)) }
+    {
+        narrowed_records(self, CellFilter::Every, records, cfg, dims)
     }
 }
 

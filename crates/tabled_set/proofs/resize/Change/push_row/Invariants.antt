@@ -1,0 +1,11 @@
+use Rattle.tabled_set.proofs.Names.{leaves, ◌≡◌}
+use Rattle.tabled_set.specs.Rewritten.{AreMade}
+use Rattle.tabled_set.proofs.resize.Change.push_row.Given as goal
+
+abbrev pub invariant-columns : goal.invariant-columns
+invariant-columns g l = record {
+  rows : l.writer.rows ≡ l.fn.writer.rows;
+  made :
+      AreMade (leaves l.self.cell_filter (g.T.TextTransform.makes l.self.transform.now) (g.M.ContentSizes.content_size_at l.self.content_sizes.now))
+      (g.R.ExactRecords.cells l.records) l.row l.column l.writer.begun;
+}

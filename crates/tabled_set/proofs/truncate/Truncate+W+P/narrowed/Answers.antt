@@ -1,0 +1,10 @@
+use Rattle.std.proofs.lemmas.Result.{IfOk-weaker}
+use Rattle.tabled_set.proofs.WrappedAndTruncated.{truncates}
+use Rattle.tabled_set.proofs.truncate.Truncate+W+P.narrowed.Goals as goal
+
+pub returns-clause-promised : goal.returns-clause-promised
+returns-clause-promised g c =
+    let by = c.args.self.transform in
+    IfOk-weaker c.narrowed_records.result _ _
+    (λ changed h left. truncates _ _ _ _ _ _ _ _ left c.narrowed_records.ensures.rectangular by.suffix.now by.limit by.multiline h)
+    c.narrowed_records.ensures.ok
