@@ -6,8 +6,8 @@ ghost use Rattle.std.specs.Vec.Iter.{into_iter_len};
 
 use crate::cells::{columns_of, text_of, truncated};
 use anyhow::{Error, Result};
-use sqlite::{Alter, Connection, Row, Rows};
-use std::alloc::Global;
+use sqlite::{Alter, Connection, Row, Rows, Statement};
+use std::alloc::{AllocError, Global};
 use std::str::from_utf8;
 use std::vec::IntoIter;
 use tabled::grid::util::string::{line_width, lines};
@@ -34,13 +34,11 @@ impl<'a, S: Alter> Answer<'a, S> {
         failure: &'a mut Option<Error>,
     ) -> Result<Answer<'a, S>> {
         let statement = connection.prepare(query)?;
-        let mut names = Vec::new(alloc);
-        for name in statement.column_names() {
-            names.push(String::from_str(alloc, from_utf8(name.as_slice())?)?)?;
-        }
+        let mut first = Vec::new(alloc);
+        first.push(names_of(alloc, &statement)?)?;
         Ok(Answer {
             alloc,
-            first: vec![in alloc; names]?.into_iter(),
+            first: first.into_iter(),
             rows: statement.query(connection, &[])?,
             widths: Vec::new(alloc),
             left: u64::MAX,
@@ -50,20 +48,25 @@ impl<'a, S: Alter> Answer<'a, S> {
 
     /// Reads rows ahead, of which the names are the first. Later rows are truncated to the columns
     /// in which these are whole.
-    pub fn read_ahead(&mut self, count: usize) -> Result<()> {
-        let mut first = Vec::new(self.alloc);
-        for _row in 0..count {
-            match self.next() {
-                Some(row) => first.push(row)?,
-                None => break,
-            }
-        }
+    pub fn read_ahead(&mut self, count: usize) -> Result<(), AllocError> {
+        let mut first = self.next_rows(count)?;
         self.widths = widths_of(self.alloc, first.as_slice())?;
         if let Some(names) = first.first_mut() {
             pad(names, self.widths.as_slice())?;
         }
         self.first = first.into_iter();
         Ok(())
+    }
+
+    fn next_rows(&mut self, count: usize) -> Result<Vec<Vec<String>>, AllocError> {
+        let mut rows = Vec::new(self.alloc);
+        for _row in 0..count {
+            match self.next() {
+                Some(row) => rows.push(row)?,
+                None => break,
+            }
+        }
+        Ok(rows)
     }
 }
 
@@ -91,8 +94,17 @@ impl<S: Alter> Iterator for Answer<'_, S> {
     }
 }
 
+/// The names of a statement's columns.
+fn names_of(alloc: Global, statement: &Statement) -> Result<Vec<String>> {
+    let mut names = Vec::new(alloc);
+    for name in statement.column_names() {
+        names.push(String::from_str(alloc, from_utf8(name.as_slice())?)?)?;
+    }
+    Ok(names)
+}
+
 /// The columns in which each text of a column is left whole, 1 at least.
-fn widths_of(alloc: Global, rows: &[Vec<String>]) -> Result<Vec<usize>> {
+fn widths_of(alloc: Global, rows: &[Vec<String>]) -> Result<Vec<usize>, AllocError> {
     let mut widths: Vec<usize> = Vec::new(alloc);
     for row in rows {
         for (column, text) in row.iter().enumerate() {
@@ -107,7 +119,7 @@ fn widths_of(alloc: Global, rows: &[Vec<String>]) -> Result<Vec<usize>> {
 }
 
 /// Lengthens names by spaces to the widths, so that `IterTable` measures just these.
-fn pad(names: &mut Vec<String>, widths: &[usize]) -> Result<()> {
+fn pad(names: &mut Vec<String>, widths: &[usize]) -> Result<(), AllocError> {
     for (name, width) in names.iter_mut().zip(widths) {
         let mut columns = 0;
         for line in lines(name) {

@@ -3,28 +3,33 @@
 use anyhow::Result;
 use sqlite::types::ValueRef;
 use std::alloc::{AllocError, Global};
-use std::fmt::Write;
 use std::str::from_utf8;
 use unicode_width::UnicodeWidthChar;
 
 /// A value as text.
 pub fn text_of(alloc: Global, value: ValueRef<'_>) -> Result<String> {
+    if let ValueRef::Text(bytes) = value {
+        return Ok(String::from_str(alloc, from_utf8(bytes)?)?);
+    }
     let mut text = String::new(alloc);
     put_value(&mut text, value)?;
     Ok(text)
 }
 
-fn put_value(text: &mut String, value: ValueRef<'_>) -> Result<()> {
+/// Writes any value but a text.
+fn put_value(text: &mut String, value: ValueRef<'_>) -> Result<(), AllocError> {
     match value {
-        ValueRef::Null => text.push_str("NULL")?,
-        ValueRef::Int(number) => write!(text, "{number}")?,
-        ValueRef::Real(number) => write!(text, "{number}")?,
-        ValueRef::Text(bytes) => text.push_str(from_utf8(bytes)?)?,
-        ValueRef::Blob(bytes) => {
-            for byte in bytes {
-                write!(text, "{byte:02x}")?;
-            }
-        }
+        ValueRef::Null => text.push_str("NULL"),
+        ValueRef::Int(number) => write!(text, "{number}"),
+        ValueRef::Real(number) => write!(text, "{number}"),
+        ValueRef::Text(_) => Ok(()),
+        ValueRef::Blob(bytes) => put_bytes(text, bytes),
+    }
+}
+
+fn put_bytes(text: &mut String, bytes: &[u8]) -> Result<(), AllocError> {
+    for byte in bytes {
+        write!(text, "{byte:02x}")?;
     }
     Ok(())
 }

@@ -11,7 +11,7 @@ mod answer;
 mod cells;
 
 use answer::Answer;
-use anyhow::{Context, Result, bail, ensure};
+use anyhow::{Result, bail, ensure};
 use sqlite::{Alter, Connection};
 use std::alloc::Global;
 use std::io::{self, BufWriter, Write};
@@ -23,28 +23,39 @@ use tabled::tables::IterTable;
 use tabled::{IoSink, Table, TableError};
 
 fn main(rt: HostRuntime) -> Result<()> {
-    let alloc = rt.alloc();
-    let words: Vec<String> = env::args(&rt)?.collect(alloc)?;
-    let (path, query, ahead) = match words.as_slice() {
-        [_, path, query] => (path, query, None),
-        [_, path, query, rows] => (path, query, Some(rows_ahead(rows)?)),
+    let words: Vec<String> = env::args(&rt)?.collect(rt.alloc())?;
+    match words.as_slice() {
+        [_, path, query] => put_file(&rt, path, query, None),
+        [_, path, query, rows] => put_file(&rt, path, query, Some(rows_ahead(rows)?)),
         _ => bail!("example_query FILE QUERY [ROWS]"),
-    };
+    }
+}
+
+/// Prints the answer of a query of a file.
+fn put_file(rt: &HostRuntime, path: &str, query: &str, ahead: Option<usize>) -> Result<()> {
     // An open would make a file that is missing.
-    ensure!(fs::exists(&rt, path)?, "there is no file {path}");
-    let mut connection = Connection::open(&rt, path)?;
-    let mut out = BufWriter::new(alloc, io::writer(&rt))?;
-    put_answer(alloc, &mut connection, query, ahead, &mut out)
+    ensure!(fs::exists(rt, path)?, "there is no file {path}");
+    let mut connection = Connection::open(rt, path)?;
+    put_query(rt, &mut connection, query, ahead)
 }
 
 /// A number of rows that are read ahead.
 fn rows_ahead(word: &str) -> Result<usize> {
-    let rows = word.parse::<usize>().context("the rows read ahead")?;
-    ensure!(
-        rows > 0,
-        "1 row is read ahead at least: the names of the columns"
-    );
-    Ok(rows)
+    match word.parse::<usize>() {
+        Ok(rows) if rows > 0 => Ok(rows),
+        _ => bail!("ROWS is 1 at least: the names of the columns are read ahead"),
+    }
+}
+
+/// Prints the answer of a query to standard output.
+fn put_query<S: Alter>(
+    rt: &HostRuntime,
+    connection: &mut Connection<S>,
+    query: &str,
+    ahead: Option<usize>,
+) -> Result<()> {
+    let mut out = BufWriter::new(rt.alloc(), io::writer(rt))?;
+    put_answer(rt.alloc(), connection, query, ahead, &mut out)
 }
 
 /// Prints the answer of a query, and then fails where it broke off.
@@ -56,20 +67,33 @@ fn put_answer<S: Alter, W: Write>(
     out: &mut W,
 ) -> Result<()> {
     let mut failure = None;
-    let mut answer = Answer::new(alloc, connection, query, &mut failure)?;
-    match ahead {
-        None => put_all(alloc, answer, out)?,
-        Some(rows) => {
-            answer.read_ahead(rows)?;
-            put_stream(alloc, answer, rows, out)?;
-        }
-    }
-    writeln!(out)?;
-    out.flush()?;
+    let answer = Answer::new(alloc, connection, query, &mut failure)?;
+    put_rows(alloc, answer, ahead, out)?;
+    end_line(out)?;
     match failure {
         Some(error) => Err(error),
         None => Ok(()),
     }
+}
+
+fn put_rows<S: Alter, W: Write>(
+    alloc: Global,
+    mut answer: Answer<'_, S>,
+    ahead: Option<usize>,
+    out: &mut W,
+) -> Result<(), TableError> {
+    match ahead {
+        None => put_all(alloc, answer, out),
+        Some(rows) => {
+            answer.read_ahead(rows)?;
+            put_stream(alloc, answer, rows, out)
+        }
+    }
+}
+
+fn end_line<W: Write>(out: &mut W) -> io::Result<()> {
+    writeln!(out)?;
+    out.flush()
 }
 
 /// Prints all rows, once they are read.
