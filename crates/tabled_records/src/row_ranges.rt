@@ -32,7 +32,12 @@ impl Model for Pairs {
 fn small(pair: (usize, usize)) -> Option<(u32, u32)>
     ensures { IfSome result (λ s. s ≡ pair) }
 {
-    Some((u32::try_from(pair.0).ok()?, u32::try_from(pair.1).ok()?))
+    const LAST: usize = u32::MAX as usize;
+    if pair.0 <= LAST && pair.1 <= LAST {
+        Some((pair.0 as u32, pair.1 as u32))
+    } else {
+        None
+    }
 }
 
 /// Returns the pair at an index.
