@@ -272,8 +272,8 @@ impl JoinedTexts {
         }
     }
 
-    /// Adds a text. `known` are its columns and lines, if they are known. If it fails, the texts are
-    /// unchanged.
+    /// Adds a text. `known` are its columns and lines, if they are known. If it fails, the texts
+    /// are unchanged.
     #[inline(always)]
     pub fn push(&mut self, text: &str, known: Option<(usize, usize)>) -> Result<(), AllocError>
         requires { IfSome known (λ known. known ≡ measures_of text.now) }

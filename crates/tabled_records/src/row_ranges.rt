@@ -1,6 +1,6 @@
 //! Rows as ranges of a list of texts, and pairs of numbers in half the memory.
-ghost use Rattle.std.specs.Prelude.{◌≡◌, ◌<◌, ◌++◌, [], ◌∷◌, IfErr, IfOk, IfSome, OnErr, OnOk, length};
-ghost use Rattle.std.specs.Prelude.{◌^◌, List, MatchOption, ℕ};
+ghost use Rattle.std.specs.Prelude.{◌≡◌, ◌<◌, ◌++◌, [], ◌∷◌, IfErr, IfOk, IfSome, OnErr, OnOk};
+ghost use Rattle.std.specs.Prelude.{◌^◌, List, MatchOption, length, ℕ};
 ghost use Rattle.std.specs.List.{slice_index_or};
 ghost use Rattle.tabled_base.specs.declared.error.TableError.TheVariants.{Memory};
 ghost use Rattle.tabled_base.specs.Cells.{IsInside, cell_at};
