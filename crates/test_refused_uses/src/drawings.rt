@@ -1,6 +1,6 @@
 //! More calls that set and print tables of each kind.
 
-use crate::found::{Found, whole_if};
+use crate::found::{Found, whole_if, whole_if_all};
 use crate::printers::{PAIRS, PICTURE, sized_table_of_pairs, table_of_pairs};
 use std::alloc::Global;
 use std::io;
@@ -59,12 +59,20 @@ fn put_grid<S: TextSink>(alloc: Global, sink: &mut S) -> Result<(), TableError> 
     print_grid(sink, table.get_records(), config, table.get_dimension())
 }
 
-fn grids(alloc: Global) -> Result<Found, TableError> {
+fn puts_grid_text(alloc: Global) -> Result<bool, TableError> {
     let mut text = String::new(alloc);
     put_grid(alloc, &mut text)?;
+    Ok(text.as_str() == PICTURE)
+}
+
+fn puts_grid_bytes(alloc: Global) -> Result<bool, TableError> {
     let mut bytes: Vec<u8> = Vec::new(alloc);
     put_grid(alloc, &mut bytes)?;
-    Ok(whole_if(text.as_str() == PICTURE && bytes.as_slice() == PICTURE.as_bytes()))
+    Ok(bytes.as_slice() == PICTURE.as_bytes())
+}
+
+fn grids(alloc: Global) -> Result<Found, TableError> {
+    whole_if_all(&[puts_grid_text(alloc), puts_grid_bytes(alloc)])
 }
 
 // Prints rows with a compact configuration, without a table.
@@ -79,19 +87,27 @@ fn compact_grids(alloc: Global) -> Result<Found, TableError> {
     Ok(whole_if(text.as_str() == BARE))
 }
 
-// Writes to each kind of sink.
-fn sunk(alloc: Global) -> Result<Found, TableError> {
+fn puts_text(alloc: Global) -> Result<bool, TableError> {
     let mut text = String::new(alloc);
     text.write_text("a")?;
+    Ok(text.as_str() == "a")
+}
+
+fn puts_bytes(alloc: Global) -> Result<bool, TableError> {
     let mut bytes: Vec<u8> = Vec::new(alloc);
     bytes.write_text("bb")?;
+    Ok(bytes.as_slice() == b"bb".as_slice())
+}
+
+fn puts_into_room() -> Result<bool, TableError> {
     let mut room = io::Cursor::new([0u8; 4]);
     IoSink::new(&mut room).write_text("ccc")?;
-    Ok(whole_if(
-        text.as_str() == "a"
-            && bytes.as_slice() == b"bb".as_slice()
-            && room.get_ref().starts_with(b"ccc"),
-    ))
+    Ok(room.get_ref().starts_with(b"ccc"))
+}
+
+// Writes to each kind of sink.
+fn sunk(alloc: Global) -> Result<Found, TableError> {
+    whole_if_all(&[puts_text(alloc), puts_bytes(alloc), puts_into_room()])
 }
 
 // Whether a configuration replaces everything that a style set.
@@ -104,31 +120,31 @@ where
     Ok(table.to_text()?.as_str() == BARE)
 }
 
-fn are_replaced(alloc: Global, table: &mut Table) -> Result<bool, TableError> {
+fn replace_each(alloc: Global, table: &mut Table) -> Result<Found, TableError> {
     let bare = SpannedConfig::new(alloc);
     let lent = prints_bare(table, &bare)?;
     let colored = prints_bare(table, ColoredConfig::new(bare))?;
     let compact = prints_bare(table, CompactConfig::new())?;
     let spanned = prints_bare(table, SpannedConfig::new(alloc))?;
-    Ok(lent && colored && compact && spanned)
+    Ok(whole_if(lent && colored && compact && spanned))
 }
 
 fn replaced(alloc: Global) -> Result<Found, TableError> {
     let mut table = table_of_pairs(alloc)?;
-    Ok(whole_if(are_replaced(alloc, &mut table)?))
+    replace_each(alloc, &mut table)
 }
 
 // Options for some cells, by value and by reference.
-fn modify(table: &mut Table) -> Result<(), TableError> {
+fn modify(table: &mut Table) -> Result<Found, TableError> {
     table.modify(Rows::last(), Width::wrap(1))?;
     table.apply_to(Segment::new(1.., ..), &Width::truncate(1).multiline(true))?;
-    table.apply(Padding::new(1, 1, 0, 0))
+    table.apply(Padding::new(1, 1, 0, 0))?;
+    Ok(whole_if(table.to_text()?.as_str() == HALF_WRAPPED))
 }
 
 fn modified(alloc: Global) -> Result<Found, TableError> {
     let mut table = table_of_pairs(alloc)?;
-    modify(&mut table)?;
-    Ok(whole_if(table.to_string()?.as_str() == HALF_WRAPPED))
+    modify(&mut table)
 }
 
 fn streams(alloc: Global) -> Result<Found, TableError> {

@@ -1,5 +1,7 @@
 //! The outcome of a call in which an allocation may fail.
 
+use tabled::TableError;
+
 /// The outcome of a call.
 #[derive(Clone, Copy, Debug, PartialEq, Eq)]
 pub enum Found {
@@ -18,6 +20,16 @@ pub fn whole_if(is_right: bool) -> Found {
     } else {
         Found::Wrong("another answer")
     }
+}
+
+/// The outcome of calls that must all return true, or the first error.
+pub fn whole_if_all(answers: &[Result<bool, TableError>]) -> Result<Found, TableError> {
+    for answer in answers {
+        if !(*answer)? {
+            return Ok(whole_if(false));
+        }
+    }
+    Ok(whole_if(true))
 }
 
 /// The outcome of a call that failed. `is_right`: its error and what it left are the wanted ones.

@@ -1,6 +1,6 @@
 //! Calls on the parts of tables: texts, rows, selections, values, settings and sizes.
 
-use crate::found::{Found, whole_if};
+use crate::found::{Found, whole_if, whole_if_all};
 use crate::printers::{PAIRS, PICTURE, table_of_pairs};
 use std::alloc::Global;
 use std::borrow::CowStr;
@@ -39,23 +39,46 @@ pub const MATERIALS: &[&str] = &[
     "heights",
 ];
 
-// Cuts, splits and wraps texts.
-fn narrowed(alloc: Global) -> Result<Found, TableError> {
+fn cuts(alloc: Global) -> Result<bool, TableError> {
     let cut = cut_str(alloc, "😳😳😳😳😳", 3)?;
-    let (front, rest) = split_str(alloc, "123\n456789", 4)?;
-    let wrapped = wrap_text(alloc, "12345", 2, false)?;
-    let is_right = cut.as_str() == "😳\u{fffd}"
-        && (front.as_str(), rest) == ("123\n4567", "89")
-        && wrapped.as_str() == "12\n34\n5";
-    Ok(whole_if(is_right && options_narrow(alloc)?))
+    Ok(cut.as_str() == "😳\u{fffd}")
 }
 
-// Whether `Wrap` and `Truncate` return the right texts.
-fn options_narrow(alloc: Global) -> Result<bool, TableError> {
+fn splits(alloc: Global) -> Result<bool, TableError> {
+    let (front, rest) = split_str(alloc, "123\n456789", 4)?;
+    Ok((front.as_str(), rest) == ("123\n4567", "89"))
+}
+
+fn wraps(alloc: Global) -> Result<bool, TableError> {
+    let wrapped = wrap_text(alloc, "12345", 2, false)?;
+    Ok(wrapped.as_str() == "12\n34\n5")
+}
+
+fn option_wraps(alloc: Global) -> Result<bool, TableError> {
     let wrapped = Wrap::wrap(alloc, "111 234 1", 4, true)?;
+    Ok(wrapped.as_str() == "111 \n234 \n1")
+}
+
+fn option_cuts(alloc: Global) -> Result<bool, TableError> {
     let cut = Truncate::truncate(alloc, "123\n45", 3)?;
+    Ok(cut.as_str() == "123")
+}
+
+fn option_shortens(alloc: Global) -> Result<bool, TableError> {
     let short = Truncate::new(4).suffix("...").shorten(alloc, "Hello", 4)?;
-    Ok(wrapped.as_str() == "111 \n234 \n1" && cut.as_str() == "123" && short.as_str() == "H...")
+    Ok(short.as_str() == "H...")
+}
+
+// Cuts, splits and wraps texts.
+fn narrowed(alloc: Global) -> Result<Found, TableError> {
+    whole_if_all(&[
+        cuts(alloc),
+        splits(alloc),
+        wraps(alloc),
+        option_wraps(alloc),
+        option_cuts(alloc),
+        option_shortens(alloc),
+    ])
 }
 
 fn built(alloc: Global) -> Result<VecRecords<Text<String>>, TableError> {
@@ -165,16 +188,6 @@ fn tells<T: Tabled>(
     Ok(is_named && is_told && puts(alloc, value, wanted)?)
 }
 
-// The outcome of calls that must all return true, or the first error.
-fn whole_if_all(answers: &[Result<bool, TableError>]) -> Result<Found, TableError> {
-    for answer in answers {
-        if !(*answer)? {
-            return Ok(whole_if(false));
-        }
-    }
-    Ok(whole_if(true))
-}
-
 // Strings, characters and booleans.
 fn single(alloc: Global) -> Result<Found, TableError> {
     let owned = String::from_str(alloc, "b")?;
@@ -245,8 +258,20 @@ fn configured(alloc: Global) -> Result<Found, TableError> {
     let is_set = copy.get_alignment_horizontal(Position::new(1, 0)) == AlignmentHorizontal::Right
         && copy.get_trim_vertical(Position::new(1, 1))
         && copy.get_horizontal_line(1) == Some(DASHES);
-    let (whole, same) = (ColoredConfig::new(config), ColoredConfig::new(copy));
-    Ok(whole_if(is_set && whole.clone()? == same))
+    compare_copy(
+        &ColoredConfig::new(config),
+        &ColoredConfig::new(copy),
+        is_set,
+    )
+}
+
+fn compare_copy(
+    config: &ColoredConfig,
+    same: &ColoredConfig,
+    is_set: bool,
+) -> Result<Found, TableError> {
+    let copy = config.clone()?;
+    Ok(whole_if(is_set && copy == *same))
 }
 
 fn estimate(alloc: Global, table: &Table) -> Result<CompleteDimension, TableError> {
@@ -262,17 +287,26 @@ fn estimate_colored(alloc: Global, table: &Table) -> Result<CompleteDimension, T
     Ok(sizes)
 }
 
-fn are_estimated(alloc: Global, table: &Table) -> Result<bool, TableError> {
-    let sizes = estimate(alloc, table)?;
+fn compare_sizes(
+    alloc: Global,
+    table: &Table,
+    sizes: &CompleteDimension,
+) -> Result<Found, TableError> {
     let colored = estimate_colored(alloc, table)?;
     let copy = sizes.clone()?;
-    Ok(copy == colored && copy.get_widths() == Some(&[5, 4]) && copy.get_heights() == Some(&[1, 1]))
+    let is_right = copy.get_widths() == Some(&[5, 4]) && copy.get_heights() == Some(&[1, 1]);
+    Ok(whole_if(is_right && copy == colored))
+}
+
+fn estimate_each(alloc: Global, table: &Table) -> Result<Found, TableError> {
+    let sizes = estimate(alloc, table)?;
+    compare_sizes(alloc, table, &sizes)
 }
 
 // Estimates and copies sizes.
 fn estimated(alloc: Global) -> Result<Found, TableError> {
     let table = table_of_pairs(alloc)?;
-    Ok(whole_if(are_estimated(alloc, &table)?))
+    estimate_each(alloc, &table)
 }
 
 // Copies a list of widths, and then the dimension that contains it.
@@ -296,11 +330,15 @@ fn is_fixed(table: &Table) -> Result<bool, TableError> {
     Ok(fixed.has_width(0) && fixed.get_width(0) == 5)
 }
 
+fn keep_sizes(alloc: Global, table: &Table) -> Result<Found, TableError> {
+    let is_listed = is_listed(alloc, table)?;
+    Ok(whole_if(is_listed && is_fixed(table)?))
+}
+
 // Estimating must leave given sizes unchanged.
 fn sized(alloc: Global) -> Result<Found, TableError> {
     let table = table_of_pairs(alloc)?;
-    let is_listed = is_listed(alloc, &table)?;
-    Ok(whole_if(is_listed && is_fixed(&table)?))
+    keep_sizes(alloc, &table)
 }
 
 fn measured_across(table: &Table) -> Result<[usize; 4], TableError> {
@@ -313,13 +351,16 @@ fn measured_across(table: &Table) -> Result<[usize; 4], TableError> {
     ])
 }
 
+fn list_across(alloc: Global, table: &mut Table) -> Result<Found, TableError> {
+    let is_measured = measured_across(table)? == [9, 3, 1, 6];
+    table.with(Width::list(alloc, [6, 5])?)?;
+    Ok(whole_if(is_measured && table.total_width()? == 14))
+}
+
 // Measures widths, and sets a list of widths.
 fn across(alloc: Global) -> Result<Found, TableError> {
     let mut table = table_of_pairs(alloc)?;
-    let measures = measured_across(&table)?;
-    table.with(Width::list(alloc, [6, 5])?)?;
-    let is_wide = table.total_width()? == 14;
-    Ok(whole_if(is_wide && measures == [9, 3, 1, 6]))
+    list_across(alloc, &mut table)
 }
 
 fn measured_down(table: &Table) -> Result<[usize; 4], TableError> {
@@ -332,13 +373,16 @@ fn measured_down(table: &Table) -> Result<[usize; 4], TableError> {
     ])
 }
 
+fn list_down(alloc: Global, table: &mut Table) -> Result<Found, TableError> {
+    let is_measured = measured_down(table)? == [9, 1, 1, 2];
+    table.with(Height::list(alloc, [2, 3])?)?;
+    Ok(whole_if(is_measured && table.total_height()? == 8))
+}
+
 // Measures heights, and sets a list of heights.
 fn down(alloc: Global) -> Result<Found, TableError> {
     let mut table = table_of_pairs(alloc)?;
-    let measures = measured_down(&table)?;
-    table.with(Height::list(alloc, [2, 3])?)?;
-    let is_high = table.total_height()? == 8;
-    Ok(whole_if(is_high && measures == [9, 1, 1, 2]))
+    list_down(alloc, &mut table)
 }
 
 /// Runs a call by name, and returns its outcome.

@@ -10,24 +10,22 @@ use crate::sparing::{SPARING, spared};
 use std::alloc::{AllocError, Global};
 use tabled::TableError;
 
-fn call_at(alloc: Global, number: usize) -> Result<Option<Found>, TableError> {
-    match CALLS.get(number) {
-        Some(&name) => Ok(Some(called(alloc, name)?)),
-        None => Ok(None),
+fn names_of(kind: &str) -> &'static [&'static str] {
+    match kind {
+        "call" => CALLS,
+        "material" => MATERIALS,
+        "drawing" => DRAWINGS,
+        "sparing" => SPARING,
+        _ => &[],
     }
 }
 
-fn handled_at(alloc: Global, number: usize) -> Result<Option<Found>, TableError> {
-    match MATERIALS.get(number) {
-        Some(&name) => Ok(Some(handled(alloc, name)?)),
-        None => Ok(None),
-    }
-}
-
-fn drawn_at(alloc: Global, number: usize) -> Result<Option<Found>, TableError> {
-    match DRAWINGS.get(number) {
-        Some(&name) => Ok(Some(drawn(alloc, name)?)),
-        None => Ok(None),
+fn run(alloc: Global, kind: &str, name: &str) -> Result<Found, TableError> {
+    match kind {
+        "call" => called(alloc, name),
+        "material" => handled(alloc, name),
+        "drawing" => drawn(alloc, name),
+        _ => spared(alloc, name),
     }
 }
 
@@ -39,24 +37,15 @@ fn print_at(alloc: Global, number: usize, into_room: bool) -> Option<Found> {
     }
 }
 
-fn spared_at(alloc: Global, number: usize) -> Result<Option<Found>, TableError> {
-    match SPARING.get(number) {
-        Some(&name) => Ok(Some(spared(alloc, name)?)),
-        None => Ok(None),
-    }
-}
-
 /// Runs one call and returns its outcome, or `None` if there is no such call. The kinds `text` and
 /// `room` print into a string and into a fixed buffer.
 pub fn tried(alloc: Global, kind: &str, number: usize) -> Result<Option<Found>, TableError> {
-    match kind {
-        "call" => call_at(alloc, number),
-        "material" => handled_at(alloc, number),
-        "drawing" => drawn_at(alloc, number),
-        "text" => Ok(print_at(alloc, number, false)),
-        "room" => Ok(print_at(alloc, number, true)),
-        "sparing" => spared_at(alloc, number),
-        _ => Ok(None),
+    if kind == "text" || kind == "room" {
+        return Ok(print_at(alloc, number, kind == "room"));
+    }
+    match names_of(kind).get(number) {
+        Some(name) => Ok(Some(run(alloc, kind, name)?)),
+        None => Ok(None),
     }
 }
 
@@ -79,13 +68,17 @@ fn list_printers(report: &mut String) -> Result<(), AllocError> {
     Ok(())
 }
 
+fn list_all(report: &mut String) -> Result<(), AllocError> {
+    for kind in ["call", "material", "drawing"] {
+        list_calls(report, kind, names_of(kind))?;
+    }
+    list_printers(report)?;
+    list_calls(report, "sparing", SPARING)
+}
+
 /// Lists all calls, one per line: kind, number and name.
 pub fn names(alloc: Global) -> Result<String, AllocError> {
     let mut report = String::new(alloc);
-    list_calls(&mut report, "call", CALLS)?;
-    list_calls(&mut report, "material", MATERIALS)?;
-    list_calls(&mut report, "drawing", DRAWINGS)?;
-    list_printers(&mut report)?;
-    list_calls(&mut report, "sparing", SPARING)?;
+    list_all(&mut report)?;
     Ok(report)
 }
