@@ -1,8 +1,8 @@
 -- Printable ASCII, whose characters are its bytes and take a column each, broken between bytes.
-use Rattle.tabled_text.proofs.Names.{All, All-cons, All-nil, BeginsBy, Bool, IsParted, IsPiece, IsReached, IsUtf8, IsUtf8-append}
-use Rattle.tabled_text.proofs.Names.{IsUtf8-encode, IsUtf8-from_ascii, IsUtf8-nil, IsUtf8-past_char, List, TextUnit, [], and_parts, ap}
+use Rattle.tabled_text.proofs.Names.{All, All-cons, All-nil, BeginsBy, Bool, IsParted, IsPiece, IsReached, IsUtf8-append}
+use Rattle.tabled_text.proofs.Names.{IsUtf8-encode, IsUtf8-from_ascii, IsUtf8-past_char, List, TextUnit, [], and_parts, ap}
 use Rattle.tabled_text.proofs.Names.{append-nil, append_all, append_assoc, append_used, arith, char_count, chars}
-use Rattle.tabled_text.proofs.Names.{chars-append, chars-nil, cond, count_of}
+use Rattle.tabled_text.proofs.Names.{chars-append, cond, count_of}
 use Rattle.tabled_text.proofs.Names.{drop, encode_utf8, encode_utf8_all, encodes-append, encodes-chars, false, is_in_range}
 use Rattle.tabled_text.proofs.Names.{last_line, last_of, le-leb, length, length-drop, length-take-le, lines_of, list_all, list_all-append}
 use Rattle.tabled_text.proofs.Names.{map, max, nat_le, nat_tests, needed, pending, refl, replicate, subst, sum_by-cons, sym, take, true}
@@ -89,12 +89,6 @@ used_after-append n used (x ∷ xs) ys = used_after-append n (append_used n used
 pub record Taken (n : ℕ) (text : List ℕ) (columns : ℕ) (rest : List ℕ) : Type 0 where
   pub front : List ℕ
   pub is : IsPiece n text front columns rest
-
-pub Taken-start : (n : ℕ) (text : List ℕ) → IsUtf8 text → Taken n text 0 text
-Taken-start n text u = record {
-  front = [];
-  is = record { parts = refl; utf8 = IsUtf8-nil; rest_utf8 = u; counted = ap count_of (sym chars-nil); fits = omega arith };
-}
 
 pub Taken-more : (n : ℕ) (text : List ℕ) (columns count : ℕ) (rest after : List ℕ) → Taken n text columns rest
     → BeginsBy (λ c. count ≡ char_count c) rest after → columns + count ≤ n → Taken n text (columns + count) after
