@@ -139,7 +139,7 @@ narrow-not-wide : (lead : ℕ) → is_narrow_lead lead ≡ true → is_wide_lead
 narrow-not-wide lead h = grind (arith, nat_tests)
 
 -- a character whose bytes are those of letters is a letter of as many columns
-letter-encoded : (c : ℕ) → list_all is_letter_byte (encode_utf8 c) ≡ true → IsLetter c (sum_by byte_columns (encode_utf8 c))
+pub letter-encoded : (c : ℕ) → list_all is_letter_byte (encode_utf8 c) ≡ true → IsLetter c (sum_by byte_columns (encode_utf8 c))
 letter-encoded c h =
     let lead = lead_byte c in
     let e = encoded c in

@@ -24,6 +24,7 @@ pub mod LetterBytes
 pub mod LetterFronts
 pub mod LetterLanes
 pub mod LetterLemmas
+pub mod LetterPieces
 pub mod LineLaws
 pub mod Listed
 pub mod LongestLemmas

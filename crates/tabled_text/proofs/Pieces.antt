@@ -75,7 +75,7 @@ broken-one n (c ∷ cs) us some h l =
     let need : needed n (unit_of_char c) ≡ 1 = ap (λ k. cond (nat_le k n) k 1) one ∙ ap (λ b. cond b 1 1) (le-leb 1 n some) in
     append_all-breaks n n (unit_of_char c) (map unit_of_char cs ++ us) some (omega (arith, need))
 
-map-append : (xs ys : List ℕ) → map unit_of_char (xs ++ ys) ≡ map unit_of_char xs ++ map unit_of_char ys
+pub map-append : (xs ys : List ℕ) → map unit_of_char (xs ++ ys) ≡ map unit_of_char xs ++ map unit_of_char ys
 map-append [] ys = refl
 map-append (x ∷ xs) ys = ap (λ l. unit_of_char x ∷ l) (map-append xs ys)
 

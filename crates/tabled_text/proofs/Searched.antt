@@ -65,7 +65,7 @@ chars-miss d small (c ∷ cs) h =
     ∙ ap (λ i. get_or rest i x) at)
     (h (length (encode_utf8 c) + k) x far)))
 
-all-chars : (d : ℕ) → d < 128 → (front : List ℕ) → IsUtf8 front → All (λ b. eqb b d ≡ false) front → All (λ c. eqb c d ≡ false) (chars front)
+pub all-chars : (d : ℕ) → d < 128 → (front : List ℕ) → IsUtf8 front → All (λ b. eqb b d ≡ false) front → All (λ c. eqb c d ≡ false) (chars front)
 all-chars d small front u h = chars-miss d small (chars front) (subst (All (λ b. eqb b d ≡ false)) (sym (encodes-chars front u)) h)
 
 -- a text whose words are split off

@@ -103,7 +103,7 @@ ended n front us p some h le f wide =
     ∙ ap (λ l. front ++ l) (append_all-breaks n (length front) p f.tail some wide)
     ∙ ap (λ l. front ++ 10 ∷ append_all n 0 l) (sym f.is)
 
-needed-narrow : (n : ℕ) (p : TextUnit) → p.width ≤ n → needed n p ≡ p.width
+pub needed-narrow : (n : ℕ) (p : TextUnit) → p.width ≤ n → needed n p ≡ p.width
 needed-narrow n p le = ap (λ b. cond b p.width 1) (le-leb p.width n le)
 
 -- before a space
@@ -148,7 +148,7 @@ breaks-after n k line word ws some h le long at words own short_word wide =
 
 -- ---- inside a word that is wider than a line
 
-wide-word : (n : ℕ) (cs : List ℕ) → n < columns_of cs → 0 < length cs → units_of_word n cs ≡ map unit_of_char cs
+pub wide-word : (n : ℕ) (cs : List ℕ) → n < columns_of cs → 0 < length cs → units_of_word n cs ≡ map unit_of_char cs
 wide-word n [] wide some = absurd (omega arith)
 wide-word n (c ∷ cs) wide some =
     ap (λ b. cond b (unit_of (c ∷ cs) (columns_of (c ∷ cs)) ∷ []) (map unit_of_char (c ∷ cs))) (lt-leb (columns_of (c ∷ cs)) n wide)

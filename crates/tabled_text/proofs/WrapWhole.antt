@@ -53,7 +53,7 @@ width-line : (n : ℕ) (words : Bool) (line : List ℕ) → width_of (units n wo
 width-line n false line = omega (arith, width-chars line)
 width-line n true line = subst (λ l. width_of (units n true line) ≤ count_of l) (join_with_byte-slice_split 32 line) (width-words n (words_of line))
 
-line-short : (n : ℕ) (words : Bool) (line : List ℕ) → count_of line ≤ n → append_all n 0 (units n words line) ≡ line
+pub line-short : (n : ℕ) (words : Bool) (line : List ℕ) → count_of line ≤ n → append_all n 0 (units n words line) ≡ line
 line-short n words line few =
     let us : List TextUnit = units n words line in
     let wide : width_of us ≤ n = omega (arith, width-line n words line) in

@@ -44,7 +44,7 @@ short n [] ne le = absurd (ne refl)
 short n (c ∷ cs) ne le = ap (λ b. cond b (unit_of (c ∷ cs) (columns_of (c ∷ cs)) ∷ []) (map unit_of_char (c ∷ cs)))
     (le-leb (columns_of (c ∷ cs)) n le)
 
-not_empty : (word : List ℕ) → IsUtf8 word → (length word ≡ 0 → ⊥) → chars word ≡ [] → ⊥
+pub not_empty : (word : List ℕ) → IsUtf8 word → (length word ≡ 0 → ⊥) → chars word ≡ [] → ⊥
 not_empty word u ne e = ne (ap length (sym (encodes-chars word u) ∙ ap encode_utf8_all e))
 
 pub units_of_word-short : (n : ℕ) (word : List ℕ) (width : ℕ) (b : Bool) → IsUtf8 word → b ≡ (length word == 0) → b

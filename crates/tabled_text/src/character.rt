@@ -1,6 +1,6 @@
 //! What a character counts, and whether it is plain, additive or a separator.
-ghost use Rattle.std.specs.Prelude.{◌≡◌, ◌<◌, ◌≤◌, ◌∷◌, [], ◌++◌, chars, encode_utf8, length};
-ghost use Rattle.std.specs.Prelude.{MatchOption, ◌↔◌, IfSome, ℕ};
+ghost use Rattle.std.specs.Prelude.{◌≡◌, ◌<◌, ◌≤◌, ◌∷◌, [], ◌++◌, ◌+◌, chars, encode_utf8, length};
+ghost use Rattle.std.specs.Prelude.{List, MatchOption, ◌↔◌, IfSome, ℕ};
 ghost use Rattle.std.specs.Prelude.{IsTrue};
 ghost use Rattle.tabled_text.specs.Letters.{BeginsBy, IsLetter, is_narrow_lead, is_wide_lead};
 ghost use Rattle.tabled_text.specs.Letters.{is_narrow_letter, is_wide_letter, lead_byte};
@@ -120,10 +120,12 @@ pub(crate) fn split_count(text: &str) -> Option<(usize, &str)>
     Some((char_count(c), after))
 }
 
-/// Splits off characters that count at most n together. Returns their text, their count and the
-/// rest.
+/// Splits off the most characters that count at most n together. Returns their text, their count
+/// and the rest.
 pub(crate) fn split_piece(text: &str, n: usize) -> (&str, usize, &str)
-    ensures { IsPiece n text.now result.0.now result.1 result.2.now }
+    ensures piece { IsPiece n text.now result.0.now result.1 result.2.now }
+    ensures most { (c : ℕ) (cs : List ℕ) → chars result.2.now ≡ c ∷ cs
+        → n < result.1 + char_count c }
 {
     let (_, mut columns, mut rest) = split_letters(text, n);
     'chars: while let Some((count, after)) = split_count(rest) {

@@ -1,11 +1,12 @@
 //! Wraps texts to n columns. One walk writes unit after unit to a `Sink`.
 ghost use Rattle.std.specs.Prelude.{◌≡◌, Bool, nat_le, ◌<◌, ◌≤◌, ◌+◌, ◌-◌, slice_index, ◌∷◌};
 ghost use Rattle.std.specs.Prelude.{chars, encode_utf8_all, length, map, IfOk, OnOk, IfSome};
-ghost use Rattle.std.specs.Prelude.{IsUtf8, string_bytes, OnErr, false, true, ℕ};
+ghost use Rattle.std.specs.Prelude.{IsUtf8, string_bytes, OnErr, [], false, true, ℕ};
 ghost use Rattle.std.specs.Int.{is_in_range};
 ghost use Rattle.std.specs.List.{list_all};
 ghost use Rattle.tabled_text.specs.Cut.{IsCut, NeedsFill};
 ghost use Rattle.tabled_text.specs.Measure.{char_count, lines_of, text_columns};
+ghost use Rattle.tabled_text.specs.Letters.{is_letter_byte};
 ghost use Rattle.tabled_text.specs.Units.{unit_of_char, words_of, units, units_of_word};
 ghost use Rattle.tabled_text.specs.Units.{units_of_words};
 ghost use Rattle.tabled_text.specs.Breaking.{EachUnitFits, HasFewestLines, IsLeastBreaking};
@@ -15,8 +16,9 @@ ghost use Rattle.tabled_text.specs.Walk.{append_used, append_all, used_after, pe
 ghost use Rattle.tabled_text.specs.Walk.{written_line};
 
 use crate::character::{char_count, split_first, split_piece};
+use crate::letters::is_letter_text;
 use crate::measure::{is_printable, line_width, lines, text_measures};
-use crate::runs::split_at_byte;
+use crate::runs::{is_run, split_at_byte};
 use crate::sink::{Sink, append_copies};
 use std::alloc::{AllocError, Global};
 
@@ -245,6 +247,33 @@ fn append_printable<S: Sink>(
     Ok((widest.max(rest.len()), count))
 }
 
+/// Writes a line of letters, broken between characters. Returns the columns and the number of lines
+/// of what it wrote.
+fn append_letters<S: Sink>(out: &mut S, n: usize, line: &str) -> Result<(usize, usize), S::Error>
+    requires some { 1 < n }
+    requires letters { list_all is_letter_byte line.now ≡ true }
+    ensures columns { IfOk result (λ answer.
+        answer.0 ≡ text_columns (written_line n false line.now)) }
+    ensures lines { IfOk result (λ answer.
+        answer.1 ≡ length (lines_of (written_line n false line.now))) }
+    ensures text { OnOk result (S.adds out.old (written_line n false line.now) out.new) }
+{
+    let mut widest: usize = 0;
+    let mut count: usize = 1;
+    let mut rest = line;
+    'lines: loop {
+        let (piece, columns, after) = split_piece(rest, n);
+        out.append_str(piece)?;
+        widest = widest.max(columns);
+        if after.is_empty() {
+            return Ok((widest, count));
+        }
+        out.append_char('\n')?;
+        count += 1;
+        rest = after;
+    }
+}
+
 /// Writes a line, broken to n columns.
 fn append_line<S: Sink>(out: &mut S, n: usize, words: bool, line: &str) -> Result<(), S::Error>
     requires { 0 < n }
@@ -307,6 +336,29 @@ pub fn wrap_text(alloc: Global, text: &str, n: usize, words: bool) -> Result<Str
     Ok(out)
 }
 
+/// Whether a text is letters alone, none of whose bytes is below `first`.
+fn is_letter_run(text: &str, first: u8) -> bool
+    requires { 10 < first }
+    ensures letters { result ≡ true → list_all is_letter_byte text.now ≡ true }
+    ensures first { result ≡ true → list_all (is_in_range first 255) text.now ≡ true }
+{
+    if is_run(text.as_bytes(), 0, first, u8::MAX) {
+        return is_letter_text(text);
+    }
+    false
+}
+
+/// Whether a text is a line of letters, and one word if words are kept.
+fn breaks_letters(text: &str, words: bool) -> bool
+    ensures letters { result ≡ true → list_all is_letter_byte text.now ≡ true }
+    ensures word { result ≡ true → words ≡ true → words_of (chars text.now) ≡ chars text.now ∷ [] }
+{
+    if words {
+        return is_letter_run(text, b'!');
+    }
+    is_letter_run(text, b' ')
+}
+
 /// Replaces `out` by a text wrapped to lines of at most n columns, as `wrap_text` returns it.
 /// Returns the columns and the number of lines of `out`.
 pub fn wrap_into(
@@ -331,6 +383,9 @@ pub fn wrap_into(
     out.reserve_exact(text.len().saturating_add(text.len() / n))?;
     if is_printable(text) {
         return append_printable(out, n, words, text);
+    }
+    if n > 1 && breaks_letters(text, words) {
+        return append_letters(out, n, text);
     }
     append_lines(out, n, words, text)?;
     Ok(text_measures(out.as_str()))

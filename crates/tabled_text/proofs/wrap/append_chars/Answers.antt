@@ -6,12 +6,12 @@ use Rattle.tabled_text.proofs.WriteLemmas.{encodes-more}
 use Rattle.tabled_text.proofs.wrap.append_chars.Goals as goal
 
 pub overflow_add-column : goal.overflow_add-column
-overflow_add-column g c = omega (arith, c.split_piece-columns.ensures.fits, c.saturating_sub.ensures)
+overflow_add-column g c = omega (arith, c.split_piece-columns.ensures.piece.fits, c.saturating_sub.ensures)
 
 pub pieces-preserved : goal.pieces-preserved
 pieces-preserved g c =
     let n = c.args.n in
-    let p = c.split_piece-columns.ensures in
+    let p = c.split_piece-columns.ensures.piece in
     let e = c.in-Some.ensures in
     let first = unit_of_char c.in-Some.c in
     let rest = map unit_of_char (chars c.in-Some.next.now) in
@@ -42,7 +42,7 @@ pieces-smaller g c =
     omega (
       arith,
       c.in-Some.ensures.1,
-      ap length c.split_piece-columns.ensures.parts,
+      ap length c.split_piece-columns.ensures.piece.parts,
       length-append c.split_piece-columns.result.0.now c.split_piece-columns.result.2.now,
     )
 
@@ -53,7 +53,7 @@ returns-in-None-clause-used g c =
     let room : c.saturating_sub.result ≤ n - c.pieces.column = omega (arith, c.saturating_sub.ensures) in
     sym (ap (λ l. used_after n column (map unit_of_char l)) c.in-None.ensures)
     ∙ sym (piece-used n c.saturating_sub.result c.pieces.column c.split_piece-columns.result.1 c.pieces.rest.now
-    c.split_piece-columns.result.0.now c.split_piece-columns.result.2.now c.split_piece-columns.ensures room)
+    c.split_piece-columns.result.0.now c.split_piece-columns.result.2.now c.split_piece-columns.ensures.piece room)
     ∙ c.pieces.invariant.0
 
 pub returns-in-None-clause-text : goal.returns-in-None-clause-text
@@ -67,5 +67,5 @@ returns-in-None-clause-text g c =
     (sym (append-nil piece)
     ∙ ap (λ l. piece ++ encode_utf8_all (append_all n column (map unit_of_char l))) (sym c.in-None.ensures)
     ∙ piece-written n c.saturating_sub.result c.pieces.column c.split_piece-columns.result.1 c.pieces.rest.now
-    piece c.split_piece-columns.result.2.now c.split_piece-columns.ensures room)
+    piece c.split_piece-columns.result.2.now c.split_piece-columns.ensures.piece room)
     c.in_ok-append_str.ensures)

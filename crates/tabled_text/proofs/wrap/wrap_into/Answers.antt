@@ -5,6 +5,7 @@ use Rattle.std.proofs.lemmas.Str.{IsUtf8-string_bytes}
 use Rattle.tabled_text.specs.Walk.{written_line}
 use Rattle.tabled_text.proofs.JoinLemmas.{text_columns-nil}
 use Rattle.tabled_text.proofs.Pieces.{pending-printable}
+use Rattle.tabled_text.proofs.LetterPieces.{pending-letters, written-letters}
 use Rattle.tabled_text.proofs.WriteLemmas.{IsWrapped-written, IsWrapped-nothing}
 use Rattle.tabled_text.proofs.wrap.wrap_into.Goals as goal
 use Rattle.tabled_text.proofs.wrap.wrap_into.Goals.{then-n-eq0-via-then-n-eq0, then-n-eq0-via-else-n-eq0+then-is_empty}
@@ -61,6 +62,28 @@ pub returns-then-is_printable-clause-lines : goal.returns-then-is_printable-clau
 returns-then-is_printable-clause-lines c =
     lines_from c.append_printable.result (written_line c.args.n c.args.words c.args.text.now) (string_bytes c.reserve_exact.new.self)
     (string_bytes c.append_printable.new.out) (c.reserve_exact.ensures.bytes ∙ c.clear.ensures.bytes) c.append_printable.ensures.lines c.append_printable.ensures.text
+
+pub returns-then-breaks_letters-clause-wrapped : goal.returns-then-breaks_letters-clause-wrapped
+returns-then-breaks_letters-clause-wrapped c =
+    let text = c.args.text.now in
+    let letters = c.breaks_letters.ensures.letters c.if-breaks_letters.true in
+    on_ok_weaker c.append_letters.result
+    (λ h. IsWrapped-written c.args.n c.args.words text (string_bytes c.append_letters.new.out) c.if-n-eq0.false
+    (IsUtf8-string_bytes c.append_letters.new.out)
+    (h ∙ ap (λ l. l ++ written_line c.args.n false text) (c.reserve_exact.ensures.bytes ∙ c.clear.ensures.bytes)
+    ∙ written-letters c.args.n c.args.words text c.utf8.text letters (c.breaks_letters.ensures.word c.if-breaks_letters.true)
+    ∙ pending-letters c.args.n c.args.words text c.utf8.text letters))
+    c.append_letters.ensures.text
+
+pub returns-then-breaks_letters-clause-columns : goal.returns-then-breaks_letters-clause-columns
+returns-then-breaks_letters-clause-columns c =
+    columns_from c.append_letters.result (written_line c.args.n false c.args.text.now) (string_bytes c.reserve_exact.new.self)
+    (string_bytes c.append_letters.new.out) (c.reserve_exact.ensures.bytes ∙ c.clear.ensures.bytes) c.append_letters.ensures.columns c.append_letters.ensures.text
+
+pub returns-then-breaks_letters-clause-lines : goal.returns-then-breaks_letters-clause-lines
+returns-then-breaks_letters-clause-lines c =
+    lines_from c.append_letters.result (written_line c.args.n false c.args.text.now) (string_bytes c.reserve_exact.new.self)
+    (string_bytes c.append_letters.new.out) (c.reserve_exact.ensures.bytes ∙ c.clear.ensures.bytes) c.append_letters.ensures.lines c.append_letters.ensures.text
 
 pub returns-clause-wrapped : goal.returns-clause-wrapped
 returns-clause-wrapped c =
