@@ -22,9 +22,6 @@ use crate::runs::{is_run, split_at_byte};
 use crate::sink::{Sink, append_copies};
 use std::alloc::{AllocError, Global};
 
-/// The widest lines that are written character by character, without calls to copy them.
-const FEW_COLUMNS: usize = 3;
-
 /// Returns the column at which a unit of `needed` columns begins. Begins a new line if the current
 /// one has fewer columns left.
 fn begin<S: Sink>(out: &mut S, used: usize, n: usize, needed: usize) -> Result<usize, S::Error>
@@ -78,23 +75,6 @@ fn append_char<S: Sink>(out: &mut S, used: usize, n: usize, c: char) -> Result<u
     Ok(column + count)
 }
 
-/// Writes the characters of a text one by one, and returns the columns then used.
-fn append_each<S: Sink>(out: &mut S, used: usize, n: usize, text: &str) -> Result<usize, S::Error>
-    requires { 0 < n }
-    ensures used { IfOk result (λ column. column
-        ≡ used_after n used (map unit_of_char (chars text.now))) }
-    ensures text { OnOk result (S.adds out.old
-        (encode_utf8_all (append_all n used (map unit_of_char (chars text.now)))) out.new) }
-{
-    let mut column = used;
-    let mut rest = text;
-    while let Some((c, after)) = split_first(rest) {
-        column = append_char(out, column, n, c)?;
-        rest = after;
-    }
-    Ok(column)
-}
-
 /// Writes the characters of a text, those of a line at once, and returns the columns then used.
 fn append_chars<S: Sink>(out: &mut S, used: usize, n: usize, text: &str) -> Result<usize, S::Error>
     requires { 0 < n }
@@ -103,9 +83,6 @@ fn append_chars<S: Sink>(out: &mut S, used: usize, n: usize, text: &str) -> Resu
     ensures text { OnOk result (S.adds out.old
         (encode_utf8_all (append_all n used (map unit_of_char (chars text.now)))) out.new) }
 {
-    if n <= FEW_COLUMNS {
-        return append_each(out, used, n, text);
-    }
     let mut column = used;
     let mut rest = text;
     'pieces: loop {
