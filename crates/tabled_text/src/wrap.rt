@@ -16,7 +16,7 @@ ghost use Rattle.tabled_text.specs.Walk.{append_used, append_all, used_after, pe
 ghost use Rattle.tabled_text.specs.Walk.{written_line};
 
 use crate::character::{char_count, split_first, split_piece};
-use crate::letters::is_letter_text;
+use crate::letters::{HALF_BLOCK, is_letter_text, whole_columns};
 use crate::measure::{is_printable, line_width, lines, text_measures};
 use crate::runs::{is_run, split_at_byte};
 use crate::sink::{Sink, append_copies};
@@ -313,13 +313,15 @@ pub fn wrap_text(alloc: Global, text: &str, n: usize, words: bool) -> Result<Str
     Ok(out)
 }
 
-/// Whether a text is letters alone, none of whose bytes is below `first`.
-fn is_letter_run(text: &str, first: u8) -> bool
-    requires { 10 < first }
-    ensures letters { result ≡ true → list_all is_letter_byte text.now ≡ true }
-    ensures first { result ≡ true → list_all (is_in_range first 255) text.now ≡ true }
+/// Whether a text is letters alone.
+fn is_letter_line(text: &str) -> bool
+    ensures { result ≡ true → list_all is_letter_byte text.now ≡ true }
 {
-    if is_run(text.as_bytes(), 0, first, u8::MAX) {
+    let bytes = text.as_bytes();
+    if bytes.len() >= HALF_BLOCK {
+        return whole_columns(bytes).is_some();
+    }
+    if is_run(bytes, 0, b' ', u8::MAX) {
         return is_letter_text(text);
     }
     false
@@ -330,10 +332,13 @@ fn breaks_letters(text: &str, words: bool) -> bool
     ensures letters { result ≡ true → list_all is_letter_byte text.now ≡ true }
     ensures word { result ≡ true → words ≡ true → words_of (chars text.now) ≡ chars text.now ∷ [] }
 {
-    if words {
-        return is_letter_run(text, b'!');
+    if !words {
+        return is_letter_line(text);
     }
-    is_letter_run(text, b' ')
+    if is_run(text.as_bytes(), 0, b'!', u8::MAX) {
+        return is_letter_line(text);
+    }
+    false
 }
 
 /// Replaces `out` by a text wrapped to lines of at most n columns, as `wrap_text` returns it.
