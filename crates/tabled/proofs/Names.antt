@@ -21,7 +21,7 @@ pub use Rattle.tabled.specs.Headline.{IsBestPlanned, IsLeastBy}
 pub use Rattle.tabled.specs.Orders.{Shrinks}
 pub use Rattle.tabled.specs.Output.{Begins, IsBegunOn, IsOutput, IsPartlyWritten, Puts, PutsOutput}
 unfoldable pub use Rattle.tabled.specs.Output.{with_feed}
-pub use Rattle.tabled.specs.Planned.{Cells, FitsInto, IsNarrowedTo, IsPlanned, IsPlannedOf, OrderShrinks, cut_to, is_plain_byte, measured}
+pub use Rattle.tabled.specs.Planned.{Cells, FitsInto, IsNarrowedTo, IsPlanned, IsPlannedOf, OrderShrinks, cut_to, measured}
 pub use Rattle.tabled.specs.Rendered.{BreaksOff, Halts, IsMade, IsRendered, IsRenderedOf}
 pub use Rattle.tabled.specs.declared.arguments.Order.{Order}
 pub use Rattle.tabled.specs.declared.arguments.Order.TheVariants.{Greatest, Least, Leftmost, Rightmost, Round}

@@ -1,18 +1,18 @@
--- Texts of printable ASCII, whose tables are the same if they are streamed.
+-- Texts of letters, whose tables are the same if they are streamed.
 use Rattle.tabled.proofs.Names.{All, All-cons, All-head, All-nil, All-tail, AllPass, AreTexts, Bool, Buffered, Cells, Halts, IsBestOf}
 use Rattle.tabled.proofs.Names.{IsBestPlanned, IsCut, IsInside, IsPlanned, IsPlannedOf, IsRendered, IsRenderedOf, List, Plan, Result, Sent}
 use Rattle.tabled.proofs.Names.{Shortened, Streamed, TableError, Wrapped, [], arith, cases_Bool, cell_at, cells_of, cond, false}
-use Rattle.tabled.proofs.Names.{holds_estimated, inner_width, is_plain_byte, length, lengthened, lines_of, list_all-from_AllPass, measured}
+use Rattle.tabled.proofs.Names.{holds_estimated, inner_width, length, lengthened, lines_of, list_all-from_AllPass, measured}
 use Rattle.tabled.proofs.Names.{most_cells, new_config, new_sheet, refl, row_lines, sheet_lines, subst, sym, take, text_columns, text_rows}
 use Rattle.tabled.proofs.Names.{true, without_last_feed, ℕ, ⊎_elim, ◌-◌, ◌==◌, ◌∷◌, ◌≡◌, ◌≤◌}
 use Rattle.std.proofs.Common.{◌||◌, replicate}
-use Rattle.std.specs.Int.{is_in_range}
 use Rattle.std.specs.List.{list_all, onto_first, slice_index, slice_split}
 use Rattle.std.proofs.lemmas.List.Elements.{All-append, All-map, All-replicate, All-take, All-weaker}
 use Rattle.std.proofs.lemmas.List.Sums.{AllPass-from_list_all}
 use Rattle.tabled_size.specs.Estimates.{needed_width}
-use Rattle.tabled_text.proofs.CutWhole.{IsCut-short}
-use Rattle.tabled_text.proofs.PlainLines.{plain_line-printable, text_columns-plain_line}
+use Rattle.tabled_text.proofs.CutWhole.{IsCut-counted}
+use Rattle.tabled_text.proofs.LetterBytes.{letters-exact}
+use Rattle.tabled_text.specs.Letters.{is_letter_byte, is_letter_or_break}
 use Rattle.tabled.specs.Planned.{IsStreamedFrom}
 use Rattle.tabled.proofs.Outputs.{text_rectangular}
 use Rattle.tabled.proofs.RenderedTables.{best_new, prints_as, rendered_new, whole_lines}
@@ -35,45 +35,42 @@ parted {X} R p (x ∷ xs) h =
 
 -- a byte of a line
 abbrev in_line : ℕ → Bool
-in_line b = (b == 9) || is_in_range 0x20 0x7E b
+in_line b = (b == 9) || is_letter_byte b
 
-abbrev printable : ℕ → Bool
-printable = is_in_range 0x20 0x7E
-
-lines_plain : (text : List ℕ) → AllPass is_plain_byte text → All (AllPass in_line) (lines_of text)
+lines_plain : (text : List ℕ) → AllPass is_letter_or_break text → All (AllPass in_line) (lines_of text)
 lines_plain text h =
     parted (λ b. in_line b ≡ true) (λ b. b == 10) text
-    (All-weaker (λ b. is_plain_byte b ≡ true) (λ b. (b == 10) ≡ false → in_line b ≡ true) (λ b p no. grind arith) text h)
+    (All-weaker (λ b. is_letter_or_break b ≡ true) (λ b. (b == 10) ≡ false → in_line b ≡ true) (λ b p no. grind arith) text h)
 
-inner_plain : (text : List ℕ) → AllPass is_plain_byte text → AllPass is_plain_byte (without_last_feed text)
+inner_plain : (text : List ℕ) → AllPass is_letter_or_break text → AllPass is_letter_or_break (without_last_feed text)
 inner_plain text h =
-    let Q : Bool → Type 0 = λ b. AllPass is_plain_byte (cond b (take (length text - 1) text) text) in
-    ⊎_elim (λ y. subst Q (sym y) (All-take (λ b. is_plain_byte b ≡ true) (length text - 1) text h)) (λ no. subst Q (sym no) h)
+    let Q : Bool → Type 0 = λ b. AllPass is_letter_or_break (cond b (take (length text - 1) text) text) in
+    ⊎_elim (λ y. subst Q (sym y) (All-take (λ b. is_letter_or_break b ≡ true) (length text - 1) text h)) (λ no. subst Q (sym no) h)
     (cases_Bool (slice_index text (length text - 1) == 10))
 
-rows_plain : (text : List ℕ) → AllPass is_plain_byte text → All (AllPass in_line) (row_lines text)
+rows_plain : (text : List ℕ) → AllPass is_letter_or_break text → All (AllPass in_line) (row_lines text)
 rows_plain text h =
     let Q : Bool → Type 0 = λ b. All (AllPass in_line) (cond b [] (lines_of (without_last_feed text))) in
     ⊎_elim (λ y. subst Q (sym y) (All-nil (AllPass in_line))) (λ no. subst Q (sym no) (lines_plain (without_last_feed text) (inner_plain text h)))
     (cases_Bool (length text == 0))
 
-row_plain : (n : ℕ) (line : List ℕ) → AllPass in_line line → All (AllPass printable) (lengthened n (cells_of line))
+row_plain : (n : ℕ) (line : List ℕ) → AllPass in_line line → All (AllPass is_letter_byte) (lengthened n (cells_of line))
 row_plain n line h =
-    All-append (AllPass printable) (cells_of line) (replicate (n - length (cells_of line)) [])
-    (parted (λ b. printable b ≡ true) (λ b. b == 9) line
-    (All-weaker (λ b. in_line b ≡ true) (λ b. (b == 9) ≡ false → printable b ≡ true) (λ b p no. grind arith) line h))
-    (All-replicate (AllPass printable) (n - length (cells_of line)) [] (All-nil (λ b. printable b ≡ true)))
+    All-append (AllPass is_letter_byte) (cells_of line) (replicate (n - length (cells_of line)) [])
+    (parted (λ b. is_letter_byte b ≡ true) (λ b. b == 9) line
+    (All-weaker (λ b. in_line b ≡ true) (λ b. (b == 9) ≡ false → is_letter_byte b ≡ true) (λ b p no. grind arith) line h))
+    (All-replicate (AllPass is_letter_byte) (n - length (cells_of line)) [] (All-nil (λ b. is_letter_byte b ≡ true)))
 
-cells_plain : (text : List ℕ) → AllPass is_plain_byte text → All (All (AllPass printable)) (text_rows text)
+cells_plain : (text : List ℕ) → AllPass is_letter_or_break text → All (All (AllPass is_letter_byte)) (text_rows text)
 unfolding text_rows
 cells_plain text h =
     let n = most_cells (row_lines text) in
-    All-map (All (AllPass printable)) (λ line. lengthened n (cells_of line)) (row_lines text)
-    (All-weaker (AllPass in_line) (λ line. All (AllPass printable) (lengthened n (cells_of line))) (row_plain n) (row_lines text) (rows_plain text h))
+    All-map (All (AllPass is_letter_byte)) (λ line. lengthened n (cells_of line)) (row_lines text)
+    (All-weaker (AllPass in_line) (λ line. All (AllPass is_letter_byte) (lengthened n (cells_of line))) (row_plain n) (row_lines text) (rows_plain text h))
 
 -- ---- the table of such a text
 
-module _ (text : List ℕ) (plain : list_all is_plain_byte text ≡ true) (texts : AreTexts (text_rows text)) where
+module _ (text : List ℕ) (plain : list_all is_letter_or_break text ≡ true) (texts : AreTexts (text_rows text)) where
   abbrev cells : Cells
   cells = text_rows text
 
@@ -83,12 +80,13 @@ module _ (text : List ℕ) (plain : list_all is_plain_byte text ≡ true) (texts
       let cell = cell_at cells row column in
       let long = text_rectangular text row [] inside.row_in in
       let there = inside.column_in in
-      let shown : list_all printable cell ≡ true =
-      list_all-from_AllPass printable cell (cells_plain text (AllPass-from_list_all is_plain_byte text plain) row [] inside.row_in column [] (omega arith)) in
-      let wide : text_columns cell ≡ length cell = text_columns-plain_line (plain_line-printable cell shown) in
+      let letters : list_all is_letter_byte cell ≡ true =
+      list_all-from_AllPass is_letter_byte cell (cells_plain text (AllPass-from_list_all is_letter_or_break text plain) row [] inside.row_in column [] (omega arith)) in
+      let exact = letters-exact cell (texts row [] inside.row_in column [] (omega arith)) letters in
+      let wide = exact.counted in
       let held : needed_width cells new_config row column ≤ slice_index (new_sheet cells).widths column =
       holds_estimated cells new_config row column inside.row_in inside.column_in in
-      IsCut-short (inner_width (new_sheet cells) row column) cell (texts row [] inside.row_in column [] (omega arith)) (omega arith)
+      IsCut-counted (inner_width (new_sheet cells) row column) cell exact.utf8 (omega arith)
 
   streamed : IsStreamedFrom (new_sheet cells) (new_sheet cells)
   streamed = record {
@@ -119,7 +117,7 @@ module _ (text : List ℕ) (plain : list_all is_plain_byte text ≡ true) (texts
 
 -- what is measured is printed as planned, if only plain texts are streamed
 pub rendered_measured : {T : Type 0} (text : List ℕ) → AreTexts (text_rows text) → (plan : Plan)
-    → (plan ≡ Streamed → list_all is_plain_byte text ≡ true) → (old : Sent) (r : Result T TableError) (new : Sent)
+    → (plan ≡ Streamed → list_all is_letter_or_break text ≡ true) → (old : Sent) (r : Result T TableError) (new : Sent)
     → IsRenderedOf (measured plan) (new_sheet (text_rows text)) old r new → IsRendered plan (text_rows text) old r new
 rendered_measured text texts Buffered plain old r new h = rendered_new Buffered (text_rows text) old r new h
 rendered_measured text texts Streamed plain old r new h = streamed_whole text (plain refl) texts old r new h

@@ -1,6 +1,5 @@
 -- The table that a plan makes of the cells of a text.
-use Rattle.std.specs.Prelude.{◌≡◌, ◌==◌, ◌||◌, ℕ, ◌-◌, Bool, true, false, List, [], MatchBool, nat_le}
-use Rattle.std.specs.Int.{is_in_range}
+use Rattle.std.specs.Prelude.{◌≡◌, ℕ, ◌-◌, Bool, true, false, List, [], MatchBool, nat_le}
 use Rattle.tabled_set.specs.CellChanges.{AreChanged, if_wider, truncating, wrapping}
 use Rattle.tabled_set.specs.declared.truncate.SuffixLimit.TheVariants.{Cut}
 use Rattle.tabled_config.specs.declared.spanned.SpannedConfig.{SpannedConfig}
@@ -16,10 +15,6 @@ use Rattle.tabled.specs.declared.arguments.Order.{Order}
 use Rattle.tabled.specs.declared.arguments.Plan.{Plan}
 use Rattle.tabled.specs.declared.arguments.Plan.TheVariants.{Buffered, Streamed, Wrapped, Shortened}
 use Rattle.tabled.specs.Orders.{IsShrunk}
-
--- printable ASCII, a tab or a line feed
-abbrev pub is_plain_byte : ℕ → Bool
-is_plain_byte b = (b == 9) || ((b == 10) || is_in_range 0x20 0x7E b)
 
 -- the cells of a table, row by row
 abbrev pub Cells : Type 0

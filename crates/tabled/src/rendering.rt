@@ -13,7 +13,8 @@ ghost use Rattle.tabled_size.specs.Sheet.{estimated, is_empty};
 ghost use Rattle.tabled_size.specs.TextCells.{AreTexts};
 ghost use Rattle.tabled_table.specs.NewConfig.{new_config};
 ghost use Rattle.tabled.specs.declared.arguments.Plan.TheVariants.{Streamed};
-ghost use Rattle.tabled.specs.Planned.{is_plain_byte, measured};
+ghost use Rattle.tabled.specs.Planned.{measured};
+ghost use Rattle.tabled_text.specs.Letters.{is_letter_or_break};
 ghost use Rattle.tabled.specs.Rendered.{IsMade, IsRendered, IsRenderedOf};
 
 use crate::arguments::{OrderPriority, Plan};
@@ -28,7 +29,7 @@ use tabled_set::{
 };
 use tabled_size::{CompleteDimension, Estimate};
 use tabled_table::new_config;
-use tabled_text::run_end;
+use tabled_text::is_letter_text;
 
 /// Wraps or truncates the cells of a table with estimated sizes, as a plan says, and returns its
 /// new sizes.
@@ -158,30 +159,14 @@ fn print_streamed<R: PeekableRecords, S: TextSink>(
     print_standing(sink, &cells, config, &sizes)
 }
 
-/// Whether a text is printable ASCII, tabs and line feeds.
-fn is_plain_text(text: &str) -> bool
-    ensures { result ≡ true → list_all is_plain_byte text.now ≡ true }
-{
-    let bytes = text.as_bytes();
-    let mut at = run_end(bytes, 0, b' ', b'~');
-    'runs: while at < bytes.len() {
-        let byte = bytes[at];
-        if byte != b'\t' && byte != b'\n' {
-            return false;
-        }
-        at = run_end(bytes, at + 1, b' ', b'~');
-    }
-    true
-}
-
-/// Whether a plan streams a text that isn't plain, so that cells may be cut.
+/// Whether a plan streams a text that isn't letters alone, so that cells may be cut.
 fn may_cut(plan: Plan, text: &str) -> bool
     ensures streamed { result ≡ true → plan ≡ Streamed }
     ensures plain { result ≡ false → plan ≡ Streamed
-        → list_all is_plain_byte text.now ≡ true }
+        → list_all is_letter_or_break text.now ≡ true }
 {
     match plan {
-        Plan::Streamed => !is_plain_text(text),
+        Plan::Streamed => !is_letter_text(text),
         _ => false,
     }
 }
