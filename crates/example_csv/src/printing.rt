@@ -5,7 +5,6 @@ use crate::reading::Rows;
 use std::alloc::Global;
 use tabled::grid::config::{AlignmentHorizontal, ColoredConfig, Entity, new_config};
 use tabled::grid::dimension::CompleteDimension;
-use tabled::grid::records::ChangedRecords;
 use tabled::grid::{print_estimated, print_standing};
 use tabled::settings::{Style, TableOption, Width};
 use tabled::{TableError, TextSink};
@@ -33,17 +32,17 @@ pub fn put_rows<S: TextSink>(
     width: Option<usize>,
     sink: &mut S,
 ) -> Result<(), TableError> {
-    let mut config = settings(alloc, rows, style)?;
+    let config = settings(alloc, rows, style)?;
     let Some(width) = width else {
         return print_estimated(alloc, sink, &rows.records, config.as_ref());
     };
-    let mut cells = ChangedRecords::new(alloc, &rows.records)?;
     let mut sizes = CompleteDimension::new(alloc);
     let narrow = Width::wrap(width).keep_words(true);
     let narrow = narrow.priority(NumbersLast {
         are_numbers: &rows.are_numbers,
     });
-    TableOption::change(narrow, &mut cells, &mut config, &mut sizes)?;
+    let narrowed = narrow.narrowed(&rows.records, config.as_ref(), &mut sizes)?;
     sizes.clear_height();
-    print_standing(sink, &cells, config.as_ref(), &sizes)
+    let cells = narrowed.as_ref().unwrap_or(&rows.records);
+    print_standing(sink, cells, config.as_ref(), &sizes)
 }

@@ -280,7 +280,7 @@ pub mod grid {
             VecRecords,
         };
         pub use tabled_records::{
-            ChangedRecords, EmptyRecords, IterRecords, JoinedRecords, LentRows,
+            EmptyRecords, IterRecords, JoinedRecords, LentRows, RecordsWriter,
         };
 
         /// Views of records that are read row by row.

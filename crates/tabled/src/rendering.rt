@@ -1,5 +1,6 @@
 //! `render`: prints a text as a table, and narrows it by wrapping or truncating its cells.
-ghost use Rattle.std.specs.Prelude.{◌≡◌, ◌⊎◌, ◌-◌, IfErr, IfOk, Some, false, true};
+ghost use Rattle.std.specs.Prelude.{◌≡◌, ◌⊎◌, ◌-◌, IfErr, IfOk, None, Some, false, true};
+ghost use Rattle.std.specs.Prelude.{unwrap_or};
 ghost use Rattle.std.specs.List.{list_all};
 ghost use Rattle.tabled_base.specs.Cells.{IsRectangular};
 ghost use Rattle.tabled_base.specs.declared.error.TableError.TheVariants.{Memory, Range, Writer};
@@ -10,6 +11,7 @@ ghost use Rattle.tabled_set.specs.Common.{at};
 ghost use Rattle.tabled_set.specs.Minimums.{side_padding};
 ghost use Rattle.tabled_size.specs.Effective.{effective};
 ghost use Rattle.tabled_size.specs.Sheet.{estimated, is_empty};
+ghost use Rattle.tabled_size.specs.Stored.{heights_of, widths_of};
 ghost use Rattle.tabled_size.specs.TextCells.{AreTexts};
 ghost use Rattle.tabled_table.specs.NewConfig.{new_config};
 ghost use Rattle.tabled.specs.declared.arguments.Plan.TheVariants.{Streamed};
@@ -19,38 +21,38 @@ ghost use Rattle.tabled.specs.Rendered.{IsMade, IsRendered, IsRenderedOf};
 
 use crate::arguments::{OrderPriority, Plan};
 use std::alloc::Global;
-use tabled_base::{Entity, PeekableRecords, Position, RecordsMut, TableError, TableOption};
+use tabled_base::{PeekableRecords, Position, TableError, TableOption};
 use tabled_config::{ColoredConfig, SpannedConfig, Style};
 use tabled_grid::{TextSink, print_estimated, print_standing};
-use tabled_records::{ChangedRecords, text_rows};
+use tabled_records::{JoinedRecords, text_rows};
 use tabled_set::{
-    CellFilter, Change, ContentSizes, SuffixLimit, Truncate, Truncating, WalkOrder, Wrap,
-    change_cells,
+    CellFilter, Change, ContentSizes, SuffixLimit, Truncate, Truncating, Wrap, changed_records,
 };
 use tabled_size::{CompleteDimension, Estimate};
 use tabled_table::new_config;
 use tabled_text::is_letter_text;
 
-/// Wraps or truncates the cells of a table with estimated sizes, as a plan says, and returns its
-/// new sizes.
-fn narrow<R: RecordsMut>(
-    alloc: Global,
+/// Wraps or truncates the cells of a table, as a plan says, and stores its new sizes. Returns the
+/// changed cells, or `None` if none changes.
+fn narrow<R: PeekableRecords>(
     plan: Plan,
-    records: &mut R,
-    config: &mut ColoredConfig,
-) -> Result<CompleteDimension, TableError>
-    requires texts { AreTexts (R.cells records.old) }
-    requires rectangular { IsRectangular (R.cells records.old) }
-    ensures made { IfOk result (λ sizes. IsMade (measured plan)
-        (estimated (R.cells records.old) config.old.config)
-        (effective (R.cells records.new) config.new.config sizes)) }
+    records: &R,
+    config: &SpannedConfig,
+    sizes: &mut CompleteDimension,
+) -> Result<Option<JoinedRecords>, TableError>
+    requires texts { AreTexts (R.cells records.now) }
+    requires rectangular { IsRectangular (R.cells records.now) }
+    requires no_widths { widths_of sizes.old ≡ None }
+    requires no_heights { heights_of sizes.old ≡ None }
+    ensures made { IfOk result (λ changed. IsMade (measured plan)
+        (estimated (R.cells records.now) config.now)
+        (effective (unwrap_or changed (R.cells records.now)) config.now sizes.new)) }
     ensures only { IfErr result (λ e. (e ≡ Memory) ⊎ (e ≡ Range)) }
-    ensures range { IfErr result (λ e. e ≡ Range → (is_empty (R.cells records.old) ≡ false)
-        × IsOutOfRange (estimated (R.cells records.old) config.old.config)) }
+    ensures range { IfErr result (λ e. e ≡ Range → (is_empty (R.cells records.now) ≡ false)
+        × IsOutOfRange (estimated (R.cells records.now) config.now)) }
 {
-    let mut sizes = CompleteDimension::new(alloc);
     match plan {
-        Plan::Buffered | Plan::Streamed => Ok(sizes),
+        Plan::Buffered | Plan::Streamed => Ok(None),
         Plan::Wrapped {
             target,
             words,
@@ -58,52 +60,55 @@ fn narrow<R: RecordsMut>(
         } => {
             let wrap = Wrap::new(target).keep_words(words);
             let wrap = wrap.priority(OrderPriority::new(order));
-            TableOption::change(wrap, records, config, &mut sizes)?;
+            let wrapped = wrap.narrowed(records, config, sizes)?;
             sizes.clear_height();
-            Ok(sizes)
+            Ok(wrapped)
         }
         Plan::Shortened { target, order } => {
             let truncate = Truncate::new(target).priority(OrderPriority::new(order));
-            TableOption::change(truncate, records, config, &mut sizes)?;
-            Ok(sizes)
+            let truncated = truncate.narrowed(records, config, sizes)?;
+            Ok(truncated)
         }
     }
 }
 
 /// Wraps or truncates the cells of a table, as a plan says, and prints it.
-fn print_narrowed<R: RecordsMut + Drop, S: TextSink>(
+fn print_narrowed<R: PeekableRecords, S: TextSink>(
     alloc: Global,
-    mut records: R,
-    mut config: ColoredConfig,
+    rows: &R,
+    config: &SpannedConfig,
     plan: Plan,
     sink: &mut S,
 ) -> Result<(), TableError>
-    requires texts { AreTexts (R.cells records) }
-    requires rectangular { IsRectangular (R.cells records) }
-    ensures { IsRenderedOf (measured plan) (estimated (R.cells records) config.config)
+    requires texts { AreTexts (R.cells rows.now) }
+    requires rectangular { IsRectangular (R.cells rows.now) }
+    ensures { IsRenderedOf (measured plan) (estimated (R.cells rows.now) config.now)
         (S.sent sink.old) result (S.sent sink.new) }
 {
-    let sizes = narrow(alloc, plan, &mut records, &mut config)?;
-    print_standing(sink, &records, config.as_ref(), &sizes)
+    let mut sizes = CompleteDimension::new(alloc);
+    match narrow(plan, rows, config, &mut sizes)? {
+        Some(cells) => print_standing(sink, &cells, config, &sizes),
+        None => print_standing(sink, rows, config, &sizes),
+    }
 }
 
 /// Prints the table of some records and settings under a plan. Measures all of it first.
 fn print_measured<R: PeekableRecords, S: TextSink>(
     alloc: Global,
     rows: &R,
-    config: ColoredConfig,
+    config: &SpannedConfig,
     plan: Plan,
     sink: &mut S,
 ) -> Result<(), TableError>
     requires texts { AreTexts (R.cells rows.now) }
     requires rectangular { IsRectangular (R.cells rows.now) }
-    ensures { IsRenderedOf (measured plan) (estimated (R.cells rows.now) config.config)
+    ensures { IsRenderedOf (measured plan) (estimated (R.cells rows.now) config.now)
         (S.sent sink.old) result (S.sent sink.new) }
 {
     match plan {
-        Plan::Buffered | Plan::Streamed => print_estimated(alloc, sink, rows, config.as_ref()),
+        Plan::Buffered | Plan::Streamed => print_estimated(alloc, sink, rows, config),
         Plan::Shortened { .. } | Plan::Wrapped { .. } => {
-            print_narrowed(alloc, ChangedRecords::new(alloc, rows)?, config, plan, sink)
+            print_narrowed(alloc, rows, config, plan, sink)
         }
     }
 }
@@ -143,7 +148,6 @@ fn print_streamed<R: PeekableRecords, S: TextSink>(
 {
     let mut sizes = CompleteDimension::new(alloc);
     sizes.estimate(rows, config)?;
-    let mut cells = ChangedRecords::new(alloc, rows)?;
     let widths = sizes.get_widths().unwrap_or(&[]);
     let transform = Truncating {
         suffix: "",
@@ -155,7 +159,7 @@ fn print_streamed<R: PeekableRecords, S: TextSink>(
         cell_filter: CellFilter::Every,
         content_sizes: &StreamedWidths { config, widths },
     };
-    change_cells(&change, &mut cells, WalkOrder::ByRow, Entity::Global)?;
+    let cells = changed_records(alloc, &change, rows)?;
     print_standing(sink, &cells, config, &sizes)
 }
 
@@ -174,8 +178,8 @@ fn may_cut(plan: Plan, text: &str) -> bool
 /// Prints tab-separated rows as a table, under a plan.
 ///
 /// A row ends at a line feed and a cell at a tab. The empty text has no rows, and short rows get
-/// empty cells. All lines of the table are equally wide, whatever the cells hold. Only the cells
-/// that are wrapped or cut are copied.
+/// empty cells. All lines of the table are equally wide, whatever the cells hold. The cells are
+/// copied only if the plan wraps or cuts some.
 ///
 /// Errors:
 /// - `Memory`: an allocation failed. Something may be written already, if the plan streams or the
@@ -196,11 +200,11 @@ pub fn render<S: TextSink>(
         return Ok(());
     }
     let rows = text_rows(alloc, text)?;
+    let config = new_config(alloc);
     if may_cut(plan, text) {
-        return print_streamed(alloc, &rows, &new_config(alloc), sink);
+        return print_streamed(alloc, &rows, &config, sink);
     }
-    let config = ColoredConfig::new(new_config(alloc));
-    print_measured(alloc, &rows, config, plan, sink)
+    print_measured(alloc, &rows, &config, plan, sink)
 }
 
 /// Prints tab-separated rows as a table in a style, under a plan.
@@ -226,5 +230,5 @@ pub fn render_styled<S: TextSink>(
     let mut config = ColoredConfig::new(new_config(alloc));
     TableOption::change(style, &mut (), &mut config, &mut ())?;
     let rows = text_rows(alloc, text)?;
-    print_measured(alloc, &rows, config, plan, sink)
+    print_measured(alloc, &rows, config.as_ref(), plan, sink)
 }

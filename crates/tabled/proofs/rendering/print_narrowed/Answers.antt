@@ -1,16 +1,23 @@
-use Rattle.tabled.proofs.Names.{Prints, SpannedConfig, effective, estimated, is_stored, measured, not, subst}
+use Rattle.tabled.proofs.Names.{Cells, IsMade, Option, effective, estimated, is_stored, measured, not, subst, unwrap_or}
 use Rattle.tabled.proofs.RenderedTables.{prints_made}
 use Rattle.tabled.proofs.rendering.print_narrowed.Goals as goal
 
-pub returns : goal.returns
-returns g c =
-    let sizes = c.in_ok-sizes.sizes in
-    let after = g.R.ExactRecords.cells c.narrow.new.records in
-    let config = c.args.config.config in
-    let old = g.S.TextSink.sent c.args.sink.now in
-    let new = g.S.TextSink.sent c.print_standing.new.sink in
-    let before = estimated (g.R.ExactRecords.cells c.args.records) config in
-    let prints = subst (λ (d : SpannedConfig). Prints (not (is_stored sizes)) (effective after d sizes) old c.print_standing.result new)
-    c.as_ref.ensures c.print_standing.ensures in
-    prints_made (measured c.args.plan) before (not (is_stored sizes)) (effective after c.narrow.new.config.config sizes) old c.print_standing.result new
-    c.in_ok-sizes.ensures.made prints
+pub returns-in-Some : goal.returns-in-Some
+returns-in-Some g c =
+    let cells = g.R.ExactRecords.cells c.args.rows.now in
+    let sizes = c.narrow.new.sizes in
+    let config = c.args.config.now in
+    let whole = estimated cells config in
+    let made = subst (λ (o : Option Cells). IsMade (measured c.args.plan) whole (effective (unwrap_or o cells) config sizes)) c.in-Some.is c.in_ok-narrow.ensures.made in
+    prints_made (measured c.args.plan) whole (not (is_stored sizes)) (effective c.in-Some.cells config sizes) (g.S.TextSink.sent c.args.sink.now)
+    c.print_standing.result (g.S.TextSink.sent c.print_standing.new.sink) made c.print_standing.ensures
+
+pub returns-in-None : goal.returns-in-None
+returns-in-None g c =
+    let cells = g.R.ExactRecords.cells c.args.rows.now in
+    let sizes = c.narrow.new.sizes in
+    let config = c.args.config.now in
+    let whole = estimated cells config in
+    let made = subst (λ (o : Option Cells). IsMade (measured c.args.plan) whole (effective (unwrap_or o cells) config sizes)) c.in-None.is c.in_ok-narrow.ensures.made in
+    prints_made (measured c.args.plan) whole (not (is_stored sizes)) (effective cells config sizes) (g.S.TextSink.sent c.args.sink.now)
+    c.print_standing-in-None.result (g.S.TextSink.sent c.print_standing-in-None.new.sink) made c.print_standing-in-None.ensures

@@ -20,16 +20,15 @@ returns g c =
     let cells = g.R.ExactRecords.cells c.args.rows.now in
     let config = c.args.config.now in
     let sizes = c.estimate.new.self in
-    let after = c.change_cells.new.records in
+    let after = c.in_ok-cells.cells in
     let filled = c.in_ok-estimate.ensures.ok in
     let wide = estimated_widths cells config in
     let stored : c.unwrap_or-widths.result.now ≡ wide =
     widths_read c.get_widths.result _ c.unwrap_or-widths.result wide
     (c.get_widths.ensures ∙ filled.widths ∙ ap (λ o. Some (unwrap_or o wide)) c.new-sizes.ensures.widths) c.unwrap_or-widths.ensures in
     let changed : AreChanged (λ row column. true) (cut_to wide config) cells after =
-    subst (λ old. AreChanged (λ row column. true) (cut_to wide config) old after) c.in_ok-cells.ensures.ok
-    (subst (λ w. AreChanged (λ row column. true) (cut_to w config) c.in_ok-cells.cells after) stored
-    (cut-changed c.unwrap_or-widths.result.now config c.in_ok-change_cells.ensures.ok)) in
+    subst (λ w. AreChanged (λ row column. true) (cut_to w config) cells after) stored
+    (cut-changed c.unwrap_or-widths.result.now config c.in_ok-cells.ensures.ok) in
     let old = g.S.TextSink.sent c.args.sink.now in
     let new = g.S.TextSink.sent c.print_standing.new.sink in
     let same = filled_in cells after config c.new-sizes.result sizes c.new-sizes.ensures.widths c.new-sizes.ensures.heights filled changed.rows (columns-changed changed) in

@@ -1,5 +1,5 @@
 use Rattle.tabled.proofs.Names.{AreTexts, Cells, IsRectangular, IsRendered, IsRenderedOf, Ok, Plan, Result, Sent, SpannedConfig, Streamed}
-use Rattle.tabled.proofs.Names.{TableError, estimated, measured, new_config, refl, subst, sym, text_rows, ◌∙◌, ◌≡◌}
+use Rattle.tabled.proofs.Names.{TableError, estimated, measured, new_config, refl, subst, sym, text_rows, ◌≡◌}
 use Rattle.tabled.proofs.PlainTexts.{rendered_measured}
 use Rattle.tabled.proofs.RenderedTables.{only_rendered, rendered_empty, rendered_new}
 use Rattle.tabled.proofs.Outputs.{text_empty, text_rectangular, texts_of_text}
@@ -40,7 +40,7 @@ returns-then-may_cut-clause-rendered g c =
     let new = g.S.TextSink.sent c.print_streamed.new.sink in
     subst (λ (p : Plan). IsRendered p cells old r new) (sym (c.if-may_cut.ensures.streamed refl))
     (rendered_new Streamed cells old r new
-    (printed_as Streamed c.in_ok-rows.rows cells _ old r new c.in_ok-rows.ensures.ok c.new_config.ensures c.print_streamed.ensures))
+    (printed_as Streamed c.in_ok-rows.rows cells _ old r new c.in_ok-rows.ensures.ok c.new_config-config.ensures c.print_streamed.ensures))
 
 pub returns-then-may_cut-clause-only : goal.returns-then-may_cut-clause-only
 returns-then-may_cut-clause-only g c =
@@ -51,8 +51,8 @@ returns-clause-rendered g c =
     let text = c.args.text.now in
     let r = c.print_measured.result in
     rendered_measured text (texts_of_text text c.utf8.text) c.args.plan (c.if-may_cut.ensures.plain refl) _ r _
-    (printed_as (measured c.args.plan) c.in_ok-rows.rows (text_rows text) c.new-config.result.config _ r _ c.in_ok-rows.ensures.ok
-    (c.new-config.ensures ∙ c.new_config-2.ensures) c.print_measured.ensures)
+    (printed_as (measured c.args.plan) c.in_ok-rows.rows (text_rows text) c.new_config-config.result _ r _ c.in_ok-rows.ensures.ok
+    c.new_config-config.ensures c.print_measured.ensures)
 
 pub returns-clause-only : goal.returns-clause-only
 returns-clause-only g c =
