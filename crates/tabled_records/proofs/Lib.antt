@@ -1,5 +1,4 @@
 pub mod BufferedRuns
-pub mod ChangedRows
 pub mod CutRuns
 pub mod Cutting
 pub mod EmptyRuns

@@ -22,7 +22,6 @@ pub use Rattle.tabled_base.specs.Cells.{IsRectangular, cell_at, columns, lengthe
 pub use Rattle.tabled_base.specs.Given.{Given}
 pub use Rattle.tabled_base.specs.RowsGiven.{RowsBegin, RowsEnd, RowsGiven}
 pub use Rattle.tabled_records.specs.Buffered.{BufBegin, cells_ahead}
-pub use Rattle.tabled_records.specs.Changed.{changed_rows, text_of}
 pub use Rattle.tabled_records.specs.CutRows.{cut_cells_steps, with_widths}
 pub use Rattle.tabled_records.specs.FirstCells.{first_cells_steps}
 pub use Rattle.tabled_records.specs.Joined.{AreKept, AreLines, IsJoined, behind, texts_from}
@@ -33,6 +32,5 @@ pub use Rattle.tabled_records.specs.LentRows.{HasNo, IsPrintable}
 pub use Rattle.tabled_records.specs.Reading.{MayGive, Reads, ReadsTo, Walked}
 pub use Rattle.tabled_records.specs.RowByRow.{AreChanged, changed_of}
 pub use Rattle.tabled_records.specs.TextRows.{cells_of, most_cells}
-pub use Rattle.tabled_records.specs.declared.changed_records.ChangedCell.TheVariants.{Same}
 pub use Rattle.tabled_records.specs.declared.limits.LaterRows.{LaterRows}
 pub use Rattle.tabled_text.specs.Measure.{greatest, lines_of, text_columns}

@@ -1,5 +1,4 @@
 pub mod Buffered
-pub mod Changed
 pub mod CutRows
 pub mod Empty
 pub mod FirstCells

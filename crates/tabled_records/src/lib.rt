@@ -8,7 +8,6 @@
 //!   a text; `JoinedRecords`, rows of texts that are appended to one buffer.
 //! - `records_writer.rt`: `RecordsWriter`, which writes `JoinedRecords` text by text.
 //! - `flat_rows.rt`: `FlatRows`, rows whose cells are in one list.
-//! - `changed_records.rt`: `ChangedRecords`, other records with some cells changed.
 //!
 //! Records that make their cells on demand:
 //!
@@ -25,7 +24,6 @@
 #![tactic(auto)]
 
 mod buffer;
-mod changed_records;
 mod empty;
 pub mod flat_rows;
 mod iter_records;
@@ -37,7 +35,6 @@ mod row_ranges;
 mod truncate;
 
 pub use buffer::{BufCells, BufRecords, BufRows};
-pub use changed_records::ChangedRecords;
 pub use empty::{EmptyCells, EmptyRecords, EmptyRows};
 pub use iter_records::IterRecords;
 pub use joined_records::{JoinedRecords, LentRows, text_rows};
