@@ -56,6 +56,16 @@ impl TextTransform for Wrapping {
     }
 
     fn apply(&self, out: &mut String, text: &str, content_size: usize) -> Result<(), AllocError> {
+        wrap_into(out, text, content_size, self.keep_words)?;
+        Ok(())
+    }
+
+    fn apply_measured(
+        &self,
+        out: &mut String,
+        text: &str,
+        content_size: usize,
+    ) -> Result<(usize, usize), AllocError> {
         wrap_into(out, text, content_size, self.keep_words)
     }
 }
