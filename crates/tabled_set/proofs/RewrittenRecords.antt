@@ -1,6 +1,6 @@
 -- Records that are written anew, cell by cell.
-use Rattle.tabled_set.proofs.Names.{AreChanged, Err, IsRectangular, List, None, Ok, Option, Result, Some, TableError, [], ap, arith}
-use Rattle.tabled_set.proofs.Names.{cases_Bool, cell_at, columns, false, if_sized, length, nat_lt, nat_tests, refl, slice_index_or}
+use Rattle.tabled_set.proofs.Names.{AreChanged, Err, IsRectangular, List, Ok, Option, Result, Some, TableError, [], ap, arith}
+use Rattle.tabled_set.proofs.Names.{cases_Bool, cell_at, columns, if_sized, length, nat_lt, nat_tests, refl, slice_index_or}
 use Rattle.tabled_set.proofs.Names.{subst, sym, true, ℕ, ⊎_elim, ◌++◌, ◌+◌, ◌<◌, ◌∙◌, ◌∷◌, ◌≡◌, ◌≤◌}
 use Rattle.std.proofs.Common.{OnOk}
 use Rattle.std.proofs.lemmas.List.{get_or_append_left, get_or_past, get_or_push, length-append}

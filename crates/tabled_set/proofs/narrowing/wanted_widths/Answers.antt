@@ -1,5 +1,5 @@
-use Rattle.tabled_set.proofs.Names.{IfErr, IfErr-weaker, Memory, NarrowingOutOfRange, Range, effective, err_from_is_err_and, false, inl}
-use Rattle.tabled_set.proofs.Names.{is_empty, is_stored, refl, rules, subst, total_width, ℕ, ◌≡◌, ◌≤◌, ◌⊎◌}
+use Rattle.tabled_set.proofs.Names.{IfErr, IfErr-weaker, Memory, NarrowingOutOfRange, Range, err_from_is_err_and, false, inl}
+use Rattle.tabled_set.proofs.Names.{is_empty, is_stored, rules, subst, ℕ, ◌≡◌, ◌⊎◌}
 use Rattle.std.proofs.lemmas.Result.{IfOk-weaker}
 use Rattle.tabled_set.specs.declared.narrowing.ColumnWidths.{ColumnWidths}
 use Rattle.tabled_set.proofs.NarrowingTables.{early-wider, fails-lacking, fits-already, has-widths, if-err, passes-before}

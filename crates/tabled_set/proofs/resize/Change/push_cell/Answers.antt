@@ -1,4 +1,4 @@
-use Rattle.tabled_set.proofs.Names.{ap, arith, cell_at, subst, sym, true, ◌++◌, ◌∙◌, ◌≡◌}
+use Rattle.tabled_set.proofs.Names.{ap, cell_at, subst, sym, true, ◌++◌, ◌∙◌, ◌≡◌}
 use Rattle.tabled_set.specs.CellChanges.{is_taken}
 use Rattle.tabled_set.specs.Truncated.{ended_text}
 use Rattle.tabled_set.proofs.RewrittenRecords.{adds-as, leaves-made}
