@@ -1,22 +1,18 @@
 //! The separator between two texts: the spaces after the first one, a vertical line, and the spaces
 //! before the second one, cached in one string.
-ghost use Rattle.std.specs.Prelude.{IfSome, true, ◌≡◌};
+ghost use Rattle.std.specs.Prelude.{IfSome, take, true, ◌≡◌};
 ghost use Rattle.std.specs.Str.{is_utf8};
 ghost use Rattle.tabled_line.specs.Row.{separator_text};
 ghost use Rattle.tabled_line.specs.Sent.{Sent, Writes};
 
 use crate::borders::write_bar;
 use crate::padding::write_spaces;
-use crate::text_sink::TextSink;
-use arrayvec::ArrayString;
+use crate::text_sink::{FixedBuffer, TextSink};
 use tabled_base::TableError;
 use tabled_config::VerticalLine;
 
 /// The number of spaces on each side of the vertical line in the cached string.
 const SPACES: usize = 64;
-
-/// The most bytes of the cached string: its spaces, and a character of at most 4 bytes.
-const SEPARATOR_BYTES: usize = 132;
 
 fn write_separator_text<S: TextSink>(sink: &mut S, bar: VerticalLine) -> Result<(), TableError>
     ensures { Writes (S.sent sink.old) result (S.sent sink.new) (separator_text bar 64 64) }
@@ -61,9 +57,9 @@ impl<'a> SeparatorText<'a> {
 #[derive(Drop)]
 pub struct ColumnSeparator {
     bar: VerticalLine,
-    buffer: ArrayString<SEPARATOR_BYTES>,
+    buffer: FixedBuffer,
     whole: bool,
-    ghost kept: { whole ≡ true → buffer.bytes ≡ separator_text bar 64 64 },
+    ghost kept: { whole ≡ true → take buffer.used buffer.bytes ≡ separator_text bar 64 64 },
 }
 
 impl ColumnSeparator {
@@ -71,7 +67,7 @@ impl ColumnSeparator {
     pub fn new(bar: VerticalLine) -> ColumnSeparator
         ensures { result.bar ≡ bar }
     {
-        let mut buffer = ArrayString::new();
+        let mut buffer = FixedBuffer::new();
         let whole = write_separator_text(&mut buffer, bar).is_ok();
         ColumnSeparator { bar, buffer, whole }
     }
@@ -85,7 +81,7 @@ impl ColumnSeparator {
         }
         Some(SeparatorText {
             bar: self.bar,
-            text: self.buffer.as_str(),
+            text: self.buffer.text(),
         })
     }
 }

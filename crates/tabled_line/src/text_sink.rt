@@ -2,12 +2,12 @@
 //! the text of a line. `String` and `Vec<u8>` are sinks whose only error is `Memory`: an allocation
 //! failed.
 ghost use Rattle.std.specs.Prelude.{IfErr, None, Some, [], false, if◌then◌else◌, is_ok, min};
-ghost use Rattle.std.specs.Prelude.{string_bytes, ◌+◌, ◌≡◌};
+ghost use Rattle.std.specs.Prelude.{string_bytes, take, true, ◌+◌, ◌≡◌, ◌≤◌};
+ghost use Rattle.std.specs.Str.{is_utf8};
 ghost use Rattle.tabled_base.specs.declared.error.TableError.TheVariants.{Memory, Writer};
 ghost use Rattle.tabled_line.specs.Sent.{Sent, Took, Writes, memory_sent};
 ghost use Rattle.tabled_line.specs.WriterSent.{io_sink_sent, writer_sink_sent};
 
-use arrayvec::ArrayString;
 use std::alloc::Global;
 use std::io::Write;
 use tabled_base::TableError;
@@ -161,35 +161,66 @@ impl<'a, W: Write> TextSink for WriterSink<'a, W> {
     }
 }
 
-/// A sink without allocation. A text that doesn't fit fails with `Memory`, and nothing of it is
-/// added.
-impl<const CAP: usize> TextSink for ArrayString<CAP> {
-    ghost sent = { λ s. memory_sent s.bytes };
-
-    fn write_text(&mut self, text: &str) -> Result<(), TableError>
-        ensures written { Writes (memory_sent self.old.bytes) result (memory_sent self.new.bytes)
-            text.now }
-        ensures only { IfErr result (λ e. e ≡ Memory) }
-    {
-        match self.try_push_str(text) {
-            Ok(()) => Ok(()),
-            Err(_) => Err(TableError::Memory),
-        }
-    }
-}
-
-/// The capacity of a `LineBuffer` without an allocator, in bytes.
+/// The capacity of a `FixedBuffer`, in bytes.
 const FIXED_BYTES: usize = 1024;
 
 /// The most bytes that a `LineBuffer` allocates. A longer line isn't worth the memory, and a table
 /// can be wider than memory is large.
 const MOST_BYTES: usize = 1_048_576;
 
+/// A sink of 1024 bytes without allocation. A text that doesn't fit fails with `Memory`, and
+/// nothing of it is added.
+#[derive(Drop)]
+pub struct FixedBuffer {
+    bytes: [u8; FIXED_BYTES],
+    used: usize,
+    ghost within: { used ≤ 1024 },
+    ghost utf8: { is_utf8 (take used bytes) ≡ true },
+}
+
+impl FixedBuffer {
+    /// Returns an empty buffer.
+    pub fn new() -> FixedBuffer
+        ensures { result.used ≡ 0 }
+    {
+        FixedBuffer {
+            bytes: [0; FIXED_BYTES],
+            used: 0,
+        }
+    }
+
+    /// Returns the text in the buffer.
+    pub fn text(&self) -> &str
+        ensures { result.now ≡ take self.now.used self.now.bytes }
+    {
+        // Sound: only texts are added.
+        unsafe { std::str::from_utf8_unchecked(&self.bytes[..self.used]) }
+    }
+}
+
+impl TextSink for FixedBuffer {
+    ghost sent = { λ r. memory_sent (take r.used r.bytes) };
+
+    fn write_text(&mut self, text: &str) -> Result<(), TableError>
+        ensures written { Writes (memory_sent (take self.old.used self.old.bytes)) result
+            (memory_sent (take self.new.used self.new.bytes)) text.now }
+        ensures only { IfErr result (λ e. e ≡ Memory) }
+    {
+        if text.len() > FIXED_BYTES - self.used {
+            return Err(TableError::Memory);
+        }
+        let end = self.used + text.len();
+        self.bytes[self.used..end].copy_from_slice(text.as_bytes());
+        self.used = end;
+        Ok(())
+    }
+}
+
 /// A sink that holds up to 1 MiB with an allocator, and 1 KiB without one.
 #[derive(Drop)]
 pub enum LineBuffer {
     /// Without an allocator.
-    Fixed(ArrayString<FIXED_BYTES>),
+    Fixed(FixedBuffer),
     /// With an allocator.
     Grown(String),
 }
@@ -203,7 +234,7 @@ impl LineBuffer {
     {
         match memory {
             Some(alloc) => LineBuffer::Grown(String::new(alloc)),
-            None => LineBuffer::Fixed(ArrayString::new()),
+            None => LineBuffer::Fixed(FixedBuffer::new()),
         }
     }
 
@@ -212,7 +243,7 @@ impl LineBuffer {
         ensures { buffer_text self.new ≡ [] }
     {
         match self {
-            LineBuffer::Fixed(buffer) => buffer.clear(),
+            LineBuffer::Fixed(buffer) => buffer.used = 0,
             LineBuffer::Grown(text) => text.clear(),
         }
     }
@@ -222,7 +253,7 @@ impl LineBuffer {
         ensures { result.now ≡ buffer_text self.now }
     {
         match self {
-            LineBuffer::Fixed(buffer) => buffer.as_str(),
+            LineBuffer::Fixed(buffer) => buffer.text(),
             LineBuffer::Grown(text) => text.as_str(),
         }
     }
