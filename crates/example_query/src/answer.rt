@@ -34,8 +34,16 @@ impl<'a, S: Alter> Answer<'a, S> {
         failure: &'a mut Option<Error>,
     ) -> Result<Answer<'a, S>> {
         let statement = connection.prepare(query)?;
-        let mut first = Vec::new(alloc);
-        first.push(names_of(alloc, &statement)?)?;
+        Answer::of_statement(alloc, connection, &statement, failure)
+    }
+
+    fn of_statement(
+        alloc: Global,
+        connection: &'a mut Connection<S>,
+        statement: &Statement,
+        failure: &'a mut Option<Error>,
+    ) -> Result<Answer<'a, S>> {
+        let first = header_of(alloc, statement)?;
         Ok(Answer {
             alloc,
             first: first.into_iter(),
@@ -94,7 +102,14 @@ impl<S: Alter> Iterator for Answer<'_, S> {
     }
 }
 
-/// The names of a statement's columns.
+/// The names of a statement's columns, as the only row.
+fn header_of(alloc: Global, statement: &Statement) -> Result<Vec<Vec<String>>> {
+    let names = names_of(alloc, statement)?;
+    let mut rows = Vec::new(alloc);
+    rows.push(names)?;
+    Ok(rows)
+}
+
 fn names_of(alloc: Global, statement: &Statement) -> Result<Vec<String>> {
     let mut names = Vec::new(alloc);
     for name in statement.column_names() {

@@ -17,7 +17,6 @@ use std::alloc::Global;
 use std::io::{self, BufWriter, Write};
 use std::{env, fs};
 use tabled::builder::Builder;
-use tabled::grid::records::{CellText, IntoRecords};
 use tabled::settings::Style;
 use tabled::tables::IterTable;
 use tabled::{IoSink, Table, TableError};
@@ -97,28 +96,24 @@ fn end_line<W: Write>(out: &mut W) -> io::Result<()> {
 }
 
 /// Prints all rows, once they are read.
-fn put_all<I: IntoRecords, W: Write>(alloc: Global, rows: I, out: &mut W) -> Result<(), TableError>
-where
-    I::Cell: CellText + Drop,
-    requires { I.ends rows }
-{
-    let mut table = Table::from(Builder::from_iter(alloc, rows)?);
+fn put_all<S: Alter, W: Write>(
+    alloc: Global,
+    answer: Answer<'_, S>,
+    out: &mut W,
+) -> Result<(), TableError> {
+    let mut table = Table::from(Builder::from_iter(alloc, answer)?);
     table.apply(Style::modern())?;
     table.write_to(&mut IoSink::new(&mut *out))
 }
 
 /// Prints rows as they come, of which some are read ahead.
-fn put_stream<I: IntoRecords + Drop, W: Write>(
+fn put_stream<S: Alter, W: Write>(
     alloc: Global,
-    rows: I,
+    answer: Answer<'_, S>,
     ahead: usize,
     out: &mut W,
-) -> Result<(), TableError>
-where
-    I::Cell: CellText + Drop,
-    requires { I.ends rows }
-{
-    let mut table = IterTable::new(rows);
+) -> Result<(), TableError> {
+    let mut table = IterTable::new(answer);
     table.sniff(ahead);
     table.apply(Style::modern())?;
     table.build(alloc, out)
