@@ -12,9 +12,9 @@ ghost use Rattle.tabled_table.specs.Stream.Streams.{ArePermitted, Streams, strea
 ghost use Rattle.tabled_text.specs.Measure.{text_columns};
 
 use crate::iter_table::layout::Layout;
-use crate::iter_table::stream::Stream;
 use crate::iter_table::row::StreamColumns;
 use crate::iter_table::settings::{StreamSettings, first_rows, up_to};
+use crate::iter_table::stream::Stream;
 use std::alloc::{AllocError, Global};
 use tabled_base::{CellText, TableError};
 use tabled_config::{AlignmentVertical, CellStyle, CompactConfig, SpannedConfig};
