@@ -10,22 +10,22 @@ use Rattle.tabled.proofs.rendering.narrow.Goals as goal
 out_of_range : (Q R : Type 0) (e : TableError) → (e ≡ Memory) ⊎ ((e ≡ Range) × R) → (R → Q) → e ≡ Range → Q
 out_of_range Q R e cause so r = ⊎_elim (λ m. let bad : ⊥ = cc in absurd bad) (λ h. so h.1) cause
 
-pub returns-in_err-wrapped-clause-range : goal.returns-in_err-wrapped-clause-range
-returns-in_err-wrapped-clause-range g c =
+pub returns-in_err-wrapped-in-Wrapped-clause-range : goal.returns-in_err-wrapped-in-Wrapped-clause-range
+returns-in_err-wrapped-in-Wrapped-clause-range g c =
     range_only _ _ c.from_residual.ensures.1
-    (out_of_range _ _ _ c.in_err-wrapped.ensures.only
+    (out_of_range _ _ _ c.in_err-wrapped-in-Wrapped.ensures.only
     (λ over. (over.0, passes _ _ c.args.config.now c.args.sizes.now c.requires.no_widths c.requires.no_heights over)))
 
-pub returns-in_err-truncated-clause-range : goal.returns-in_err-truncated-clause-range
-returns-in_err-truncated-clause-range g c =
-    range_only _ _ c.from_residual-in_err-truncated.ensures.1
-    (out_of_range _ _ _ c.in_err-truncated.ensures.only
+pub returns-in_err-truncated-in-Shortened-clause-range : goal.returns-in_err-truncated-in-Shortened-clause-range
+returns-in_err-truncated-in-Shortened-clause-range g c =
+    range_only _ _ c.from_residual-in_err-truncated-in-Shortened.ensures.1
+    (out_of_range _ _ _ c.in_err-truncated-in-Shortened.ensures.only
     (λ over. (over.0, passes _ _ c.args.config.now c.args.sizes.now c.requires.no_widths c.requires.no_heights over)))
 
-pub returns-in_ok-wrapped-clause-made : goal.returns-in_ok-wrapped-clause-made
-returns-in_ok-wrapped-clause-made g c =
+pub returns-in_ok-wrapped-in-Wrapped-clause-made : goal.returns-in_ok-wrapped-in-Wrapped-clause-made
+returns-in_ok-wrapped-in-Wrapped-clause-made g c =
     let cells = g.R.ExactRecords.cells c.args.records.now in
-    let after = unwrap_or c.in_ok-wrapped.wrapped cells in
+    let after = unwrap_or c.in_ok-wrapped-in-Wrapped.wrapped cells in
     let none = c.args.sizes.now in
     let left = c.narrowed.new.dims in
     let last = c.clear_height.new.self in
@@ -36,13 +36,13 @@ returns-in_ok-wrapped-clause-made g c =
     let config = c.args.config.now in
     let cleared : AreCleared (Some (Row 0)) left last = record { widths = c.clear_height.ensures.widths; heights = c.clear_height.ensures.heights } in
     let made = wrapped w.priority start w.size cells after config none left last c.requires.no_widths c.requires.no_heights
-    c.requires.rectangular c.requires.texts w.transform.keep_words c.in_ok-wrapped.ensures.ok cleared (c.in_ok-wrapped.ensures.promised last cleared) in
+    c.requires.rectangular c.requires.texts w.transform.keep_words c.in_ok-wrapped-in-Wrapped.ensures.ok cleared (c.in_ok-wrapped-in-Wrapped.ensures.promised last cleared) in
     subst (λ (p : Plan). IsMade p (estimated cells config) (effective after config last)) (plan ∙ sym (ap measured c.in-Wrapped.is)) made
 
-pub returns-in_ok-truncated-clause-made : goal.returns-in_ok-truncated-clause-made
-returns-in_ok-truncated-clause-made g c =
+pub returns-in_ok-truncated-in-Shortened-clause-made : goal.returns-in_ok-truncated-in-Shortened-clause-made
+returns-in_ok-truncated-in-Shortened-clause-made g c =
     let cells = g.R.ExactRecords.cells c.args.records.now in
-    let after = unwrap_or c.in_ok-truncated.truncated cells in
+    let after = unwrap_or c.in_ok-truncated-in-Shortened.truncated cells in
     let none = c.args.sizes.now in
     let last = c.narrowed-in-Shortened.new.dims in
     let w = c.priority-truncate.result in
@@ -58,14 +58,14 @@ returns-in_ok-truncated-clause-made g c =
     subst (λ m. Narrows Shrinks w.priority (if_wider (truncating [] Cut m)) w.size cells config none after last) multiline
     (subst (λ l. Narrows Shrinks w.priority (if_wider (truncating [] l w.transform.multiline)) w.size cells config none after last) limit
     (subst (λ x. Narrows Shrinks w.priority (if_wider (truncating x w.transform.limit w.transform.multiline)) w.size cells config none after last) suffix
-    c.in_ok-truncated.ensures.ok)) in
+    c.in_ok-truncated-in-Shortened.ensures.ok)) in
     let old = effective cells config none in
     let t = effective after config last in
     let promise : TruncatesAsPromised Shrinks w.priority [] Cut false w.size old t =
     subst (λ m. TruncatesAsPromised Shrinks w.priority [] Cut m w.size old t) multiline
     (subst (λ l. TruncatesAsPromised Shrinks w.priority [] l w.transform.multiline w.size old t) limit
     (subst (λ x. TruncatesAsPromised Shrinks w.priority x w.transform.limit w.transform.multiline w.size old t) suffix
-    (c.in_ok-truncated.ensures.promised last cleared))) in
+    (c.in_ok-truncated-in-Shortened.ensures.promised last cleared))) in
     let made = truncated w.priority start w.size cells after config none last last c.requires.no_widths c.requires.no_heights
     c.requires.rectangular c.requires.texts narrows cleared promise in
     subst (λ (p : Plan). IsMade p (estimated cells config) (effective after config last)) (plan ∙ sym (ap measured c.in-Shortened.is)) made
