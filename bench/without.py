@@ -27,6 +27,10 @@ PATHS = {
     "placements": ("tabled_grid/src/column_styles.rt", "FEW_COLUMNS: usize = 128;", "FEW_COLUMNS: usize = 1;"),
     # Tables of few columns have few cursors.
     "cursors": ("tabled_line/src/cursor.rt", "FEW_CURSORS: usize = 64;", "FEW_CURSORS: usize = 1;"),
+    # The bar between two texts is kept with spaces around it.
+    "separator": ("tabled_line/src/separator.rt", "ColumnSeparator { bar, buffer, whole }", "ColumnSeparator { bar, buffer, whole: whole && false }"),
+    # Spaces and dashes are written 64 at a time.
+    "spaces": ("tabled_line/src/padding.rt", "        let part = left.min(64);", "        let part = left.min(1);"),
     # The program writes 64 KiB at once. For `compare.py`, over a `tabprint` that was built in the copy.
     "blocks": ("tabled/src/block_buffer.rt", "BLOCK: usize = 1 << 16;", "BLOCK: usize = 1 << 10;"),
 }
