@@ -6,9 +6,10 @@ use Rattle.tabled_text.proofs.Names.{is_kept, is_lam, is_ligature_transparent, i
 use Rattle.tabled_text.proofs.Names.{joined_or, joining_type, joining_type_eq, joins, kind, max, nat_le, nat_tests, not, not-false, of_kind}
 use Rattle.tabled_text.proofs.Names.{past_emoji, past_selectors, plain, read_before, refl, single, skips_marks, step, str_width, subst}
 use Rattle.tabled_text.proofs.Names.{sum_by-cons, true, ℕ, ◌&&◌, ◌+◌, ◌==◌, ◌∷◌, ◌≡◌, ◌≤◌}
+use Rattle.unicode_width.specs.Width.{with_joiner}
+use Rattle.tabled_text.proofs.Basics.{cond-cases}
 use Rattle.unicode_width.specs.declared.kind.Kind.TheVariants as kinds
 use Rattle.unicode_width.specs.declared.state.After.TheVariants as states
-use Rattle.unicode_width.specs.Width.{with_joiner}
 
 -- ---- what a state keeps back
 
@@ -36,10 +37,6 @@ credit _ = 0
 pub record Bounded (m : ℕ) (r : Reading) : Type 0 where
   pub bound : r.0 + slack r.1 ≤ m
   pub covers : credit r.1.after ≤ r.0
-
-Bounded-cond : (m : ℕ) (b : Bool) (x y : Reading) → (b ≡ true → Bounded m x) → (b ≡ false → Bounded m y) → Bounded m (cond b x y)
-Bounded-cond m true x y f g = f refl
-Bounded-cond m false x y f g = g refl
 
 -- ---- a character by itself
 
@@ -79,22 +76,18 @@ IsCovered after (Some (Same, next)) = (credit next ≡ 0) × (slack_after next �
 IsCovered after (Some (One, next)) = (credit next ≤ 1) × (slack_after next ≤ slack_after after)
 IsCovered after (Some (Three, next)) = (credit next ≤ 1) × (slack_after next + 2 ≤ slack_after after)
 
-IsCovered-cond : (after : After) (b : Bool) (x y : Option (Change × After)) → IsCovered after x → IsCovered after y → IsCovered after (cond b x y)
-IsCovered-cond after true x y f g = f
-IsCovered-cond after false x y f g = g
-
 joins-covered : (after : After) (c : ℕ) → IsCovered after (joins false after c)
 unfolding joins before_alef
 joins-covered states.Alef c =
     let same : (credit states.Nothing ≡ 0) × (slack_after states.Nothing ≤ slack_after states.Alef + 1) = (refl, omega arith) in
     let mark : (credit states.Alef ≡ 0) × (slack_after states.Alef ≤ slack_after states.Alef + 1) = (refl, omega arith) in
-    IsCovered-cond states.Alef (is_lam c) _ _ same (IsCovered-cond states.Alef (((alone false c).0 == 0) && joining_type_eq (joining_type c) Transparent) _ _ mark tt)
+    cond-cases (IsCovered states.Alef) (is_lam c) _ _ (λ _. same)
+    (λ _. cond-cases (IsCovered states.Alef) (((alone false c).0 == 0) && joining_type_eq (joining_type c) Transparent) _ _ (λ _. mark) (λ _. tt))
 joins-covered _ c = grind arith
 
 -- a character of one column at least
 Bounded-joined : (m n total : ℕ) (after : After) (j : Option (Change × After)) (own : ℕ × State) → 1 ≤ n → total + slack_after after ≤ m
-    → credit after ≤ total
-    → IsCovered after j → Bounded (m + n) (added total own) → Bounded (m + n) (joined_or total j own)
+    → credit after ≤ total → IsCovered after j → Bounded (m + n) (added total own) → Bounded (m + n) (joined_or total j own)
 Bounded-joined m n total after None own some le k fair rest = rest
 Bounded-joined m n total after (Some (Less, next)) own some le k fair rest =
     let a = fair.0 in let b = fair.1 in let d = fair.2 in record { bound = omega arith; covers = omega arith }
@@ -125,8 +118,8 @@ unfolding past_selectors
 Bounded-past_selectors m c total after h le k =
     let w = with_joiner-same after in
     let a = w.slack in let b = w.credit in
-    Bounded-cond (m + char_count c) (skips_marks after && (c == 0x200D)) _ _ (λ _. record { bound = omega arith; covers = omega arith })
-    (λ _. Bounded-cond (m + char_count c) (skips_marks after && is_ligature_transparent c) _ _ (λ _. record { bound = omega arith; covers = omega arith })
+    cond-cases (Bounded (m + char_count c)) (skips_marks after && (c == 0x200D)) _ _ (λ _. record { bound = omega arith; covers = omega arith })
+    (λ _. cond-cases (Bounded (m + char_count c)) (skips_marks after && is_ligature_transparent c) _ _ (λ _. record { bound = omega arith; covers = omega arith })
     (λ _. Bounded-joined m (char_count c) total after (joins false after c) (alone false c) (count-some c) le k (joins-covered after c)
     (Bounded-alone m c total h (omega arith))))
 
@@ -140,19 +133,17 @@ pub record IsLess (s u : State) : Type 0 where
 IsLess-self : (s : State) → IsLess s s
 IsLess-self s = record { after = omega arith; emoji = omega arith; quote = omega arith; credit = omega arith }
 
-IsLess-cond : (b : Bool) (s t u : State) → IsLess s u → IsLess t u → IsLess (cond b s t) u
-IsLess-cond true s t u f g = f
-IsLess-cond false s t u f g = g
-
 pub IsLess-kept : (s : State) → IsLess (if_kept s) s
-IsLess-kept s = IsLess-cond (is_kept s.after) s plain s (IsLess-self s)
-    (record { after = omega arith; emoji = omega arith; quote = omega arith; credit = omega arith })
+IsLess-kept s = cond-cases (λ u. IsLess u s) (is_kept s.after) s plain (λ _. IsLess-self s)
+    (λ _. record { after = omega arith; emoji = omega arith; quote = omega arith; credit = omega arith })
 
-Bounded-emoji : (m n total : ℕ) (s u : State) → 1 ≤ n → IsLess u s → Bounded m (total, s) → Bounded (m + n) (total, record u { emoji = true })
+Bounded-emoji : (m n total : ℕ) (s u : State) → 1 ≤ n → IsLess u s → Bounded m (total, s)
+    → Bounded (m + n) (total, record u { emoji = true })
 Bounded-emoji m n total s u some le h =
     let a = le.after in let b = le.quote in let d = le.credit in let e = h.bound in let f = h.covers in record { bound = omega arith; covers = omega arith }
 
-Bounded-quote : (m n total : ℕ) (s u : State) → 1 ≤ n → IsLess u s → Bounded m (total, s) → Bounded (m + n) (total, record u { quote = true })
+Bounded-quote : (m n total : ℕ) (s u : State) → 1 ≤ n → IsLess u s → Bounded m (total, s)
+    → Bounded (m + n) (total, record u { quote = true })
 Bounded-quote m n total s u some le h =
     let a = le.after in let b = le.emoji in let d = le.credit in let e = h.bound in let f = h.covers in record { bound = omega arith; covers = omega arith }
 
@@ -163,19 +154,20 @@ Bounded-text m n total s u le h =
 pub flag-true : (b : Bool) → b ≡ true → flag b ≡ 1
 flag-true b h = ap flag h
 
-Bounded-in_context : (m c total : ℕ) (s : State) → nat_le c 0xA0 ≡ false → Bounded m (total, s) → Bounded (m + char_count c) (in_context false c total s)
+Bounded-in_context : (m c total : ℕ) (s : State) → nat_le c 0xA0 ≡ false → Bounded m (total, s)
+    → Bounded (m + char_count c) (in_context false c total s)
 unfolding in_context
 Bounded-in_context m c total s high h =
     let n = char_count c in
     let some = count-some c in
     let e = h.bound in let f = h.covers in
-    Bounded-cond (m + n) (c == 0xFE0F) _ _
+    cond-cases (Bounded (m + n)) (c == 0xFE0F) _ _
     (λ _. Bounded-emoji m n total s (cond (is_joined_emoji s.after) s (if_kept s)) some
-    (IsLess-cond (is_joined_emoji s.after) s (if_kept s) s (IsLess-self s) (IsLess-kept s)) h)
-    (λ _. Bounded-cond (m + n) (c == 0xFE01) _ _ (λ _. Bounded-quote m n total s (if_kept s) some (IsLess-kept s) h)
-    (λ _. Bounded-cond (m + n) (c == 0xFE0E) _ _ (λ _. Bounded-text m n total s (if_kept s) (IsLess-kept s) h)
-    (λ _. Bounded-cond (m + n) (s.text && is_text_presentation_base c) _ _ (λ _. record { bound = omega arith; covers = omega arith })
-    (λ _. Bounded-cond (m + n) (s.quote && is_quote c) _ _
+    (cond-cases (λ u. IsLess u s) (is_joined_emoji s.after) s (if_kept s) (λ _. IsLess-self s) (λ _. IsLess-kept s)) h)
+    (λ _. cond-cases (Bounded (m + n)) (c == 0xFE01) _ _ (λ _. Bounded-quote m n total s (if_kept s) some (IsLess-kept s) h)
+    (λ _. cond-cases (Bounded (m + n)) (c == 0xFE0E) _ _ (λ _. Bounded-text m n total s (if_kept s) (IsLess-kept s) h)
+    (λ _. cond-cases (Bounded (m + n)) (s.text && is_text_presentation_base c) _ _ (λ _. record { bound = omega arith; covers = omega arith })
+    (λ _. cond-cases (Bounded (m + n)) (s.quote && is_quote c) _ _
     (λ y. let q = flag-true s.quote (and_parts s.quote (is_quote c) y).0 in record { bound = omega arith; covers = omega arith })
     (λ _. Bounded-past_selectors m c total s.after high (omega arith) f)))))
 
@@ -185,10 +177,10 @@ Bounded-past_emoji m c total s h =
     let n = char_count c in
     let some = count-some c in
     let e = h.bound in let f = h.covers in
-    Bounded-cond (m + n) (c == 0x0A) _ _ (λ _. record { bound = omega arith; covers = omega arith })
-    (λ _. Bounded-cond (m + n) ((c == 0x0D) && is_line_feed s.after) _ _ (λ _. record { bound = omega arith; covers = omega arith })
-    (λ _. Bounded-cond (m + n) (nat_le c 0xA0) _ _ (λ _. record { bound = omega arith; covers = omega arith })
-    (λ high. Bounded-cond (m + n) (is_plain s) _ _ (λ _. Bounded-alone m c total high (omega arith)) (λ _. Bounded-in_context m c total s high h))))
+    cond-cases (Bounded (m + n)) (c == 0x0A) _ _ (λ _. record { bound = omega arith; covers = omega arith })
+    (λ _. cond-cases (Bounded (m + n)) ((c == 0x0D) && is_line_feed s.after) _ _ (λ _. record { bound = omega arith; covers = omega arith })
+    (λ _. cond-cases (Bounded (m + n)) (nat_le c 0xA0) _ _ (λ _. record { bound = omega arith; covers = omega arith })
+    (λ high. cond-cases (Bounded (m + n)) (is_plain s) _ _ (λ _. Bounded-alone m c total high (omega arith)) (λ _. Bounded-in_context m c total s high h))))
 
 joined_or_two : (b : Bool) → cond b 0 2 ≤ 2
 joined_or_two b = grind arith
@@ -202,9 +194,9 @@ Bounded-step m c (total, s) h =
     let kept = IsLess-kept s in
     let a = kept.after in let q = kept.quote in let d = kept.credit in
     let two = joined_or_two (is_joined_emoji s.after) in
-    Bounded-cond (m + n) (not s.emoji) _ _ (λ _. Bounded-past_emoji m c total s h)
+    cond-cases (Bounded (m + n)) (not s.emoji) _ _ (λ _. Bounded-past_emoji m c total s h)
     (λ y. let j = flag-true s.emoji (not-false s.emoji y) in
-    Bounded-cond (m + n) (is_emoji_variation_base c) _ _ (λ _. record { bound = omega arith; covers = omega arith })
+    cond-cases (Bounded (m + n)) (is_emoji_variation_base c) _ _ (λ _. record { bound = omega arith; covers = omega arith })
     (λ _. Bounded-past_emoji m c total (record (if_kept s) { emoji = false }) (record { bound = omega arith; covers = omega arith })))
 
 pub Bounded-read_before : (cs : List ℕ) → Bounded (count_of cs) (read_before false cs (0, plain))

@@ -1,117 +1,65 @@
 -- One more character at the end of a beginning.
 use Rattle.tabled_text.proofs.Names.{All, All-cons, All-head, All-nil, All-tail, Bool, IsCharBoundary, IsCharBoundary-at_seam, IsCut}
 use Rattle.tabled_text.proofs.Names.{IsLongestReached, IsParted, IsReached, IsScalar, IsUtf8, IsUtf8-append, IsUtf8-encode, IsUtf8-nil}
-use Rattle.tabled_text.proofs.Names.{List, [], and_parts, ap, append-nil, append_assoc, arith, cases_lt, char_count, chars, chars-append}
-use Rattle.tabled_text.proofs.Names.{chars-encodes, chars-nil, chars_past_char, cond, count_of, drop, drop_at, false, last_line, last_of}
-use Rattle.tabled_text.proofs.Names.{length, length-append, length-take-le, lines_of, missing_columns, ne_eqb, onto_first, refl, replicate}
-use Rattle.tabled_text.proofs.Names.{scalars-chars, subst, suc, sum_by_push, sym, take, take-append-le, take-take, take_at, true, zero, ℕ}
-use Rattle.tabled_text.proofs.Names.{⊎_elim, ◌++◌, ◌+◌, ◌-◌, ◌<◌, ◌==◌, ◌∙◌, ◌∷◌, ◌≡◌, ◌≤◌}
-use Rattle.std.specs.Prelude.{encode_utf8, encode_utf8_all}
+use Rattle.tabled_text.proofs.Names.{List, [], and_from, and_parts, ap, append-nil, append_assoc, arith, cases_lt, char_count, chars}
+use Rattle.tabled_text.proofs.Names.{chars-append, chars-encodes, chars-nil, chars_past_char, cond, count_of, drop, drop_at, encode_utf8}
+use Rattle.tabled_text.proofs.Names.{encode_utf8_all, false, is_no_feed, last_line, last_of, length, length-append, length-take-le}
+use Rattle.tabled_text.proofs.Names.{lines_of, missing_columns, ne_eqb, not, refl, replicate, scalars-chars, subst, suc, sum_by_push, sym}
+use Rattle.tabled_text.proofs.Names.{take, take-append-le, take-take, take_at, true, zero, ℕ, ⊎_elim, ◌++◌, ◌+◌, ◌-◌, ◌<◌, ◌==◌, ◌∙◌, ◌∷◌}
+use Rattle.tabled_text.proofs.Names.{◌≡◌, ◌≤◌}
 use Rattle.std.proofs.lemmas.List.Elements.{All-push}
 use Rattle.std.proofs.lemmas.List.{length_push}
-use Rattle.tabled_text.specs.Cut.{following, IsSplit}
+use Rattle.tabled_text.specs.Cut.{IsSplit, following}
 use lib.Utf8.{scalar, scalars}
-
-abbrev onto_last : ℕ → List (List ℕ) → List (List ℕ)
-onto_last y [] = (y ∷ []) ∷ []
-onto_last y (x ∷ []) = (x ++ y ∷ []) ∷ []
-onto_last y (x ∷ z ∷ xs) = x ∷ onto_last y (z ∷ xs)
-
--- a list with a first element
-record IsCons (xs : List (List ℕ)) : Type 0 where
-  first : List ℕ
-  rest : List (List ℕ)
-  is : xs ≡ first ∷ rest
+use Rattle.tabled_text.proofs.Bridge.{add_last, begins, lines_of-feed, lines_of-last, some_line}
 
 abbrev is_feed : ℕ → Bool
 is_feed c = c == 10
-
-IsCons-onto_first : (x : ℕ) (xs : List (List ℕ)) → IsCons (onto_first x xs)
-IsCons-onto_first x [] = record { first = x ∷ []; rest = []; is = refl }
-IsCons-onto_first x (y ∷ ys) = record { first = x ∷ y; rest = ys; is = refl }
-
-IsCons-cond : (b : Bool) (xs ys : List (List ℕ)) → IsCons xs → IsCons ys → IsCons (cond b xs ys)
-IsCons-cond true xs ys p q = p
-IsCons-cond false xs ys p q = q
-
-IsCons-lines : (cs : List ℕ) → IsCons (lines_of cs)
-IsCons-lines [] = record { first = []; rest = []; is = refl }
-IsCons-lines (c ∷ cs) = IsCons-cond (is_feed c) ([] ∷ lines_of cs) (onto_first c (lines_of cs))
-    (record { first = []; rest = lines_of cs; is = refl }) (IsCons-onto_first c (lines_of cs))
-
-abbrev pushed : Bool → ℕ → List (List ℕ) → List (List ℕ)
-pushed b y S = cond b (S ++ [] ∷ []) (onto_last y S)
-
-pushed-cons : (b : Bool) (y : ℕ) (S : List (List ℕ)) → IsCons S → pushed b y ([] ∷ S) ≡ [] ∷ pushed b y S
-pushed-cons true y S h = refl
-pushed-cons false y S h = subst (λ s. onto_last y ([] ∷ s) ≡ [] ∷ onto_last y s) (sym h.is) refl
-
-onto_first-onto_last : (x y : ℕ) (s : List ℕ) (ss : List (List ℕ)) → onto_first x (onto_last y (s ∷ ss)) ≡ onto_last y (onto_first x (s ∷ ss))
-onto_first-onto_last x y s [] = refl
-onto_first-onto_last x y s (t ∷ ts) = refl
-
-pushed-onto_first : (b : Bool) (x y : ℕ) (S : List (List ℕ)) → IsCons S → onto_first x (pushed b y S) ≡ pushed b y (onto_first x S)
-pushed-onto_first true x y S h = subst (λ s. onto_first x (s ++ [] ∷ []) ≡ onto_first x s ++ [] ∷ []) (sym h.is) refl
-pushed-onto_first false x y S h = subst (λ s. onto_first x (onto_last y s) ≡ onto_last y (onto_first x s)) (sym h.is)
-    (onto_first-onto_last x y h.first h.rest)
-
-pushed-cond : (a b : Bool) (x y : ℕ) (S : List (List ℕ)) → IsCons S
-    → cond a ([] ∷ pushed b y S) (onto_first x (pushed b y S)) ≡ pushed b y (cond a ([] ∷ S) (onto_first x S))
-pushed-cond true b x y S h = sym (pushed-cons b y S h)
-pushed-cond false b x y S h = pushed-onto_first b x y S h
-
-lines_of-nil_push : (b : Bool) (y : ℕ) → cond b ([] ∷ [] ∷ []) ((y ∷ []) ∷ []) ≡ pushed b y ([] ∷ [])
-lines_of-nil_push true y = refl
-lines_of-nil_push false y = refl
-
--- the lines of a text with one more character
-pub lines_of-push : (cs : List ℕ) (y : ℕ) → lines_of (cs ++ y ∷ []) ≡ pushed (is_feed y) y (lines_of cs)
-lines_of-push [] y = lines_of-nil_push (is_feed y) y
-lines_of-push (c ∷ cs) y =
-    ap (λ s. cond (is_feed c) ([] ∷ s) (onto_first c s)) (lines_of-push cs y) ∙ pushed-cond (is_feed c) (is_feed y) c
-    y (lines_of cs) (IsCons-lines cs)
 
 last_of-push : (S : List (List ℕ)) (x : List ℕ) → last_of (S ++ x ∷ []) ≡ x
 last_of-push [] x = refl
 last_of-push (s ∷ []) x = refl
 last_of-push (s ∷ t ∷ S) x = last_of-push (t ∷ S) x
 
-last_of-onto_last : (y : ℕ) (s : List ℕ) (S : List (List ℕ)) → last_of (onto_last y (s ∷ S)) ≡ last_of (s ∷ S) ++ y ∷ []
-last_of-onto_last y s [] = refl
-last_of-onto_last y s (t ∷ []) = refl
-last_of-onto_last y s (t ∷ u ∷ S) = last_of-onto_last y t (u ∷ S)
+last_of-added : (xs s : List ℕ) (S : List (List ℕ)) → last_of (add_last (s ∷ S) xs) ≡ last_of (s ∷ S) ++ xs
+last_of-added xs s [] = refl
+last_of-added xs s (t ∷ []) = refl
+last_of-added xs s (t ∷ u ∷ S) = last_of-added xs t (u ∷ S)
 
 All-last_of : (P : List ℕ → Type 0) (s : List ℕ) (S : List (List ℕ)) → All P (s ∷ S) → P (last_of (s ∷ S))
 All-last_of P s [] h = All-head P s [] h
 All-last_of P s (t ∷ S) h = All-last_of P t S (All-tail P s (t ∷ S) h)
 
-All-onto_last : (P : List ℕ → Type 0) (y : ℕ) (s : List ℕ) (S : List (List ℕ)) → All P (s ∷ S)
-    → P (last_of (s ∷ S) ++ y ∷ []) → All P (onto_last y (s ∷ S))
-All-onto_last P y s [] h p = All-cons P (s ++ y ∷ []) [] p (All-nil P)
-All-onto_last P y s (t ∷ S) h p = All-cons P s (onto_last y (t ∷ S)) (All-head P s (t ∷ S) h) (All-onto_last P y t S (All-tail P s (t ∷ S) h) p)
+All-added : (P : List ℕ → Type 0) (xs s : List ℕ) (S : List (List ℕ)) → All P (s ∷ S) → P (last_of (s ∷ S) ++ xs)
+    → All P (add_last (s ∷ S) xs)
+All-added P xs s [] h p = All-cons P (s ++ xs) [] p (All-nil P)
+All-added P xs s (t ∷ S) h p = All-cons P s (add_last (t ∷ S) xs) (All-head P s (t ∷ S) h) (All-added P xs t S (All-tail P s (t ∷ S) h) p)
 
 -- the last line with one more character
 pub last_line-feed : (cs : List ℕ) → last_line (cs ++ 10 ∷ []) ≡ []
-last_line-feed cs = ap last_of (lines_of-push cs 10) ∙ last_of-push (lines_of cs) []
+last_line-feed cs = ap last_of (lines_of-feed cs []) ∙ last_of-push (lines_of cs) []
+
+lines_of-push : (cs : List ℕ) (y : ℕ) → is_feed y ≡ false → lines_of (cs ++ y ∷ []) ≡ add_last (lines_of cs) (y ∷ [])
+lines_of-push cs y h = lines_of-last cs (y ∷ []) (and_from (is_no_feed y) true (ap not h) refl)
 
 pub last_line-push : (cs : List ℕ) (y : ℕ) → is_feed y ≡ false → last_line (cs ++ y ∷ []) ≡ last_line cs ++ y ∷ []
 last_line-push cs y h =
-    let k = IsCons-lines cs in
-    ap last_of (lines_of-push cs y ∙ ap (λ b. pushed b y (lines_of cs)) h)
-    ∙ subst (λ S. last_of (onto_last y S) ≡ last_of S ++ y ∷ []) (sym k.is) (last_of-onto_last y k.first k.rest)
+    let k = begins (lines_of cs) (some_line cs) in
+    ap last_of (lines_of-push cs y h)
+    ∙ subst (λ S. last_of (add_last S (y ∷ [])) ≡ last_of S ++ y ∷ []) (sym k.parts) (last_of-added (y ∷ []) k.first k.rest)
 
 All-lines_feed : (P : List ℕ → Type 0) (cs : List ℕ) → All P (lines_of cs) → P [] → All P (lines_of (cs ++ 10 ∷ []))
-All-lines_feed P cs h p = subst (All P) (sym (lines_of-push cs 10)) (All-push P (lines_of cs) [] h p)
+All-lines_feed P cs h p = subst (All P) (sym (lines_of-feed cs [])) (All-push P (lines_of cs) [] h p)
 
 All-lines_push : (P : List ℕ → Type 0) (cs : List ℕ) (y : ℕ) → is_feed y ≡ false → All P (lines_of cs)
     → P (last_line cs ++ y ∷ []) → All P (lines_of (cs ++ y ∷ []))
 All-lines_push P cs y e h p =
-    let k = IsCons-lines cs in
-    subst (All P) (sym (lines_of-push cs y ∙ ap (λ b. pushed b y (lines_of cs)) e))
-    (subst (λ S. All P S → P (last_of S ++ y ∷ []) → All P (onto_last y S)) (sym k.is) (All-onto_last P y k.first k.rest) h p)
+    let k = begins (lines_of cs) (some_line cs) in
+    subst (All P) (sym (lines_of-push cs y e))
+    (subst (λ S. All P S → P (last_of S ++ y ∷ []) → All P (add_last S (y ∷ []))) (sym k.parts) (All-added P (y ∷ []) k.first k.rest) h p)
 
 pub All-last_line : (P : List ℕ → Type 0) (cs : List ℕ) → All P (lines_of cs) → P (last_line cs)
-All-last_line P cs h = let k = IsCons-lines cs in subst (λ S. All P S → P (last_of S)) (sym k.is) (All-last_of P k.first k.rest) h
+All-last_line P cs h = let k = begins (lines_of cs) (some_line cs) in subst (λ S. All P S → P (last_of S)) (sym k.parts) (All-last_of P k.first k.rest) h
 
 pub count_of-push : (cs : List ℕ) (y : ℕ) → count_of (cs ++ y ∷ []) ≡ count_of cs + char_count y
 count_of-push cs y = sum_by_push char_count cs y
@@ -315,7 +263,8 @@ front_taken {text} front rest e = ap (λ k. take k text) (front_length front res
 pub rest_taken : {text : List ℕ} (front rest : List ℕ) → text ≡ front ++ rest → drop (length text - length rest) text ≡ rest
 rest_taken {text} front rest e = ap (λ k. drop k text) (front_length front rest e) ∙ ap (drop (length front)) e ∙ drop_at front rest (length front) refl
 
-pub front_boundary : {text : List ℕ} (front rest : List ℕ) → text ≡ front ++ rest → IsUtf8 rest → IsCharBoundary text (length text - length rest)
+pub front_boundary : {text : List ℕ} (front rest : List ℕ) → text ≡ front ++ rest → IsUtf8 rest
+    → IsCharBoundary text (length text - length rest)
 front_boundary {text} front rest e u =
     subst (IsCharBoundary text) (sym (front_length front rest e)) (IsCharBoundary-at_seam text front rest e u)
 
@@ -323,7 +272,8 @@ scalars-replicate : (n : ℕ) → scalars (replicate n 0xFFFD) ≡ true
 scalars-replicate zero = refl
 scalars-replicate (suc n) = scalars-replicate n
 
-pub chars-filled : (front : List ℕ) (n : ℕ) → IsUtf8 front → chars (front ++ encode_utf8_all (replicate n 0xFFFD)) ≡ chars front ++ replicate n 0xFFFD
+pub chars-filled : (front : List ℕ) (n : ℕ) → IsUtf8 front
+    → chars (front ++ encode_utf8_all (replicate n 0xFFFD)) ≡ chars front ++ replicate n 0xFFFD
 chars-filled front n u = chars-append front (encode_utf8_all (replicate n 0xFFFD)) u ∙ ap
     (λ l. chars front ++ l) (chars-encodes (replicate n 0xFFFD) (scalars-replicate n))
 

@@ -26,7 +26,8 @@ taken_front n text front rest one = ap (take (length front)) one.parts ∙ take_
 dropped_front : (n : ℕ) (text front rest : List ℕ) → IsLongestReached n text front rest → drop (length front) text ≡ rest
 dropped_front n text front rest one = ap (drop (length front)) one.parts ∙ drop_at front rest (length front) refl
 
-same_fronts : (n : ℕ) (text front rest front' rest' : List ℕ) → IsLongestReached n text front rest → IsLongestReached n text front' rest' → front ≡ front'
+same_fronts : (n : ℕ) (text front rest front' rest' : List ℕ) → IsLongestReached n text front rest → IsLongestReached n text front' rest'
+    → front ≡ front'
 same_fronts n text front rest front' rest' one other =
     sym (taken_front n text front rest one) ∙ ap (λ k. take k text) (same_front n text front rest front' rest' one other) ∙ taken_front n text front' rest' other
 

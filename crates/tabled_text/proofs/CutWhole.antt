@@ -1,14 +1,13 @@
 -- A text of at most n bytes is cut to itself: no character counts more columns than it has bytes.
-use Rattle.tabled_text.proofs.Names.{IsCut, IsParted, IsReached, IsUtf8, Kind, List, [], alone, ap, arith, cases_Bool, cases_lt}
-use Rattle.tabled_text.proofs.Names.{char_columns, char_count, char_width, chars, chars-nil, count_of, encode_utf8, encode_utf8_all}
-use Rattle.tabled_text.proofs.Names.{encodes-chars, eqb-false, eqb-true, false, inl, inr, kind, last_line, len_utf8, len_utf8_bounds}
-use Rattle.tabled_text.proofs.Names.{length, length-append, length-encode, nat_tests, of_kind, refl, single, subst, sum_by-cons, sym}
-use Rattle.tabled_text.proofs.Names.{width_or_zero-le, ℕ, ⊎_elim, ◌++◌, ◌+◌, ◌<◌, ◌==◌, ◌∙◌, ◌∷◌, ◌≡◌, ◌≤◌}
-use Rattle.std.proofs.Common.{append-nil, append_assoc}
-use Rattle.unicode_width.specs.declared.kind.Kind.TheVariants as kinds
+use Rattle.tabled_text.proofs.Names.{IsCut, IsParted, IsReached, IsUtf8, Kind, List, [], alone, ap, append-nil, append_assoc, arith}
+use Rattle.tabled_text.proofs.Names.{cases_Bool, cases_lt, char_columns, char_count, char_width, chars, chars-nil, count_of, encode_utf8}
+use Rattle.tabled_text.proofs.Names.{encode_utf8_all, encodes-chars, eqb-false, eqb-true, false, inl, inr, kind, last_line, len_utf8}
+use Rattle.tabled_text.proofs.Names.{len_utf8_bounds, length, length-append, length-encode, nat_tests, of_kind, refl, single, subst}
+use Rattle.tabled_text.proofs.Names.{sum_by-cons, sym, width_or_zero-le, ℕ, ⊎_elim, ◌++◌, ◌+◌, ◌<◌, ◌==◌, ◌∙◌, ◌∷◌, ◌≡◌, ◌≤◌}
 use Rattle.tabled_text.proofs.CountBound.{count-some}
 use Rattle.tabled_text.proofs.CutLemmas.{IsCut-filled, IsReached-feed, IsReached-nil, IsReached-push, count_of-push, last_line-feed}
 use Rattle.tabled_text.proofs.CutLemmas.{last_line-push, longest_at_end}
+use Rattle.unicode_width.specs.declared.kind.Kind.TheVariants as kinds
 
 -- only one character takes three columns, and it has three bytes
 single-two : (c : ℕ) → (c == 0x17D8) ≡ false → (single false c).0 ≤ 2
@@ -45,7 +44,8 @@ count_of-encoded (c ∷ cs) =
 pub count_of-bytes : (text : List ℕ) → IsUtf8 text → count_of (chars text) ≤ length text
 count_of-bytes text u = omega (arith, count_of-encoded (chars text), ap length (encodes-chars text u))
 
-reached-on : (n : ℕ) (front rest : List ℕ) → IsReached n front → count_of (last_line front) + count_of rest ≤ n → IsReached n (front ++ rest)
+reached-on : (n : ℕ) (front rest : List ℕ) → IsReached n front → count_of (last_line front) + count_of rest ≤ n
+    → IsReached n (front ++ rest)
 reached-on n front [] r le = subst (IsReached n) (sym (append-nil front)) r
 reached-on n front (c ∷ rest) r le =
     let sum = sum_by-cons char_count c rest in

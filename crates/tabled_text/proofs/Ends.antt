@@ -1,12 +1,11 @@
 -- Texts that begin or end apart, by bytes, and lines that are joined of them.
 use Rattle.tabled_text.proofs.Names.{Bool, EndsApart, IsAdditiveColumn, IsFrame, IsLine, IsUtf8, IsUtf8-nil, List, [], and_from, and_parts}
-use Rattle.tabled_text.proofs.Names.{ap, append-nil, arith, begins_apart, begins_with_selector, chars, chars-append, chars-nil, columns_of}
-use Rattle.tabled_text.proofs.Names.{encode_utf8, ends_before, false, has_plain_width, is_additive, is_keycap_base, is_listed_or_drawn}
-use Rattle.tabled_text.proofs.Names.{is_no_feed, is_separator, is_simple, line_columns, list_all, nat_tests, not, or_left, or_right, refl}
-use Rattle.tabled_text.proofs.Names.{stands_before, str_width, subst, sym, true, ℕ, ◌&&◌, ◌++◌, ◌+◌, ◌<◌, ◌==◌, ◌∙◌, ◌∷◌, ◌≡◌}
-use Rattle.std.proofs.Common.{append_assoc}
-use Rattle.tabled_text.proofs.LineLaws.{chars-one, line-append, line-one}
-use Rattle.tabled_text.proofs.SeparatorLaws.{begins_apart-separators, ends_before-separators}
+use Rattle.tabled_text.proofs.Names.{ap, append-nil, append_assoc, arith, begins_apart, begins_with_selector, chars, chars-append}
+use Rattle.tabled_text.proofs.Names.{chars-nil, columns_of, encode_utf8, ends_before, false, has_plain_width, is_additive, is_keycap_base}
+use Rattle.tabled_text.proofs.Names.{is_listed_or_drawn, is_no_feed, is_separator, is_simple, line_columns, list_all, nat_tests, not}
+use Rattle.tabled_text.proofs.Names.{or_left, or_right, refl, stands_before, str_width, subst, sym, true, ℕ, ◌&&◌, ◌++◌, ◌+◌, ◌<◌, ◌==◌}
+use Rattle.tabled_text.proofs.Names.{◌∙◌, ◌∷◌, ◌≡◌}
+use Rattle.tabled_text.proofs.LineLaws.{begins_apart-separators, chars-one, ends_before-separators, line-append, line-one}
 
 pub line-as : {line : List ℕ} {m n : ℕ} → IsLine line m → m ≡ n → IsLine line n
 line-as {line} p e = subst (λ k. IsLine line k) e p

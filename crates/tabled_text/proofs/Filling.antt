@@ -1,11 +1,21 @@
--- The walk that adds unit to unit, as a function, and that it gives the fullest breaking.
-use Rattle.tabled_text.proofs.Names.{All, All-cons, All-head, All-nil, All-tail, AreFullest, Bool, Fits, IsFullest, IsGrouping, List}
-use Rattle.tabled_text.proofs.Names.{TextUnit, [], ap, append-nil, append_all, append_assoc, append_text, append_used, arith, cases_Bool}
-use Rattle.tabled_text.proofs.Names.{cond, false, flat_map, le-leb, leb-false, leb-true, length, length-append, lt-leb, nat_le, nat_tests}
-use Rattle.tabled_text.proofs.Names.{needed, refl, shown, subst, sum_by-cons, sum_by_push, sym, text_from, text_of_groups, true, used_after}
-use Rattle.tabled_text.proofs.Names.{width_of, ℕ, ⊎_elim, ◌++◌, ◌+◌, ◌<◌, ◌∙◌, ◌∷◌, ◌≡◌, ◌≤◌}
+-- The walk that adds unit to unit, as a function: it gives the fullest breaking. And the bytes that one more unit adds.
+use Rattle.tabled_text.proofs.Names.{All, All-cons, All-head, All-nil, All-tail, AllZip, AreFullest, Bool, Fits, IsFullest, IsFullestText}
+use Rattle.tabled_text.proofs.Names.{IsGrouping, IsUtf8, IsUtf8-nil, IsWrapped, List, MatchBool, TextUnit, [], ap, append-nil, append_all}
+use Rattle.tabled_text.proofs.Names.{append_assoc, append_text, append_used, arith, begin_text, cases_Bool, char_count, chars-nil}
+use Rattle.tabled_text.proofs.Names.{chars_from_encodes, columns_of, cond, encode_ascii, encode_utf8, encode_utf8_all, encodes-append}
+use Rattle.tabled_text.proofs.Names.{encodes-chars, eq-eqb, eqb-false, eqb-true, false, flat_map, inl, inr, le-leb, leb-false, leb-true}
+use Rattle.tabled_text.proofs.Names.{length, length-append, lines_of, lit<, lt-leb, map, nat_le, nat_tests, ne_eqb, needed, nil_from_length}
+use Rattle.tabled_text.proofs.Names.{pending, refl, replicate, shown, space, subst, sum_by-cons, sum_by_push, sym, text_from}
+use Rattle.tabled_text.proofs.Names.{text_of_groups, text_of_lines, true, unit_of_char, units, units_of_word, units_of_words, used_after}
+use Rattle.tabled_text.proofs.Names.{width_of, words_of, ℕ, ⊎_elim, ◌++◌, ◌+◌, ◌-◌, ◌<◌, ◌==◌, ◌∙◌, ◌∷◌, ◌≡◌, ◌≤◌, ◌⊎◌}
+use Rattle.std.proofs.lemmas.List.{replicate_more}
+use Rattle.tabled_text.specs.Walk.{begin_at}
+use Rattle.std.specs.Str.{chars}
+use Rattle.tabled_text.proofs.Basics.{cond-cases}
+use Rattle.tabled_text.proofs.Bridge.{begins-split}
 
-pub append_all-append : (n used : ℕ) (xs ys : List TextUnit) → append_all n used (xs ++ ys) ≡ append_all n used xs ++ append_all n (used_after n used xs) ys
+pub append_all-append : (n used : ℕ) (xs ys : List TextUnit)
+    → append_all n used (xs ++ ys) ≡ append_all n used xs ++ append_all n (used_after n used xs) ys
 append_all-append n used [] ys = refl
 append_all-append n used (x ∷ xs) ys = ap (λ l. append_text n used x ++ l) (append_all-append n (append_used n used x) xs ys) ∙
     sym (append_assoc (append_text n used x) (append_all n (append_used n used x) xs) (append_all n (used_after n (append_used n used x) xs) ys))
@@ -22,25 +32,18 @@ record Begins (n : ℕ) (current : List TextUnit) (groups : List (List TextUnit)
   others : List (List TextUnit)
   is : groups ≡ (current ++ more) ∷ others
 
-Begins-cond : (n : ℕ) (b : Bool) (current : List TextUnit) (p : TextUnit) (xs ys : List (List TextUnit))
-    → Begins n (current ++ p ∷ []) xs → Begins n current ys → Begins n current (cond b xs ys)
-Begins-cond n true current p xs ys h g = record {
-  more = p ∷ h.more;
-  others = h.others;
-  is = h.is ∙ ap (λ l. l ∷ h.others) (append_assoc current (p ∷ []) h.more);
-}
-Begins-cond n false current p xs ys h g = g
-
 Begins-groups : (n : ℕ) (current pieces : List TextUnit) → Begins n current (groups_from n current pieces)
 Begins-groups n current [] = record { more = []; others = []; is = ap (λ l. l ∷ []) (sym (append-nil current)) }
 Begins-groups n current (p ∷ pieces) =
-    Begins-cond n (nat_le (width_of current + needed n p) n) current p (groups_from n (current ++ p ∷ []) pieces)
-    (current ∷ groups_from n (p ∷ []) pieces)
-    (Begins-groups n (current ++ p ∷ []) pieces) (record {
-      more = [];
-      others = groups_from n (p ∷ []) pieces;
-      is = ap (λ l. l ∷ groups_from n (p ∷ []) pieces) (sym (append-nil current));
+    let on = Begins-groups n (current ++ p ∷ []) pieces in
+    let next = groups_from n (p ∷ []) pieces in
+    cond-cases (Begins n current) (nat_le (width_of current + needed n p) n) (groups_from n (current ++ p ∷ []) pieces) (current ∷ next)
+    (λ _. record {
+      more = p ∷ on.more;
+      others = on.others;
+      is = on.is ∙ ap (λ l. l ∷ on.others) (append_assoc current (p ∷ []) on.more);
     })
+    (λ _. record { more = []; others = next; is = ap (λ l. l ∷ next) (sym (append-nil current)) })
 
 -- ---- its text
 text_from-push : (n used : ℕ) (g : List TextUnit) (p : TextUnit) → text_from n used (g ++ p ∷ [])
@@ -71,48 +74,45 @@ append_text-breaks n used p h = (
 text_of_groups-from : (n : ℕ) (current pieces : List TextUnit) → text_of_groups n (groups_from n current pieces)
     ≡ text_from n 0 current ++ append_all n (width_of current) pieces
 text_of_groups-from n current [] = sym (append-nil (text_from n 0 current))
-text_of_groups-from n current (p ∷ pieces) = ⊎_elim
+text_of_groups-from n current (p ∷ pieces) =
+    let whole = current ++ p ∷ [] in
+    let next = groups_from n (p ∷ []) pieces in
+    cond-cases (λ G. text_of_groups n G ≡ text_from n 0 current ++ append_all n (width_of current) (p ∷ pieces))
+    (nat_le (width_of current + needed n p) n) (groups_from n whole pieces) (current ∷ next)
     (λ yes.
     let put = append_text-fits n (width_of current) p yes in
-    ap (λ b. text_of_groups n (cond b (groups_from n (current ++ p ∷ []) pieces) (current ∷ groups_from n (p ∷ []) pieces))) yes
-    ∙ text_of_groups-from n (current ++ p ∷ []) pieces
-    ∙ ap (λ l. l ++ append_all n (width_of (current ++ p ∷ [])) pieces)
-    (text_from-push n 0 current p ∙ ap (λ k. text_from n 0 current ++ shown n k p)
-    (let e : 0 + width_of current ≡ width_of current = omega arith in e))
-    ∙ append_assoc (text_from n 0 current) (shown n (width_of current) p) (append_all n (width_of (current ++ p ∷ [])) pieces)
-    ∙ ap (λ l. text_from n 0 current ++ l) (ap (λ l. l ++ append_all n (width_of (current ++ p ∷ [])) pieces) (sym put.0)
+    let e : 0 + width_of current ≡ width_of current = omega arith in
+    text_of_groups-from n whole pieces
+    ∙ ap (λ l. l ++ append_all n (width_of whole) pieces) (text_from-push n 0 current p ∙ ap (λ k. text_from n 0 current ++ shown n k p) e)
+    ∙ append_assoc (text_from n 0 current) (shown n (width_of current) p) (append_all n (width_of whole) pieces)
+    ∙ ap (λ l. text_from n 0 current ++ l) (ap (λ l. l ++ append_all n (width_of whole) pieces) (sym put.0)
     ∙ ap (λ k. append_text n (width_of current) p ++ append_all n k pieces) (sum_by_push (λ (r : TextUnit). r.width) current p ∙ sym put.1)))
     (λ no.
     let put = append_text-breaks n (width_of current) p no in
-    ap (λ b. text_of_groups n (cond b (groups_from n (current ++ p ∷ []) pieces) (current ∷ groups_from n (p ∷ []) pieces))) no
-    ∙ join-cons n current (groups_from n (p ∷ []) pieces) (p ∷ []) (Begins-groups n (p ∷ []) pieces)
-    ∙ ap (λ l. text_from n 0 current ++ (10 ∷ l)) (text_of_groups-from n (p ∷ []) pieces ∙ ap
-    (λ l. l ++ append_all n (width_of (p ∷ [])) pieces) (append-nil (shown n 0 p)))
+    let one = sum_by-cons (λ (r : TextUnit). r.width) p [] in
+    let e : width_of (p ∷ []) ≡ append_used n (width_of current) p = omega (arith, one, put.1) in
+    join-cons n current next (p ∷ []) (Begins-groups n (p ∷ []) pieces)
+    ∙ ap (λ l. text_from n 0 current ++ (10 ∷ l)) (text_of_groups-from n (p ∷ []) pieces
+    ∙ ap (λ l. l ++ append_all n (width_of (p ∷ [])) pieces) (append-nil (shown n 0 p)))
     ∙ ap (λ l. text_from n 0 current ++ (l ++ append_all n (width_of (p ∷ [])) pieces)) (sym put.0)
-    ∙ ap (λ k. text_from n 0 current ++ (append_text n (width_of current) p ++ append_all n k pieces))
-    (let e : width_of (p ∷ []) ≡ append_used n (width_of current) p = sum_by-cons
-    (λ (r : TextUnit). r.width) p [] ∙ (let z : p.width + 0 ≡ p.width = omega arith in z) ∙ sym put.1 in e))
-    (cases_Bool (nat_le (width_of current + needed n p) n))
+    ∙ ap (λ k. text_from n 0 current ++ (append_text n (width_of current) p ++ append_all n k pieces)) e)
 
 -- ---- its groups
 flat-from : (n : ℕ) (current pieces : List TextUnit) → flat_map (λ g. g) (groups_from n current pieces) ≡ current ++ pieces
 flat-from n current [] = refl
-flat-from n current (p ∷ pieces) = ⊎_elim
-    (λ yes. ap (λ b. flat_map (λ g. g) (cond b (groups_from n (current ++ p ∷ []) pieces) (current ∷ groups_from n (p ∷ []) pieces))) yes
-    ∙ flat-from n (current ++ p ∷ []) pieces ∙ append_assoc current (p ∷ []) pieces)
-    (λ no. ap (λ b. flat_map (λ g. g) (cond b (groups_from n (current ++ p ∷ []) pieces) (current ∷ groups_from n (p ∷ []) pieces))) no
-    ∙ ap (λ l. current ++ l) (flat-from n (p ∷ []) pieces))
-    (cases_Bool (nat_le (width_of current + needed n p) n))
+flat-from n current (p ∷ pieces) =
+    cond-cases (λ G. flat_map (λ g. g) G ≡ current ++ p ∷ pieces) (nat_le (width_of current + needed n p) n)
+    (groups_from n (current ++ p ∷ []) pieces) (current ∷ groups_from n (p ∷ []) pieces)
+    (λ _. flat-from n (current ++ p ∷ []) pieces ∙ append_assoc current (p ∷ []) pieces)
+    (λ _. ap (λ l. current ++ l) (flat-from n (p ∷ []) pieces))
 
 some-from : (n : ℕ) (current pieces : List TextUnit) → 0 < length current → All (λ g. 0 < length g) (groups_from n current pieces)
 some-from n current [] h = All-cons (λ g. 0 < length g) current [] h (All-nil (λ g. 0 < length g))
-some-from n current (p ∷ pieces) h = ⊎_elim
-    (λ yes. subst (λ b. All (λ g. 0 < length g) (cond b (groups_from n (current ++ p ∷ []) pieces)
-    (current ∷ groups_from n (p ∷ []) pieces))) (sym yes)
-    (some-from n (current ++ p ∷ []) pieces (omega (arith, length-append current (p ∷ [])))))
-    (λ no. subst (λ b. All (λ g. 0 < length g) (cond b (groups_from n (current ++ p ∷ []) pieces) (current ∷ groups_from n (p ∷ []) pieces))) (sym no)
-    (All-cons (λ g. 0 < length g) current (groups_from n (p ∷ []) pieces) h (some-from n (p ∷ []) pieces (omega arith))))
-    (cases_Bool (nat_le (width_of current + needed n p) n))
+some-from n current (p ∷ pieces) h =
+    cond-cases (All (λ g. 0 < length g)) (nat_le (width_of current + needed n p) n)
+    (groups_from n (current ++ p ∷ []) pieces) (current ∷ groups_from n (p ∷ []) pieces)
+    (λ _. some-from n (current ++ p ∷ []) pieces (omega (arith, length-append current (p ∷ []))))
+    (λ _. All-cons (λ g. 0 < length g) current (groups_from n (p ∷ []) pieces) h (some-from n (p ∷ []) pieces (omega arith)))
 
 pub needed-le-line : (n : ℕ) (p : TextUnit) → 0 < n → needed n p ≤ n
 needed-le-line n p h = grind (arith, nat_tests)
@@ -121,20 +121,22 @@ Fits-push : (n used : ℕ) (g : List TextUnit) (p : TextUnit) → Fits n used g 
 Fits-push n used [] p f h = (omega arith, tt)
 Fits-push n used (q ∷ g) p f h = (f.0, Fits-push n (used + q.width) g p f.1 (omega (arith, sum_by-cons (λ (r : TextUnit). r.width) q g)))
 
-IsFull-begins : (n : ℕ) (current : List TextUnit) (p : TextUnit) (groups : List (List TextUnit))
-    → Begins n (p ∷ []) groups → Fits n 0 current → n < width_of current + needed n p → AreFullest n groups → AreFullest n (current ∷ groups)
+IsFull-begins : (n : ℕ) (current : List TextUnit) (p : TextUnit) (groups : List (List TextUnit)) → Begins n (p ∷ []) groups
+    → Fits n 0 current → n < width_of current + needed n p → AreFullest n groups → AreFullest n (current ∷ groups)
 IsFull-begins n current p groups b f h a = subst (λ G. AreFullest n G → AreFullest n (current ∷ G)) (sym b.is) (λ a. (f, h, a)) a
 
 fullest-from : (n : ℕ) (current pieces : List TextUnit) → 0 < n → Fits n 0 current → AreFullest n (groups_from n current pieces)
 fullest-from n current [] pos f = f
-fullest-from n current (p ∷ pieces) pos f = ⊎_elim
-    (λ yes. subst (λ b. AreFullest n (cond b (groups_from n (current ++ p ∷ []) pieces) (current ∷ groups_from n (p ∷ []) pieces))) (sym yes)
-    (fullest-from n (current ++ p ∷ []) pieces pos
-    (Fits-push n 0 current p f (let l = leb-true (width_of current + needed n p) n yes in omega arith))))
-    (λ no. subst (λ b. AreFullest n (cond b (groups_from n (current ++ p ∷ []) pieces) (current ∷ groups_from n (p ∷ []) pieces))) (sym no)
-    (IsFull-begins n current p (groups_from n (p ∷ []) pieces) (Begins-groups n (p ∷ []) pieces) f (leb-false (width_of current + needed n p) n no)
-    (fullest-from n (p ∷ []) pieces pos (let l = needed-le-line n p pos in (omega arith, tt)))))
-    (cases_Bool (nat_le (width_of current + needed n p) n))
+fullest-from n current (p ∷ pieces) pos f =
+    let next = groups_from n (p ∷ []) pieces in
+    cond-cases (AreFullest n) (nat_le (width_of current + needed n p) n) (groups_from n (current ++ p ∷ []) pieces) (current ∷ next)
+    (λ yes.
+    let l = leb-true (width_of current + needed n p) n yes in
+    fullest-from n (current ++ p ∷ []) pieces pos (Fits-push n 0 current p f (omega arith)))
+    (λ no.
+    let l = needed-le-line n p pos in
+    IsFull-begins n current p next (Begins-groups n (p ∷ []) pieces) f (leb-false (width_of current + needed n p) n no)
+    (fullest-from n (p ∷ []) pieces pos (omega arith, tt)))
 
 -- the first unit goes into the first group
 first-from : (n : ℕ) (p : TextUnit) (pieces : List TextUnit) → 0 < n → groups_from n [] (p ∷ pieces) ≡ groups_from n (p ∷ []) pieces
@@ -204,6 +206,190 @@ one_group n ([] ∷ []) e f = refl
 one_group n ((p ∷ g) ∷ F) e f = cc
 one_group n (g ∷ h ∷ F) e f = absurd (omega arith)
 
-pub text_is : (n : ℕ) → 0 < n → (pieces : List TextUnit) (F : List (List TextUnit)) → IsFullest n pieces F → text_of_groups n F ≡ append_all n 0 pieces
+pub text_is : (n : ℕ) → 0 < n → (pieces : List TextUnit) (F : List (List TextUnit)) → IsFullest n pieces F
+    → text_of_groups n F ≡ append_all n 0 pieces
 text_is n pos [] F f = one_group n F (f.grouping.none refl) f.grouping.whole
 text_is n pos (p ∷ pieces) F f = text_of_groups-fullest n pos F f.fullest (f.grouping.some (omega arith)) ∙ ap (append_all n 0) f.grouping.whole
+
+-- ---- the bytes that one more unit adds
+
+encodes-begin_text : (b : Bool) → encode_utf8_all (cond b [] (10 ∷ [])) ≡ cond b [] (10 ∷ [])
+encodes-begin_text true = refl
+encodes-begin_text false = ap (λ l. l ++ []) (encode_ascii 10 (lit< tt))
+
+abbrev pub unit_of : List ℕ → ℕ → TextUnit
+unit_of text width = record { text = text; width = width }
+
+pub put_word_bytes : (n used width : ℕ) (b₀ b₁ b₂ word : List ℕ) → width ≤ n → IsUtf8 word → b₁ ≡ b₀ ++ begin_text n used width
+    → b₂ ≡ b₁ ++ word → b₂ ≡ b₀ ++ encode_utf8_all (append_text n used (unit_of (chars word) width))
+put_word_bytes n used width b₀ b₁ b₂ word le u e f =
+    let fits = le-leb width n le in
+    let whole : append_text n used (unit_of (chars word) width) ≡ begin_text n used width ++ chars word =
+    ap (λ b. begin_text n used (cond b width 1) ++ cond b (chars word) (replicate (n - begin_at n used (cond b width 1)) 0xFFFD)) fits in
+    f ∙ ap (λ l. l ++ word) e ∙ append_assoc b₀ (begin_text n used width) word
+    ∙ ap (λ l. b₀ ++ l) (ap (λ l. begin_text n used width ++ l) (sym (encodes-chars word u)) ∙ ap
+    (λ l. l ++ encode_utf8_all (chars word)) (sym (encodes-begin_text (nat_le (used + width) n)))
+    ∙ sym (encodes-append (begin_text n used width) (chars word)) ∙ ap encode_utf8_all (sym whole))
+
+pub append_all-one : (n used : ℕ) (p : TextUnit) → append_text n used p ≡ append_all n used (p ∷ [])
+append_all-one n used p = sym (append-nil (append_text n used p))
+
+-- a word without a byte
+pub units_of_word-empty : (n : ℕ) (word : List ℕ) (b : Bool) → b ≡ (length word == 0) → b ≡ true → units_of_word n (chars word) ≡ []
+units_of_word-empty n word b e h =
+    ap (λ l. units_of_word n (chars l)) (nil_from_length word (eqb-true (length word) 0 (sym e ∙ h))) ∙ ap (units_of_word n) chars-nil
+
+pub short : (n : ℕ) (cs : List ℕ) → (cs ≡ [] → ⊥) → columns_of cs ≤ n → units_of_word n cs ≡ unit_of cs (columns_of cs) ∷ []
+short n [] ne le = absurd (ne refl)
+short n (c ∷ cs) ne le = ap (λ b. cond b (unit_of (c ∷ cs) (columns_of (c ∷ cs)) ∷ []) (map unit_of_char (c ∷ cs)))
+    (le-leb (columns_of (c ∷ cs)) n le)
+
+pub not_empty : (word : List ℕ) → IsUtf8 word → (length word ≡ 0 → ⊥) → chars word ≡ [] → ⊥
+not_empty word u ne e = ne (ap length (sym (encodes-chars word u) ∙ ap encode_utf8_all e))
+
+pub units_of_word-short : (n : ℕ) (word : List ℕ) (width : ℕ) (b : Bool) → IsUtf8 word → b ≡ (length word == 0) → b
+    ≡ false → width ≡ columns_of (chars word) → width ≤ n → units_of_word n (chars word) ≡ unit_of (chars word) width ∷ []
+units_of_word-short n word width b u e h w le =
+    short n (chars word) (not_empty word u (λ z. eqb-false (length word) 0 (sym e ∙ h) z)) (subst (λ k. k ≤ n) w le) ∙
+    ap (λ k. unit_of (chars word) k ∷ []) (sym w)
+
+-- a word, a space and what follows
+pub units_of_words-more : (n : ℕ) (word cs : List ℕ) → units_of_words n (word ∷ words_of cs)
+    ≡ units_of_word n word ++ space ∷ units_of_words n (words_of cs)
+units_of_words-more n word cs =
+    subst (λ ws. units_of_words n (word ∷ ws) ≡ units_of_word n word ++ space ∷ units_of_words n ws) (sym (begins-split (λ c. c == 32) cs).parts) refl
+
+pub space-is : unit_of (chars (32 ∷ [])) 1 ≡ space
+unfolding chars
+space-is = refl
+
+-- ---- lines
+encodes-feed : (b : Bool) → encode_utf8_all (cond b (10 ∷ []) []) ≡ cond b (10 ∷ []) []
+encodes-feed true = ap (λ l. l ++ []) (encode_ascii 10 (lit< tt))
+encodes-feed false = refl
+
+broken : (n : ℕ) → 0 < n → Bool → List (List ℕ) → List (List (List TextUnit))
+broken n pos words lines = map (λ line. (written_fullest n (units n words line) pos).groups) lines
+
+pub AllZip-broken : (n : ℕ) (pos : 0 < n) (words : Bool) (lines : List (List ℕ)) → AllZip
+    (λ line groups. IsFullest n (units n words line) groups) lines (map (λ line. (written_fullest n (units n words line) pos).groups) lines)
+AllZip-broken n pos words [] = tt
+AllZip-broken n pos words (line ∷ lines) = ((written_fullest n (units n words line) pos).fullest, AllZip-broken n pos words lines)
+
+pub text_of_lines-broken : (n : ℕ) (pos : 0 < n) (words : Bool) (lines : List (List ℕ)) → pending n words false lines
+    ≡ text_of_lines n (map (λ line. (written_fullest n (units n words line) pos).groups) lines)
+text_of_lines-broken n pos words [] = refl
+text_of_lines-broken n pos words (line ∷ []) = append-nil (append_all n 0 (units n words line)) ∙ (written_fullest n (units n words line) pos).text
+text_of_lines-broken n pos words (line ∷ next ∷ lines) =
+    ap (λ l. l ++ pending n words true (next ∷ lines)) (written_fullest n (units n words line) pos).text
+    ∙ ap (λ l. text_of_groups n (written_fullest n (units n words line) pos).groups ++ (10 ∷ l)) (text_of_lines-broken n pos words (next ∷ lines))
+
+pub IsWrapped-written : (n : ℕ) (words : Bool) (text out : List ℕ) → (n ≡ 0 → ⊥) → IsUtf8 out → out
+    ≡ encode_utf8_all (pending n words false (lines_of (chars text))) → IsWrapped n words text out
+IsWrapped-written n words text out ne u e =
+    let pos : 0 < n = omega arith in
+    let cs = chars text in
+    let answer : IsFullestText n words cs (chars out) = record {
+      broken = map (λ line. (written_fullest n (units n words line) pos).groups) (lines_of cs);
+      fullest = AllZip-broken n pos words (lines_of cs);
+      answered = sym (chars_from_encodes (pending n words false (lines_of cs)) out u (sym e)) ∙ text_of_lines-broken n pos words (lines_of cs);
+    } in
+    record { utf8 = u; wrapped = subst (λ b. MatchBool b (out ≡ []) (IsFullestText n words cs (chars out))) (sym (ne_eqb n 0 ne)) answer }
+
+pub IsWrapped-none : (n : ℕ) (words : Bool) (text out : List ℕ) → n ≡ 0 → out ≡ [] → IsWrapped n words text out
+IsWrapped-none n words text out z e = record {
+  utf8 = subst IsUtf8 (sym e) IsUtf8-nil;
+  wrapped = subst (λ b. MatchBool b (out ≡ []) (IsFullestText n words (chars text) (chars out))) (sym (eq-eqb n 0 z)) e;
+}
+
+-- nothing is written of the empty text
+pending-empty : (n : ℕ) (words : Bool) → pending n words false ([] ∷ []) ≡ []
+pending-empty n true = refl
+pending-empty n false = refl
+
+IsWrapped-empty : (n : ℕ) (words : Bool) (text out : List ℕ) → (n ≡ 0 → ⊥) → text ≡ [] → out ≡ [] → IsWrapped n words text out
+IsWrapped-empty n words text out pos t e =
+    let same : chars text ≡ [] = ap chars t ∙ chars-nil in
+    let written : encode_utf8_all (pending n words false (lines_of (chars text))) ≡ [] =
+    ap (λ cs. encode_utf8_all (pending n words false (lines_of cs))) same ∙ ap encode_utf8_all (pending-empty n words) in
+    IsWrapped-written n words text out pos (subst IsUtf8 (sym e) IsUtf8-nil) (e ∙ sym written)
+
+-- nor for no columns
+pub IsWrapped-nothing : (n : ℕ) (words : Bool) (text out : List ℕ) → (n ≡ 0) ⊎ (text ≡ []) → out ≡ [] → IsWrapped n words text out
+IsWrapped-nothing n words text out none e = ⊎_elim (λ z. IsWrapped-none n words text out z e)
+    (λ t. ⊎_elim (λ z. IsWrapped-none n words text out (eqb-true n 0 z) e)
+    (λ pos. IsWrapped-empty n words text out (eqb-false n 0 pos) t e) (cases_Bool (n == 0))) none
+
+-- a wrapped text is empty for no columns, and else the text of the fullest breaking
+pub wrapped-cases : (n : ℕ) (words : Bool) (text answer : List ℕ) → IsWrapped n words text answer
+    → ((n ≡ 0) × (answer ≡ [])) ⊎ ((0 < n) × IsFullestText n words (chars text) (chars answer))
+wrapped-cases n words text answer w = by_test (n == 0) refl w.wrapped
+  where
+    by_test : (b : Bool) → (n == 0) ≡ b → MatchBool b (answer ≡ []) (IsFullestText n words (chars text) (chars answer))
+        → ((n ≡ 0) × (answer ≡ [])) ⊎ ((0 < n) × IsFullestText n words (chars text) (chars answer))
+    by_test true z h = inl (eqb-true n 0 z, h)
+    by_test false z h = inr ((let ne = eqb-false n 0 z in omega arith), h)
+
+pub full_text : (n : ℕ) (words : Bool) (text answer : List ℕ) → 0 < n → IsWrapped n words text answer
+    → IsFullestText n words (chars text) (chars answer)
+full_text n words text answer pos w =
+    ⊎_elim (λ none. let zero = none.0 in absurd (omega arith)) (λ full. full.1) (wrapped-cases n words text answer w)
+
+-- ---- the same as equations of texts, for any sink
+pub encodes-word : (n used width : ℕ) (word : List ℕ) → width ≤ n → IsUtf8 word → begin_text n used width ++ word
+    ≡ encode_utf8_all (append_text n used (unit_of (chars word) width))
+encodes-word n used width word le u = put_word_bytes n used width [] (begin_text n used width) (begin_text n used width ++ word) word le u refl refl
+
+pub encodes-more : (n used : ℕ) (p : TextUnit) (pieces : List TextUnit)
+    → encode_utf8_all (append_text n used p) ++ encode_utf8_all (append_all n (append_used n used p) pieces)
+    ≡ encode_utf8_all (append_all n used (p ∷ pieces))
+encodes-more n used p pieces = sym (encodes-append (append_text n used p) (append_all n (append_used n used p) pieces))
+
+pub encodes-on : (n used : ℕ) (xs ys : List TextUnit)
+    → encode_utf8_all (append_all n used xs) ++ encode_utf8_all (append_all n (used_after n used xs) ys)
+    ≡ encode_utf8_all (append_all n used (xs ++ ys))
+encodes-on n used xs ys = sym (encodes-append (append_all n used xs) (append_all n (used_after n used xs) ys)) ∙ ap
+    encode_utf8_all (sym (append_all-append n used xs ys))
+
+pub encodes-copies : (n c : ℕ) → encode_utf8_all (replicate n c) ++ encode_utf8 c ≡ encode_utf8_all (replicate (n + 1) c)
+encodes-copies n c = ap (λ l. encode_utf8_all (replicate n c) ++ l) (sym (append-nil (encode_utf8 c))) ∙ sym
+    (encodes-append (replicate n c) (c ∷ [])) ∙ ap encode_utf8_all (replicate_more n c)
+
+encodes-begin : (n used k : ℕ) → encode_utf8_all (begin_text n used k) ≡ begin_text n used k
+encodes-begin n used k = encodes-begin_text (nat_le (used + k) n)
+
+append_text-narrow : (n used : ℕ) (p : TextUnit) → p.width ≤ n → append_text n used p ≡ begin_text n used p.width ++ p.text
+append_text-narrow n used p le = ap (λ b. begin_text n used (cond b p.width 1) ++ cond b p.text
+    (replicate (n - begin_at n used (cond b p.width 1)) 0xFFFD)) (le-leb p.width n le)
+
+append_text-wide : (n used : ℕ) (p : TextUnit) → n < p.width
+    → append_text n used p ≡ begin_text n used 1 ++ replicate (n - begin_at n used 1) 0xFFFD
+append_text-wide n used p lt = ap (λ b. begin_text n used (cond b p.width 1) ++ cond b p.text
+    (replicate (n - begin_at n used (cond b p.width 1)) 0xFFFD)) (lt-leb p.width n lt)
+
+pub encodes-narrow : (n used c count : ℕ) → count ≡ char_count c → count ≤ n
+    → begin_text n used count ++ encode_utf8 c ≡ encode_utf8_all (append_text n used (unit_of_char c))
+encodes-narrow n used c count e le =
+    let le' : char_count c ≤ n = subst (λ k. k ≤ n) e le in
+    ap (λ k. begin_text n used k ++ encode_utf8 c) e
+    ∙ sym (ap encode_utf8_all (append_text-narrow n used (unit_of_char c) le') ∙ encodes-append (begin_text n used (char_count c)) (c ∷ [])
+    ∙ ap (λ l. l ++ encode_utf8_all (c ∷ [])) (encodes-begin n used (char_count c)) ∙ ap
+    (λ l. begin_text n used (char_count c) ++ l) (append-nil (encode_utf8 c)))
+
+pub encodes-wide : (n used c count column : ℕ) → count ≡ char_count c → n < count → column ≡ begin_at n used 1
+    → begin_text n used 1 ++ encode_utf8_all (replicate (n - column) 0xFFFD) ≡ encode_utf8_all (append_text n used (unit_of_char c))
+encodes-wide n used c count column e lt at =
+    ap (λ k. begin_text n used 1 ++ encode_utf8_all (replicate (n - k) 0xFFFD)) at
+    ∙ sym (ap encode_utf8_all (append_text-wide n used (unit_of_char c) (subst (λ k. n < k) e lt)) ∙ encodes-append
+    (begin_text n used 1) (replicate (n - begin_at n used 1) 0xFFFD)
+    ∙ ap (λ l. l ++ encode_utf8_all (replicate (n - begin_at n used 1) 0xFFFD)) (encodes-begin n used 1))
+
+pub encodes-pending : (n : ℕ) (words begun : Bool) (line : List ℕ) (lines : List (List ℕ))
+    → cond begun (10 ∷ []) [] ++ (encode_utf8_all (append_all n 0 (units n words line)) ++ encode_utf8_all (pending n words true lines))
+    ≡ encode_utf8_all (pending n words begun (line ∷ lines))
+encodes-pending n words begun line lines =
+    let feed = cond begun (10 ∷ []) [] in
+    let text = append_all n 0 (units n words line) in
+    let rest = pending n words true lines in
+    sym (encodes-append feed (text ++ rest) ∙ ap (λ l. l ++ encode_utf8_all (text ++ rest)) (encodes-feed begun) ∙ ap
+    (λ l. feed ++ l) (encodes-append text rest))

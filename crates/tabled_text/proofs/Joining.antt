@@ -1,17 +1,19 @@
--- What steps do that lose no column of the count, and what is known of single characters.
-use Rattle.tabled_text.proofs.Names.{After, Bool, Change, Kind, Less, None, One, Option, Same, Some, State, Three, Transparent, [], alone}
-use Rattle.tabled_text.proofs.Names.{ap, arith, before, before_alef, cond, false, in_ranges, is_emoji_variation_base, is_indicator, is_lam}
-use Rattle.tabled_text.proofs.Names.{is_quote, joining_type, joining_type_eq, joins, kind, kind_stepped, max, nat_tests, not, of_kind}
-use Rattle.tabled_text.proofs.Names.{of_ranges, or_cases, plain, refl, single, subst, tables, true, unicode_width, zip_stepped, ℕ, ⊎_elim}
-use Rattle.tabled_text.proofs.Names.{◌&&◌, ◌+◌, ◌==◌, ◌||◌, ◌∙◌, ◌∷◌, ◌≡◌}
-use Rattle.std.proofs.Common.{eqb-true}
+-- What steps do that lose no column of the count, for a text and beside it for a beginning of it.
+use Rattle.tabled_text.proofs.Names.{After, Bool, Change, Kind, KiratAi, KiratE, Less, LineFeed, None, One, Option, Reading}
+use Rattle.tabled_text.proofs.Names.{RegionalIndicator, RegionalIndicators, Same, Some, State, Three, Transparent, [], added, alone}
+use Rattle.tabled_text.proofs.Names.{and_parts, ap, arith, before, before_alef, cases_lt, char_columns, char_count, cond, eqb-true, false}
+use Rattle.tabled_text.proofs.Names.{if_kept, in_ranges, is_emoji_variation_base, is_indicator, is_kept, is_lam, is_quote, joining_type}
+use Rattle.tabled_text.proofs.Names.{joining_type_eq, joins, kind, kind_stepped, max, nat_le, nat_tests, not, not-true, of_kind, of_ranges}
+use Rattle.tabled_text.proofs.Names.{or_cases, past_emoji, plain, refl, single, subst, sym, tables, true, unicode_width, zip_stepped, ℕ}
+use Rattle.tabled_text.proofs.Names.{⊎_elim, ◌&&◌, ◌+◌, ◌<◌, ◌==◌, ◌||◌, ◌∙◌, ◌∷◌, ◌≡◌, ◌≤◌}
 use Rattle.ucd_emoji.proofs.BinaryLemmas.{is_emoji_variation_base_stepped}
-use Rattle.ucd_table.proofs.Facts.{always, ends_by, Stepped-everywhere}
+use Rattle.ucd_table.proofs.Facts.{Stepped-everywhere, always, ends_by}
 use Rattle.ucd_table.proofs.Stepped.{Stepped}
 use Rattle.ucd_table.proofs.StepsLemmas.{rises_from}
+use Rattle.tabled_text.proofs.Basics.{cond-cases}
+use Rattle.tabled_text.proofs.CountBound.{IsLess-kept, columns-high, flag, of_kind-bound, slack, slack_after}
 use Rattle.unicode_width.specs.declared.kind.Kind.TheVariants as kinds
 use Rattle.unicode_width.specs.declared.state.After.TheVariants as states
-use Rattle.tabled_text.proofs.CountBound.{slack_after, slack}
 
 -- ---- states that are reached where no column is lost
 
@@ -42,14 +44,11 @@ IsCalm c (Some (Same, next)) = slack_after next ≡ 0
 IsCalm c (Some (One, next)) = takes_column next c ≡ true
 IsCalm c (Some (Three, next)) = true ≡ false
 
-IsCalm-cond : (c : ℕ) (b : Bool) (x y : Option (Change × After)) → IsCalm c x → IsCalm c y → IsCalm c (cond b x y)
-IsCalm-cond c true x y f g = f
-IsCalm-cond c false x y f g = g
-
 pub joins-calm : (after : After) (c : ℕ) → is_linked after ≡ false → IsCalm c (joins false after c)
 unfolding joins before_alef
 joins-calm states.Alef c h =
-    IsCalm-cond c (is_lam c) _ _ refl (IsCalm-cond c (((alone false c).0 == 0) && joining_type_eq (joining_type c) Transparent) _ _ refl tt)
+    cond-cases (IsCalm c) (is_lam c) _ _ (λ _. refl)
+    (λ _. cond-cases (IsCalm c) (((alone false c).0 == 0) && joining_type_eq (joining_type c) Transparent) _ _ (λ _. refl) (λ _. tt))
 joins-calm states.ZwjEmoji c h = absurd cc
 joins-calm states.IndicatorZwj c h = absurd cc
 joins-calm states.EvenIndicatorsZwj c h = absurd cc
@@ -101,21 +100,15 @@ pub alone-vowel : alone false 0x16D68 ≡ (1, before states.KiratAi)
 unfolding unicode_width
 alone-vowel = refl
 
-quote-1 : alone false 0x2018 ≡ (1, plain)
-unfolding unicode_width
-quote-1 = refl
+record AreSingle : Type 0 where
+  left : alone false 0x2018 ≡ (1, plain)
+  right : alone false 0x2019 ≡ (1, plain)
+  opening : alone false 0x201C ≡ (1, plain)
+  closing : alone false 0x201D ≡ (1, plain)
 
-quote-2 : alone false 0x2019 ≡ (1, plain)
+quotes : AreSingle
 unfolding unicode_width
-quote-2 = refl
-
-quote-3 : alone false 0x201C ≡ (1, plain)
-unfolding unicode_width
-quote-3 = refl
-
-quote-4 : alone false 0x201D ≡ (1, plain)
-unfolding unicode_width
-quote-4 = refl
+quotes = record { left = refl; right = refl; opening = refl; closing = refl }
 
 quote-cases : (c : ℕ) → is_quote c ≡ true → (((c == 0x2018) || (c == 0x2019)) || ((c == 0x201C) || (c == 0x201D))) ≡ true
 quote-cases c h = grind (arith, nat_tests)
@@ -126,8 +119,8 @@ quote-at c q known e = ap (alone false) (eqb-true c q e) ∙ known
 pub alone-quote : (c : ℕ) → is_quote c ≡ true → alone false c ≡ (1, plain)
 alone-quote c h =
     ⊎_elim
-    (λ single. ⊎_elim (quote-at c 0x2018 quote-1) (quote-at c 0x2019 quote-2) (or_cases (c == 0x2018) (c == 0x2019) single))
-    (λ double. ⊎_elim (quote-at c 0x201C quote-3) (quote-at c 0x201D quote-4) (or_cases (c == 0x201C) (c == 0x201D) double))
+    (λ single. ⊎_elim (quote-at c 0x2018 quotes.left) (quote-at c 0x2019 quotes.right) (or_cases (c == 0x2018) (c == 0x2019) single))
+    (λ double. ⊎_elim (quote-at c 0x201C quotes.opening) (quote-at c 0x201D quotes.closing) (or_cases (c == 0x201C) (c == 0x201D) double))
     (or_cases ((c == 0x2018) || (c == 0x2019)) ((c == 0x201C) || (c == 0x201D)) (quote-cases c h))
 
 -- ---- kinds of whole ranges
@@ -196,3 +189,159 @@ indicator-of_kind c _ h = cc
 pub alone-indicator : (c : ℕ) → is_indicator c ≡ true → alone false c ≡ (1, before states.RegionalIndicator)
 unfolding alone
 alone-indicator c h = indicator-of_kind c (kind c) (indicator-kind c h)
+
+-- ---- a beginning of a text that is read alone, beside the reading of the whole
+
+-- ---- what is known of both readings
+
+-- the state of a beginning that is read by itself, beside that of the whole
+pub data Follows (s own : State) : Type 0 where
+  same_state : own ≡ s → Follows s own
+  plain_state : own ≡ plain → Follows s own
+  emoji_state : s.emoji ≡ true → own ≡ record plain { emoji = true } → Follows s own
+  quote_state : s.emoji ≡ false → s.quote ≡ true → own ≡ record plain { quote = true } → Follows s own
+  flags_state : s ≡ before RegionalIndicators → own ≡ before RegionalIndicator → Follows s own
+  vowels_state : s ≡ before KiratE → own ≡ before KiratAi → Follows s own
+
+-- no column was lost, in the whole and in the beginning
+pub record Both (m k : ℕ) (r own : Reading) : Type 0 where
+  pub whole : r.0 + slack r.1 ≡ m
+  pub beginning : own.0 + slack own.1 ≡ k
+  pub opens : is_open r.1 ≡ true
+  pub follows : Follows r.1 own.1
+
+-- a column of the whole was lost, or none
+pub data Goes (m k : ℕ) (r own : Reading) : Type 0 where
+  lost : r.0 + slack r.1 < m → Goes m k r own
+  even : Both m k r own → Goes m k r own
+
+-- the same after a step over c, where m and k were counted before it
+abbrev pub Steps : (c m k : ℕ) (r own : Reading) → Type 0
+Steps c m k r own = Goes (m + char_count c) (k + char_count c) r own
+
+pub Goes-at : (m k : ℕ) (r own : Reading) → r.0 + slack r.1 ≤ m → (r.0 + slack r.1 ≡ m → Both m k r own) → Goes m k r own
+Goes-at m k r own le both = ⊎_elim (λ less. lost less) (λ no. even (both (omega arith))) (cases_lt (r.0 + slack r.1) m)
+
+pub Goes-both : (m k : ℕ) (b : Bool) (x y u v : Reading) → (b ≡ true → Goes m k x u) → (b ≡ false → Goes m k y v)
+    → Goes m k (cond b x y) (cond b u v)
+Goes-both m k true x y u v f g = f refl
+Goes-both m k false x y u v f g = g refl
+
+pub Goes-cond : (m k : ℕ) (b : Bool) (x y own : Reading) → (b ≡ true → Goes m k x own) → (b ≡ false → Goes m k y own)
+    → Goes m k (cond b x y) own
+Goes-cond m k true x y own f g = f refl
+Goes-cond m k false x y own f g = g refl
+
+pub Goes-own : (m k : ℕ) (r u v : Reading) → u ≡ v → Goes m k r v → Goes m k r u
+Goes-own m k r u v e h = subst (Goes m k r) (sym e) h
+
+-- both take the same columns and come to the same state
+pub Goes-land : (m k d : ℕ) (t own : ℕ) (u : State) → t + d + slack u ≤ m → (t + d + slack u ≡ m → own + d + slack u ≡ k) → is_open u ≡ true
+    → Goes m k (t + d, u) (own + d, u)
+Goes-land m k d t own u le both o =
+    Goes-at m k (t + d, u) (own + d, u) le (λ e. record { whole = e; beginning = both e; opens = o; follows = same_state refl })
+
+-- ---- open states
+pub record IsOpen (s : State) : Type 0 where
+  pub linked : is_linked s.after ≡ false
+  pub text : s.text ≡ false
+  pub single : (s.emoji && s.quote) ≡ false
+
+pub open-parts : (s : State) → is_open s ≡ true → IsOpen s
+open-parts s h =
+    let parts = and_parts (not (is_linked s.after)) (not s.text && not (s.emoji && s.quote)) h in
+    let rest = and_parts (not s.text) (not (s.emoji && s.quote)) parts.1 in
+    record { linked = not-true (is_linked s.after) parts.0; text = not-true s.text rest.0; single = not-true (s.emoji && s.quote) rest.1 }
+
+pub no-quote : (s : State) → (s.emoji && s.quote) ≡ false → s.emoji ≡ true → s.quote ≡ false
+no-quote s h e = subst (λ b. (b && s.quote) ≡ false) e h
+
+pub flag-false : (b : Bool) → b ≡ false → flag b ≡ 0
+flag-false b h = ap flag h
+
+pub flag-none : (b : Bool) → flag b ≡ 0 → b ≡ false
+flag-none true h = absurd (omega arith)
+flag-none false h = refl
+
+pub open-before : (after : After) → is_linked after ≡ false → is_open (before after) ≡ true
+open-before after h = ap (λ b. not b && true) h
+
+pub flag-most : (b : Bool) → flag b ≤ 1
+flag-most true = omega arith
+flag-most false = omega arith
+
+open-emoji : (b : Bool) (s : State) → IsOpen s → s.quote ≡ false → is_open (record (cond b s plain) { emoji = true }) ≡ true
+open-emoji true s o q = rw (o.linked, o.text, q)
+open-emoji false s o q = refl
+
+open-quote : (b : Bool) (s : State) → IsOpen s → s.emoji ≡ false → is_open (record (cond b s plain) { quote = true }) ≡ true
+open-quote true s o e = rw (o.linked, o.text, e)
+open-quote false s o e = refl
+
+pub cond-emoji : (b : Bool) (s : State) → s.emoji ≡ false → (cond b s plain).emoji ≡ false
+cond-emoji true s e = e
+cond-emoji false s e = refl
+
+cond-quote : (b : Bool) (s : State) → s.quote ≡ false → (cond b s plain).quote ≡ false
+cond-quote true s e = e
+cond-quote false s e = refl
+
+pub open-kept_emoji : (b : Bool) (s : State) → IsOpen s → s.quote ≡ false → is_open (record (cond b s (if_kept s)) { emoji = true }) ≡ true
+open-kept_emoji true s o q = rw (o.linked, o.text, q)
+open-kept_emoji false s o q = open-emoji (is_kept s.after) s o q
+
+pub open-kept_quote : (s : State) → IsOpen s → s.emoji ≡ false → is_open (record (if_kept s) { quote = true }) ≡ true
+open-kept_quote s o e = open-quote (is_kept s.after) s o e
+
+pub kept-no_emoji : (s : State) → s.emoji ≡ false → (if_kept s).emoji ≡ false
+kept-no_emoji s e = cond-emoji (is_kept s.after) s e
+
+pub kept-no_quote : (s : State) → s.quote ≡ false → (if_kept s).quote ≡ false
+kept-no_quote s e = cond-quote (is_kept s.after) s e
+
+pub cond-no_quote : (b : Bool) (s : State) → s.quote ≡ false → (cond b s (if_kept s)).quote ≡ false
+cond-no_quote true s q = q
+cond-no_quote false s q = kept-no_quote s q
+
+pub joined-slack : (b : Bool) (s : State) → IsOpen s → slack_after (cond b s (if_kept s)).after ≡ 0
+joined-slack true s o = calm-slack s.after o.linked
+joined-slack false s o = let k = (IsLess-kept s).after in omega (arith, calm-slack s.after o.linked)
+
+-- ---- one step of a beginning that is read by itself
+pub own-feed : (c t : ℕ) (s : State) → (c == 0x0A) ≡ true → past_emoji false c t s ≡ (t + 1, before LineFeed)
+unfolding past_emoji
+own-feed c t s h = rw h
+
+low-of : {A : Type 0} (a b d : Bool) (w x y z : A) → a ≡ false → d ≡ true → cond a w (cond (b && false) x (cond d y z)) ≡ y
+low-of true b d w x y z h l = absurd cc
+low-of false true true w x y z h l = refl
+low-of false true false w x y z h l = absurd cc
+low-of false false true w x y z h l = refl
+low-of false false false w x y z h l = absurd cc
+
+high-of : {A : Type 0} (a b d : Bool) (w x y z : A) → a ≡ false → d ≡ false → cond a w (cond (b && false) x (cond d y z)) ≡ z
+high-of true b d w x y z h l = absurd cc
+high-of false true true w x y z h l = absurd cc
+high-of false true false w x y z h l = refl
+high-of false false true w x y z h l = absurd cc
+high-of false false false w x y z h l = refl
+
+pub own-low : (c t : ℕ) → (c == 0x0A) ≡ false → nat_le c 0xA0 ≡ true → past_emoji false c t plain ≡ (t + 1, plain)
+unfolding past_emoji
+own-low c t h low = low-of (c == 0x0A) (c == 0x0D) (nat_le c 0xA0) _ _ _ _ h low
+
+pub no-feed : (c : ℕ) → nat_le c 0xA0 ≡ false → (c == 0x0A) ≡ false
+no-feed c high = grind (arith, nat_tests)
+
+pub own-alone : (c t : ℕ) → nat_le c 0xA0 ≡ false → past_emoji false c t plain ≡ added t (alone false c)
+unfolding past_emoji
+own-alone c t high = high-of (c == 0x0A) (c == 0x0D) (nat_le c 0xA0) _ _ _ _ (no-feed c high) high
+
+pub count-alone : (c : ℕ) → nat_le c 0xA0 ≡ false → char_count c ≡ max 1 (alone false c).0
+count-alone c high = let e = columns-high c high in omega arith
+
+pub alone-bound : (c : ℕ) → nat_le c 0xA0 ≡ false → (alone false c).0 + slack (alone false c).1 ≤ char_count c
+unfolding alone
+alone-bound c high =
+    let e : char_columns c ≡ (alone false c).0 = columns-high c high in
+    let b = of_kind-bound c (kind c) in omega arith

@@ -1,22 +1,21 @@
 -- Letters by their bytes: the columns of the letters that these begin add up to those of a text.
-use Rattle.tabled_text.proofs.Names.{Bool, IsLetter, IsLine, IsUtf8, LieWithin, List, [], and_from, and_parts, ap, arith, char_columns, char_count, chars, chunk, cond}
-use Rattle.tabled_text.proofs.Names.{count_of, drop, encode_utf8_all, encodes-chars, false, get_or, is_narrow_lead}
-use Rattle.tabled_text.proofs.Names.{is_no_feed, is_simple, is_wide_lead, length, length-drop, length-map, lines_of, list_all, list_all-append, map}
-use Rattle.tabled_text.proofs.Names.{nat_lt, nat_tests, or_cases, or_right, refl, str_width-simple, subst, suc, sum_by, sum_by-append}
-use Rattle.tabled_text.proofs.Names.{sum_by-cons, sym, take, take_all, true, zero, ℕ, ⊎_elim, ◌%◌, ◌*◌, ◌++◌, ◌+◌, ◌-◌, ◌||◌, ◌∙◌, ◌∷◌, ◌≡◌, ◌≤◌}
-use Rattle.std.proofs.Common.{replicate, ◌/◌}
+use Rattle.tabled_text.proofs.Names.{AreLetters, Bool, IsExactLine, IsLetter, IsLine, IsUtf8, LieWithin, List, [], agree_below_at, and_from}
+use Rattle.tabled_text.proofs.Names.{and_parts, ap, arith, byte_columns, char_columns, char_count, chars, chunk, cond, count_of, drop}
+use Rattle.tabled_text.proofs.Names.{drop-drop, encode_utf8_all, encodes-chars, false, get_or, get_or-drop, is_inner_byte, is_letter_byte}
+use Rattle.tabled_text.proofs.Names.{is_narrow_lead, is_no_feed, is_simple, is_wide_lead, lead_byte, length, length-drop, length-map}
+use Rattle.tabled_text.proofs.Names.{lines_of, list_all, list_all-append, map, nat_lt, nat_tests, or_cases, or_right, refl, replicate}
+use Rattle.tabled_text.proofs.Names.{str_width-simple, subst, suc, sum_by, sum_by-append, sum_by-cons, sym, take, take-add}
+use Rattle.tabled_text.proofs.Names.{take-append-drop, take_all, true, zero, ℕ, ⊎_elim, ◌%◌, ◌*◌, ◌++◌, ◌+◌, ◌-◌, ◌/◌, ◌||◌, ◌∙◌, ◌∷◌, ◌≡◌}
+use Rattle.tabled_text.proofs.Names.{◌≤◌}
 use Rattle.std.specs.Char.{encode_utf8}
-use Rattle.std.proofs.Math.Seq.{take-add}
-use Rattle.std.proofs.lemmas.List.{drop-append-le, drop-drop, get_or-drop, take-append-drop}
+use Rattle.std.proofs.lemmas.List.{drop-append-le}
 use Rattle.std.proofs.lemmas.List.Sums.{sum_by-take-drop}
 use Rattle.std.proofs.lemmas.Simd.{chunk-drop}
-use Rattle.std.proofs.lemmas.Bool.{agree_below_at, cond-false, cond-true}
-use Rattle.tabled_text.specs.Exact.{IsExactLine}
-use Rattle.tabled_text.specs.Letters.{AreLetters, byte_columns, is_inner_byte, is_letter_byte, lead_byte}
-use Rattle.tabled_text.proofs.Bridge.{lines_of-chars, text_columns-one}
+use Rattle.std.proofs.lemmas.Bool.{cond-false, cond-true}
+use Rattle.tabled_text.proofs.Basics.{all-halves, all-weaker}
+use Rattle.tabled_text.proofs.Bridge.{lines_of-chars, lines_of-feedless, text_columns-one}
 use Rattle.tabled_text.proofs.LetterLemmas.{lead-outer, narrow-letter, wide-letter}
 use Rattle.tabled_text.proofs.RunLemmas.{run-front}
-use Rattle.tabled_text.proofs.Within.{lines_of-feedless}
 
 -- ---- lists of bytes
 
@@ -40,7 +39,8 @@ letters-behind (suc k) n bytes h =
     }
 
 -- a block, and what follows it
-pub letters-block : (bytes : List ℕ) (at m n : ℕ) → AreLetters (chunk at 16 bytes) m → AreLetters (drop (at + 16) bytes) n → AreLetters (drop at bytes) (m + n)
+pub letters-block : (bytes : List ℕ) (at m n : ℕ) → AreLetters (chunk at 16 bytes) m → AreLetters (drop (at + 16) bytes) n
+    → AreLetters (drop at bytes) (m + n)
 letters-block bytes at m n p q = subst (λ l. AreLetters l (m + n)) (sym (chunk-drop at 16 bytes)) (letters-append p q)
 
 -- the last block, filled up to a place
@@ -55,7 +55,8 @@ letters-last bytes at start n e o h =
 
 -- 8 to 16 bytes: the last 8, filled up to those that the first 8 leave, and the first 8
 pub letters-halves : (bytes : List ℕ) (n : ℕ) → 8 ≤ length bytes → length bytes ≤ 16
-    → AreLetters (replicate (16 - length bytes) 0x80 ++ drop (16 - length bytes) (chunk (length bytes - 8) 8 bytes ++ chunk 0 8 bytes)) n → AreLetters bytes n
+    → AreLetters (replicate (16 - length bytes) 0x80 ++ drop (16 - length bytes) (chunk (length bytes - 8) 8 bytes ++ chunk 0 8 bytes)) n
+    → AreLetters bytes n
 letters-halves bytes n some few h =
     let k = 16 - length bytes in
     let last = length bytes - 8 in
@@ -66,8 +67,7 @@ letters-halves bytes n some few h =
     let parts : drop k (chunk last 8 bytes ++ take 8 bytes) ≡ drop 8 bytes ++ take 8 bytes =
     drop-append-le k (chunk last 8 bytes) (take 8 bytes) (omega (arith, ap length back, size)) ∙ ap (λ l. l ++ take 8 bytes) behind in
     let both = subst (λ l. AreLetters l n) parts (letters-behind k n (drop k (chunk last 8 bytes ++ take 8 bytes)) h) in
-    let passed = and_parts (list_all is_letter_byte (drop 8 bytes)) (list_all is_letter_byte (take 8 bytes))
-    (sym (list_all-append is_letter_byte (drop 8 bytes) (take 8 bytes)) ∙ both.all) in
+    let passed = all-halves is_letter_byte (drop 8 bytes) (take 8 bytes) both.all in
     let sum = sum_by-append byte_columns (drop 8 bytes) (take 8 bytes) in
     record {
       all = ap (list_all is_letter_byte) (sym (take-append-drop 8 bytes)) ∙ list_all-append is_letter_byte (take 8 bytes) (drop 8 bytes)
@@ -129,11 +129,8 @@ inner-none (b ∷ bytes) h =
     omega (arith, sum_by-cons byte_columns b bytes, own, inner-none bytes parts.1)
 
 inner-letters : (bytes : List ℕ) → list_all is_inner_byte bytes ≡ true → list_all is_letter_byte bytes ≡ true
-inner-letters [] h = refl
-inner-letters (b ∷ bytes) h =
-    let parts = and_parts (is_inner_byte b) (list_all is_inner_byte bytes) h in
-    and_from (is_letter_byte b) (list_all is_letter_byte bytes)
-    (or_right (is_narrow_lead b) (is_wide_lead b || is_inner_byte b) (or_right (is_wide_lead b) (is_inner_byte b) parts.0)) (inner-letters bytes parts.1)
+inner-letters = all-weaker is_inner_byte is_letter_byte
+    (λ b h. or_right (is_narrow_lead b) (is_wide_lead b || is_inner_byte b) (or_right (is_wide_lead b) (is_inner_byte b) h))
 
 narrow-not-wide : (lead : ℕ) → is_narrow_lead lead ≡ true → is_wide_lead lead ≡ false
 narrow-not-wide lead h = grind (arith, nat_tests)
@@ -189,12 +186,13 @@ counted-cons c k cs n own more = record {
   counts = omega (arith, sum_by-cons char_count c cs, own.columns, own.some, more.counts);
 }
 
-counted-encoded : (cs : List ℕ) → list_all is_letter_byte (encode_utf8_all cs) ≡ true → AreCounted cs (sum_by byte_columns (encode_utf8_all cs))
+counted-encoded : (cs : List ℕ) → list_all is_letter_byte (encode_utf8_all cs) ≡ true
+    → AreCounted cs (sum_by byte_columns (encode_utf8_all cs))
 counted-encoded [] h = counted-nil
 counted-encoded (c ∷ cs) h =
     let front = encode_utf8 c in
     let back = encode_utf8_all cs in
-    let parts = and_parts (list_all is_letter_byte front) (list_all is_letter_byte back) (sym (list_all-append is_letter_byte front back) ∙ h) in
+    let parts = all-halves is_letter_byte front back h in
     subst (AreCounted (c ∷ cs)) (sym (sum_by-append byte_columns front back))
     (counted-cons c (sum_by byte_columns front) cs (sum_by byte_columns back) (letter-encoded c parts.0) (counted-encoded cs parts.1))
 
@@ -207,17 +205,11 @@ letters-counted text n u h =
 simple-no_feed : (c : ℕ) → is_simple c ≡ true → is_no_feed c ≡ true
 simple-no_feed c h = grind (arith, nat_tests)
 
-simple-feedless : (cs : List ℕ) → list_all is_simple cs ≡ true → list_all is_no_feed cs ≡ true
-simple-feedless [] h = refl
-simple-feedless (c ∷ cs) h =
-    let parts = and_parts (is_simple c) (list_all is_simple cs) h in
-    and_from (is_no_feed c) (list_all is_no_feed cs) (simple-no_feed c parts.0) (simple-feedless cs parts.1)
-
 -- letters alone are a line
 pub counted-line : (text : List ℕ) (n : ℕ) → IsUtf8 text → AreCounted (chars text) n → IsLine text n
 counted-line text n u c = record {
   utf8 = u;
-  feedless = simple-feedless (chars text) c.simple;
+  feedless = all-weaker is_simple is_no_feed simple-no_feed (chars text) c.simple;
   columns = str_width-simple false (chars text) c.simple ∙ c.columns;
 }
 

@@ -1,27 +1,31 @@
 -- What letters take, by the tables of `unicode_width`.
 use Rattle.tabled_text.proofs.Names.{BeginsBy, Bool, IsCharBoundary, IsCharBoundary-at_seam, IsLetter, IsUtf8, IsUtf8-past_char, Kind, List}
-use Rattle.tabled_text.proofs.Names.{Range, [], alone, and_from, and_parts, ap, arith, cases_lt, char_columns, char_count, char_width}
-use Rattle.tabled_text.proofs.Names.{chars, chars_past_char, cond, drop, drop_at, encode_ascii, encode_utf8_all, encodes-chars, false}
-use Rattle.tabled_text.proofs.Names.{get_or, in_ranges, inl, inr, is_in_range, is_narrow_lead, is_simple, is_simple_kind, is_wide_lead}
-use Rattle.tabled_text.proofs.Names.{kind, kind_stepped, le-leb, leb-true, len_utf8, len_utf8_bounds, length, length-append, length-encode}
-use Rattle.tabled_text.proofs.Names.{lit<, lt-ltb, max, nat_le, nat_lt, nat_tests, not, of_kind, of_ranges, or_cases, or_left, or_right}
-use Rattle.tabled_text.proofs.Names.{refl, subst, sym, tables, true, zip_stepped, ℕ, ⊎_elim, ◌&&◌, ◌*◌, ◌++◌, ◌+◌, ◌-◌, ◌<◌, ◌||◌, ◌∙◌, ◌∷◌}
+use Rattle.tabled_text.proofs.Names.{Range, [], alone, and_from, ap, arith, cases_lt, char_columns, char_count, char_width, chars}
+use Rattle.tabled_text.proofs.Names.{chars_past_char, cond, drop, drop_at, encode_ascii, encode_utf8_all, encodes-chars, eqb-true, false}
+use Rattle.tabled_text.proofs.Names.{get_or, in_ranges, inl, inr, is_in_range, is_inner_byte, is_narrow_lead, is_simple, is_simple_kind}
+use Rattle.tabled_text.proofs.Names.{is_wide_lead, kind, kind_stepped, lead_byte, len_utf8, len_utf8_bounds, length, length-append}
+use Rattle.tabled_text.proofs.Names.{length-encode, lit<, lt-ltb, max, nat_lt, nat_tests, not, of_kind, of_ranges, or_left, or_right, refl}
+use Rattle.tabled_text.proofs.Names.{subst, sym, tables, true, zip_stepped, ℕ, ◌&&◌, ◌*◌, ◌++◌, ◌+◌, ◌-◌, ◌/◌, ◌<◌, ◌==◌, ◌||◌, ◌∙◌, ◌∷◌}
 use Rattle.tabled_text.proofs.Names.{◌≡◌, ◌≤◌}
-use Rattle.std.proofs.Common.{◌/◌}
 use Rattle.std.specs.Char.{encode_utf8}
 use Rattle.std.proofs.lemmas.Str.{len_utf8_ascii}
 use Rattle.ucd_table.proofs.Facts.{Stepped-always}
-use Rattle.unicode_width.specs.declared.kind.Kind.TheVariants.{Narrow, Wide, Ambiguous}
-use Rattle.tabled_text.specs.Letters.{is_inner_byte, is_narrow_letter, is_wide_letter, lead_byte}
+use Rattle.unicode_width.specs.declared.kind.Kind.TheVariants.{Ambiguous, Narrow, Wide}
+use Rattle.tabled_text.specs.Letters.{is_narrow_letter, is_wide_letter}
 
-is_narrow : Kind → Bool
-is_narrow Narrow = true
-is_narrow Ambiguous = true
-is_narrow _ = false
+-- a kind of characters that take n columns and end no special sequence
+is_letter_kind : ℕ → Kind → Bool
+is_letter_kind n Narrow = n == 1
+is_letter_kind n Ambiguous = n == 1
+is_letter_kind n Wide = n == 2
+is_letter_kind n _ = false
 
-is_wide : Kind → Bool
-is_wide Wide = true
-is_wide _ = false
+letter-kind : (n c : ℕ) (k : Kind) → is_letter_kind n k ≡ true → ((of_kind false c k).0 ≡ n) × (is_simple_kind k ≡ true)
+unfolding is_letter_kind
+letter-kind n c Narrow h = (sym (eqb-true n 1 h), refl)
+letter-kind n c Ambiguous h = (sym (eqb-true n 1 h), refl)
+letter-kind n c Wide h = (sym (eqb-true n 2 h), refl)
+letter-kind n c _ h = cc
 
 abbrev narrow_ranges : List Range
 narrow_ranges = (0xC0, 0x2FF) ∷ (0x380, 0x47F) ∷ []
@@ -29,44 +33,22 @@ narrow_ranges = (0xC0, 0x2FF) ∷ (0x380, 0x47F) ∷ []
 abbrev wide_ranges : List Range
 wide_ranges = (0x4000, 0x9FFF) ∷ []
 
-are-narrow : (c : ℕ) → c ≤ 0x10_FFFF → (not (in_ranges narrow_ranges c) || is_narrow (kind c)) ≡ true
-unfolding tables kind_stepped is_narrow
+are-narrow : (c : ℕ) → c ≤ 0x10_FFFF → (not (in_ranges narrow_ranges c) || is_letter_kind 1 (kind c)) ≡ true
+unfolding tables kind_stepped is_letter_kind
 are-narrow c within =
-    Stepped-always (λ c. not (in_ranges narrow_ranges c) || is_narrow (kind c))
-    (zip_stepped (λ inside k. not inside || is_narrow k) (in_ranges narrow_ranges) kind (of_ranges narrow_ranges refl) kind_stepped) refl c within
+    Stepped-always (λ c. not (in_ranges narrow_ranges c) || is_letter_kind 1 (kind c))
+    (zip_stepped (λ inside k. not inside || is_letter_kind 1 k) (in_ranges narrow_ranges) kind (of_ranges narrow_ranges refl) kind_stepped) refl c within
 
-are-wide : (c : ℕ) → c ≤ 0x10_FFFF → (not (in_ranges wide_ranges c) || is_wide (kind c)) ≡ true
-unfolding tables kind_stepped is_wide
+are-wide : (c : ℕ) → c ≤ 0x10_FFFF → (not (in_ranges wide_ranges c) || is_letter_kind 2 (kind c)) ≡ true
+unfolding tables kind_stepped is_letter_kind
 are-wide c within =
-    Stepped-always (λ c. not (in_ranges wide_ranges c) || is_wide (kind c))
-    (zip_stepped (λ inside k. not inside || is_wide k) (in_ranges wide_ranges) kind (of_ranges wide_ranges refl) kind_stepped) refl c within
+    Stepped-always (λ c. not (in_ranges wide_ranges c) || is_letter_kind 2 (kind c))
+    (zip_stepped (λ inside k. not inside || is_letter_kind 2 k) (in_ranges wide_ranges) kind (of_ranges wide_ranges refl) kind_stepped) refl c within
 
 -- what a test of ranges lets through
 passed : (inside ok : Bool) → (not inside || ok) ≡ true → inside ≡ true → ok ≡ true
 passed true ok h i = h
 passed false ok h i = cc
-
-narrow-columns : (c : ℕ) (k : Kind) → is_narrow k ≡ true → (of_kind false c k).0 ≡ 1
-unfolding is_narrow
-narrow-columns c Narrow h = refl
-narrow-columns c Ambiguous h = refl
-narrow-columns c _ h = cc
-
-wide-columns : (c : ℕ) (k : Kind) → is_wide k ≡ true → (of_kind false c k).0 ≡ 2
-unfolding is_wide
-wide-columns c Wide h = refl
-wide-columns c _ h = cc
-
-narrow-simple : (k : Kind) → is_narrow k ≡ true → is_simple_kind k ≡ true
-unfolding is_narrow
-narrow-simple Narrow h = refl
-narrow-simple Ambiguous h = refl
-narrow-simple _ h = cc
-
-wide-simple : (k : Kind) → is_wide k ≡ true → is_simple_kind k ≡ true
-unfolding is_wide
-wide-simple Wide h = refl
-wide-simple _ h = cc
 
 simple-high : (c : ℕ) → 0xA0 < c → is_simple_kind (kind c) ≡ true → is_simple c ≡ true
 simple-high c high simple =
@@ -83,7 +65,8 @@ unfolding char_width
 columns-printable c h = grind (arith, nat_tests)
 
 -- the first byte of a character, alone and before others
-lead-is : (c : ℕ) → lead_byte c ≡ cond (nat_lt c 128) c (cond (nat_lt c 2048) (192 + c / 64) (cond (nat_lt c 65536) (224 + c / 4096) (240 + c / 262144)))
+lead-is : (c : ℕ)
+    → lead_byte c ≡ cond (nat_lt c 128) c (cond (nat_lt c 2048) (192 + c / 64) (cond (nat_lt c 65536) (224 + c / 4096) (240 + c / 262144)))
 unfolding encode_utf8
 lead-is c = join (nat_lt c 128) (nat_lt c 2048) (nat_lt c 65536) c (192 + c / 64) (224 + c / 4096) (240 + c / 262144) _ _ _
   where
@@ -193,54 +176,72 @@ lead-outer c =
       ]
     ]
 
-narrow-high : (c : ℕ) → in_ranges narrow_ranges c ≡ true → 0xA0 < c → c ≤ 0x10_FFFF → IsLetter c 1
-narrow-high c inside high within =
-    let is = passed (in_ranges narrow_ranges c) (is_narrow (kind c)) (are-narrow c within) inside in
-    record { simple = simple-high c high (narrow-simple (kind c) is); columns = columns-high c high ∙ narrow-columns c (kind c) is; some = lit< tt; few = lit< tt }
+letter-high : (n c : ℕ) → 0xA0 < c → 0 < n → n ≤ 2 → is_letter_kind n (kind c) ≡ true → IsLetter c n
+letter-high n c high some few h =
+    let is = letter-kind n c (kind c) h in
+    record { simple = simple-high c high is.1; columns = columns-high c high ∙ is.0; some = some; few = few }
 
-in-first : (a b x : ℕ) (rest : List Range) → a ≤ x → x ≤ b → in_ranges ((a, b) ∷ rest) x ≡ true
+-- the letters of the ranges
+narrow-high : (c : ℕ) → is_narrow_letter c ≡ true → IsLetter c 1
 unfolding in_ranges
-in-first a b x rest low high = or_left (is_in_range a b x) (in_ranges rest x) (and_from (nat_le a x) (nat_le x b) (le-leb a x low) (le-leb x b high))
+narrow-high c h =
+    let inside : in_ranges narrow_ranges c ≡ true = grind (arith, nat_tests) in
+    let ends : (0xA0 < c) × (c ≤ 0x10_FFFF) = grind (arith, nat_tests) in
+    letter-high 1 c ends.0 (lit< tt) (lit< tt) (passed (in_ranges narrow_ranges c) (is_letter_kind 1 (kind c)) (are-narrow c ends.1) inside)
 
-in-later : (r : Range) (rest : List Range) (x : ℕ) → in_ranges rest x ≡ true → in_ranges (r ∷ rest) x ≡ true
+wide-high : (c : ℕ) → is_wide_letter c ≡ true → IsLetter c 2
 unfolding in_ranges
-in-later r rest x h = or_right (is_in_range r.0 r.1 x) (in_ranges rest x) h
+wide-high c h =
+    let inside : in_ranges wide_ranges c ≡ true = grind (arith, nat_tests) in
+    let ends : (0xA0 < c) × (c ≤ 0x10_FFFF) = grind (arith, nat_tests) in
+    letter-high 2 c ends.0 (lit< tt) (lit< tt) (passed (in_ranges wide_ranges c) (is_letter_kind 2 (kind c)) (are-wide c ends.1) inside)
+
+-- and what they count
+pub narrow-count : (c : ℕ) → is_narrow_letter c ≡ true → char_count c ≡ 1
+narrow-count c h = ap (max 1) (narrow-high c h).columns
+
+pub wide-count : (c : ℕ) → is_wide_letter c ≡ true → char_count c ≡ 2
+wide-count c h = ap (max 1) (wide-high c h).columns
+
+-- the same by their first bytes
+narrow-led : (c : ℕ) → is_narrow_lead (lead_byte c) ≡ true → 128 ≤ lead_byte c → (is_narrow_letter c ≡ true) × (c < 2048)
+narrow-led c h high =
+    let lead = lead_byte c in
+    let range : (0xC3 ≤ lead) × (lead ≤ 0xD1) = grind (arith, nat_tests) in
+    let ends = two-led c lead (led c) (omega arith) (omega arith) in
+    let low = ends.0 in
+    let below = ends.1 in
+    let is : is_narrow_letter c ≡ true = grind (arith, nat_tests) in
+    (is, omega arith)
+
+wide-led : (c : ℕ) → is_wide_lead (lead_byte c) ≡ true → is_wide_letter c ≡ true
+wide-led c h =
+    let lead = lead_byte c in
+    let range : (0xE4 ≤ lead) × (lead ≤ 0xE9) = grind (arith, nat_tests) in
+    let ends = three-led c lead (led c) (omega arith) (omega arith) in
+    let low = ends.0 in
+    let below = ends.1 in
+    grind (arith, nat_tests)
 
 pub narrow-letter : (c : ℕ) → is_narrow_lead (lead_byte c) ≡ true → IsLetter c 1
 narrow-letter c h =
     let lead = lead_byte c in
-    ⊎_elim (λ ascii.
-    let parts = and_parts (nat_le 0x20 lead) (nat_le lead 0x7E) ascii in
-    let m = leb-true lead 0x7E parts.1 in
-    let same = ascii-led c lead (led c) (omega arith) in
-    let printed : is_in_range 0x20 0x7E c ≡ true = sym (ap (is_in_range 0x20 0x7E) same) ∙ ascii in
-    record { simple = or_left (is_in_range 0x20 0x7E c) (nat_lt 0xA0 c && is_simple_kind (kind c)) printed; columns = columns-printable c printed; some = lit< tt; few = lit< tt })
-    (λ above. ⊎_elim (λ latin.
-    let parts = and_parts (nat_le 0xC3 lead) (nat_le lead 0xCB) latin in
-    let l = leb-true 0xC3 lead parts.0 in
-    let m = leb-true lead 0xCB parts.1 in
-    let ends = two-led c lead (led c) (omega arith) (omega arith) in
-    narrow-high c (in-first 0xC0 0x2FF c ((0x380, 0x47F) ∷ []) (omega (arith, ends)) (omega (arith, ends))) (omega (arith, ends)) (omega (arith, ends)))
-    (λ later.
-    let parts = and_parts (nat_le 0xCE lead) (nat_le lead 0xD1) later in
-    let l = leb-true 0xCE lead parts.0 in
-    let m = leb-true lead 0xD1 parts.1 in
-    let ends = two-led c lead (led c) (omega arith) (omega arith) in
-    narrow-high c (in-later (0xC0, 0x2FF) ((0x380, 0x47F) ∷ []) c (in-first 0x380 0x47F c [] (omega (arith, ends)) (omega (arith, ends)))) (omega (arith, ends)) (omega (arith, ends)))
-    (or_cases (is_in_range 0xC3 0xCB lead) (is_in_range 0xCE 0xD1 lead) above))
-    (or_cases (is_in_range 0x20 0x7E lead) (is_in_range 0xC3 0xCB lead || is_in_range 0xCE 0xD1 lead) h)
+    elim (cases_lt lead 128) [
+      | inl ascii ↦
+          let same = ascii-led c lead (led c) ascii in
+          let range : is_in_range 0x20 0x7E lead ≡ true = grind (arith, nat_tests) in
+          let printed : is_in_range 0x20 0x7E c ≡ true = sym (ap (is_in_range 0x20 0x7E) same) ∙ range in
+          record {
+            simple = or_left (is_in_range 0x20 0x7E c) (nat_lt 0xA0 c && is_simple_kind (kind c)) printed;
+            columns = columns-printable c printed;
+            some = lit< tt;
+            few = lit< tt;
+          }
+      | inr high ↦ narrow-high c (narrow-led c h high).0
+    ]
 
 pub wide-letter : (c : ℕ) → is_wide_lead (lead_byte c) ≡ true → IsLetter c 2
-wide-letter c h =
-    let lead = lead_byte c in
-    let parts = and_parts (nat_le 0xE4 lead) (nat_le lead 0xE9) h in
-    let l = leb-true 0xE4 lead parts.0 in
-    let m = leb-true lead 0xE9 parts.1 in
-    let ends = three-led c lead (led c) (omega arith) (omega arith) in
-    let high : 0xA0 < c = omega (arith, ends) in
-    let is = passed (in_ranges wide_ranges c) (is_wide (kind c)) (are-wide c (omega (arith, ends)))
-    (in-first 0x4000 0x9FFF c [] (omega (arith, ends)) (omega (arith, ends))) in
-    record { simple = simple-high c high (wide-simple (kind c) is); columns = columns-high c high ∙ wide-columns c (kind c) is; some = lit< tt; few = lit< tt }
+wide-letter c h = wide-high c (wide-led c h)
 
 -- how many bytes they take
 pub ascii-length : (c : ℕ) → lead_byte c < 128 → length (encode_utf8 c) ≡ 1
@@ -248,21 +249,14 @@ ascii-length c h = let e = ascii-led c (lead_byte c) (led c) h in length-encode 
 
 pub narrow-length : (c : ℕ) → is_narrow_lead (lead_byte c) ≡ true → 128 ≤ lead_byte c → length (encode_utf8 c) ≡ 2
 narrow-length c h high =
-    let lead = lead_byte c in
-    let range : (0xC3 ≤ lead) × (lead ≤ 0xD1) = grind (arith, nat_tests) in
-    let ends = two-led c lead (led c) (omega arith) (omega arith) in
-    let low : 128 ≤ c = omega (arith, ends) in
-    let few : c < 2048 = omega (arith, ends) in
-    let is : len_utf8 c ≡ 2 = grind (arith, nat_tests) in
+    let own = narrow-led c h high in
+    let few = own.1 in
+    let is : len_utf8 c ≡ 2 = grind (arith, nat_tests, own.0) in
     length-encode c ∙ is
 
 pub wide-length : (c : ℕ) → is_wide_lead (lead_byte c) ≡ true → length (encode_utf8 c) ≡ 3
 wide-length c h =
-    let lead = lead_byte c in
-    let range : (0xE4 ≤ lead) × (lead ≤ 0xE9) = grind (arith, nat_tests) in
-    let ends = three-led c lead (led c) (omega arith) (omega arith) in
-    let low : 2048 ≤ c = omega (arith, ends) in
-    let few : c < 65536 = omega (arith, ends) in
+    let own = wide-led c h in
     let is : len_utf8 c ≡ 3 = grind (arith, nat_tests) in
     length-encode c ∙ is
 
@@ -299,7 +293,8 @@ letter-split text size columns u some h =
       };
     }
 
-pub letter-count : (columns : ℕ) (text after : List ℕ) → BeginsBy (λ c. IsLetter c columns) text after → BeginsBy (λ c. columns ≡ char_count c) text after
+pub letter-count : (columns : ℕ) (text after : List ℕ) → BeginsBy (λ c. IsLetter c columns) text after
+    → BeginsBy (λ c. columns ≡ char_count c) text after
 letter-count columns text after b = record {
   first = b.first;
   is = let e = b.is.columns in let some = b.is.some in omega arith;
@@ -317,28 +312,3 @@ feed-lead P text after b h =
 pub lead-feed : (P : ℕ → Type 0) (text after : List ℕ) → (b : BeginsBy P text after) → b.first ≡ 10 → get_or text 0 0 ≡ 10
 lead-feed P text after b h =
     ap (λ bs. get_or bs 0 0) b.parts ∙ lead-here b.first after ∙ ap lead_byte h ∙ ap (λ bs. get_or bs 0 0) (encode_ascii 10 (lit< tt))
-
--- what letters count
-pub narrow-count : (c : ℕ) → is_narrow_letter c ≡ true → char_count c ≡ 1
-narrow-count c h =
-    ⊎_elim
-    (λ latin.
-    let parts = and_parts (nat_le 0xC0 c) (nat_le c 0x2FF) latin in
-    let l = leb-true 0xC0 c parts.0 in
-    let m = leb-true c 0x2FF parts.1 in
-    ap (max 1) (narrow-high c (in-first 0xC0 0x2FF c ((0x380, 0x47F) ∷ []) l m) (omega arith) (omega arith)).columns)
-    (λ later.
-    let parts = and_parts (nat_le 0x380 c) (nat_le c 0x47F) later in
-    let l = leb-true 0x380 c parts.0 in
-    let m = leb-true c 0x47F parts.1 in
-    ap (max 1) (narrow-high c (in-later (0xC0, 0x2FF) ((0x380, 0x47F) ∷ []) c (in-first 0x380 0x47F c [] l m)) (omega arith) (omega arith)).columns)
-    (or_cases (is_in_range 0xC0 0x2FF c) (is_in_range 0x380 0x47F c) h)
-
-pub wide-count : (c : ℕ) → is_wide_letter c ≡ true → char_count c ≡ 2
-wide-count c h =
-    let parts = and_parts (nat_le 0x4000 c) (nat_le c 0x9FFF) h in
-    let l = leb-true 0x4000 c parts.0 in
-    let m = leb-true c 0x9FFF parts.1 in
-    let high : 0xA0 < c = omega arith in
-    let is = passed (in_ranges wide_ranges c) (is_wide (kind c)) (are-wide c (omega arith)) (in-first 0x4000 0x9FFF c [] l m) in
-    ap (max 1) (columns-high c high ∙ wide-columns c (kind c) is)

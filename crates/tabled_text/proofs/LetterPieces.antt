@@ -1,21 +1,46 @@
--- Letters broken between characters: each line is a piece, and takes what it counts.
+-- Letters at the front of a text, and letters broken between characters: each line is a piece, and takes what it counts.
+use Rattle.tabled_text.proofs.Names.{All, All-cons, All-nil, AreLetters, Bool, IsPiece, IsUtf8, List, [], and_from, and_parts, ap}
+use Rattle.tabled_text.proofs.Names.{append-nil, append_all, arith, cases_lt, char_count, chars, chars-append, chars-nil, columns_of}
+use Rattle.tabled_text.proofs.Names.{count_of, encode_ascii, encode_utf8_all, encodes-append, encodes-chars, eqb, eqb-true, false, inl, inr}
+use Rattle.tabled_text.proofs.Names.{is_in_range, is_letter_byte, is_letter_or_break, last_line, last_of, leb-true, length, lines_of}
+use Rattle.tabled_text.proofs.Names.{list_all, lit<, map, nat_le, ne_eqb, needed, nil_from_length, or_cases, pending, refl}
+use Rattle.tabled_text.proofs.Names.{slice_split_none, sym, text_columns, true, unit_of_char, units, units_of_words, used_after, words_of}
+use Rattle.tabled_text.proofs.Names.{written_line, ℕ, ⊎_elim, ◌++◌, ◌+◌, ◌<◌, ◌==◌, ◌||◌, ◌∙◌, ◌∷◌, ◌≡◌, ◌≤◌}
 use Rattle.std.specs.Char.{encode_utf8}
-use Rattle.tabled_text.proofs.Names.{All, All-cons, All-nil, Bool, IsPiece, IsUtf8, List, [], and_from, and_parts, ap, append-nil}
-use Rattle.tabled_text.proofs.Names.{append_all, arith, cases_lt, char_count, chars, chars-append, chars-nil, columns_of, count_of}
-use Rattle.tabled_text.proofs.Names.{encode_ascii, encode_utf8_all, encodes-append, encodes-chars, eqb, eqb-true, false, inl, inr}
-use Rattle.tabled_text.proofs.Names.{is_in_range, leb-true, length, lines_of, list_all, list_all-append, lit<, map, nat_le, ne_eqb, needed}
-use Rattle.tabled_text.proofs.Names.{nil_from_length, or_cases, pending, refl, slice_split_none, sym, text_columns, true, unit_of_char}
-use Rattle.tabled_text.proofs.Names.{units, units_of_words, used_after, words_of, ℕ, ⊎_elim, ◌++◌, ◌+◌, ◌<◌, ◌==◌, ◌||◌, ◌∙◌, ◌∷◌, ◌≡◌}
-use Rattle.tabled_text.proofs.Names.{◌≤◌}
-use Rattle.tabled_text.specs.Letters.{is_letter_byte, is_letter_or_break}
-use Rattle.tabled_text.specs.Walk.{written_line}
-use Rattle.tabled_text.proofs.Bridge.{lines_of-chars, lines_of-one, text_columns-one}
+use Rattle.tabled_text.proofs.Basics.{all-halves}
+use Rattle.tabled_text.proofs.Bridge.{lines_of-chars, lines_of-feedless, lines_of-one, text_columns-one}
+use Rattle.tabled_text.proofs.CutLemmas.{Walked}
+use Rattle.tabled_text.proofs.CutWhole.{IsReached-counted}
 use Rattle.tabled_text.proofs.Filling.{append_all-append, append_all-breaks}
-use Rattle.tabled_text.proofs.LetterBytes.{letter-encoded, letters-exact}
-use Rattle.tabled_text.proofs.Pieces.{fitted, map-append, piece-written}
+use Rattle.tabled_text.proofs.LetterBytes.{letter-encoded, letters-counted, letters-exact, letters-line}
+use Rattle.tabled_text.proofs.Pieces.{Taken, fitted, map-append, piece-written}
 use Rattle.tabled_text.proofs.Searched.{all-chars}
 use Rattle.tabled_text.proofs.WordBreaks.{needed-narrow, wide-word}
-use Rattle.tabled_text.proofs.WrapWhole.{line-short}
+use Rattle.tabled_text.proofs.WrapKept.{line-short}
+
+-- ---- the front of a text, as a loop over characters takes it off
+
+pub letters-taken : (n columns : ℕ) {text front rest : List ℕ} → text ≡ front ++ rest → IsUtf8 front → IsUtf8 rest
+    → AreLetters front columns → columns ≤ n → Taken n text columns rest
+letters-taken n columns {text} {front} {rest} parts utf8 after h le = record {
+  front = front;
+  is = record { parts = parts; utf8 = utf8; rest_utf8 = after; counted = sym (letters-counted front columns utf8 h).counts; fits = le };
+}
+
+pub letters-walked : (n columns : ℕ) {text front rest : List ℕ} → text ≡ front ++ rest → IsUtf8 front → AreLetters front columns
+    → columns ≤ n → Walked n text rest columns
+letters-walked n columns {text} {front} {rest} parts utf8 h le =
+    let counts = (letters-counted front columns utf8 h).counts in
+    let last : last_line (chars front) ≡ chars front = ap last_of (lines_of-feedless (chars front) (letters-line front columns utf8 h).feedless) in
+    record {
+      front = front;
+      parts = parts;
+      utf8 = utf8;
+      columns_are = sym (ap count_of last ∙ counts);
+      reached = IsReached-counted n (chars front) (omega (arith, counts));
+    }
+
+-- ---- pieces
 
 -- characters that fit are a line, if the next one does not fit
 filled : (n : ℕ) (front cs : List ℕ) (c : ℕ) → 0 < n → count_of front ≤ n → n < count_of front + needed n (unit_of_char c)
@@ -36,8 +61,7 @@ pub record IsFirstPiece (n : ℕ) (text piece rest : List ℕ) : Type 0 where
 
 module _ (n columns : ℕ) (text piece rest : List ℕ) (h : list_all is_letter_byte text ≡ true) (p : IsPiece n text piece columns rest) where
   both : (list_all is_letter_byte piece ≡ true) × (list_all is_letter_byte rest ≡ true)
-  both = and_parts (list_all is_letter_byte piece) (list_all is_letter_byte rest)
-      (sym (list_all-append is_letter_byte piece rest) ∙ ap (list_all is_letter_byte) (sym p.parts) ∙ h)
+  both = all-halves is_letter_byte piece rest (ap (list_all is_letter_byte) (sym p.parts) ∙ h)
 
   pub rest-letters : list_all is_letter_byte rest ≡ true
   rest-letters = both.1
@@ -59,8 +83,7 @@ module _ (n columns : ℕ) (text piece rest : List ℕ) (h : list_all is_letter_
       let counted = p.counted in
       let fits = p.fits in
       let bytes : rest ≡ encode_utf8 c ++ encode_utf8_all cs = sym (encodes-chars rest p.rest_utf8) ∙ ap encode_utf8_all e in
-      let own = letter-encoded c (and_parts (list_all is_letter_byte (encode_utf8 c)) (list_all is_letter_byte (encode_utf8_all cs))
-      (sym (list_all-append is_letter_byte (encode_utf8 c) (encode_utf8_all cs)) ∙ ap (list_all is_letter_byte) (sym bytes) ∙ both.1)).0 in
+      let own = letter-encoded c (all-halves is_letter_byte (encode_utf8 c) (encode_utf8_all cs) (ap (list_all is_letter_byte) (sym bytes) ∙ both.1)).0 in
       let few : char_count c ≤ 2 = let columns_are = own.columns in let narrow = own.few in omega arith in
       let need = needed-narrow n (unit_of_char c) (omega arith) in
       let whole : append_all n 0 (map unit_of_char (chars text)) ≡ chars piece ++ 10 ∷ more =
@@ -114,8 +137,8 @@ pending-letters n words text u h =
 
 -- ---- bytes from a first one on
 
-pub letters-run : (first : ℕ) (bs : List ℕ) → 10 < first → list_all (is_in_range first 255) bs ≡ true → list_all is_letter_or_break bs ≡ true
-    → list_all is_letter_byte bs ≡ true
+pub letters-run : (first : ℕ) (bs : List ℕ) → 10 < first → list_all (is_in_range first 255) bs ≡ true
+    → list_all is_letter_or_break bs ≡ true → list_all is_letter_byte bs ≡ true
 letters-run first [] low r h = refl
 letters-run first (b ∷ bs) low r h =
     let own = and_parts (is_in_range first 255 b) (list_all (is_in_range first 255) bs) r in

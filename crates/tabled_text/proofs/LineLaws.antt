@@ -1,16 +1,162 @@
--- Lines of any characters, by bytes: what is joined, and what stands in frames.
-use Rattle.tabled_text.proofs.Names.{All, All-head, All-tail, EndsApart, IsAdditiveColumn, IsFrame, IsLine, IsSeparatorColumn, IsUtf8}
-use Rattle.tabled_text.proofs.Names.{IsUtf8-append, List, [], and_from, and_parts, ap, append-nil, append_assoc, arith, begins_apart, chars}
-use Rattle.tabled_text.proofs.Names.{chars-append, chars-encodes, columns_of, encode_utf8, ends_before, flat_map, get_or-map}
-use Rattle.tabled_text.proofs.Names.{has_plain_width, is_additive, is_keycap_base, is_listed_or_drawn, is_no_feed, is_separator, is_simple}
-use Rattle.tabled_text.proofs.Names.{length, length-map, line_columns, lines_of, list_all, list_all-append, map, meet, not, or_left}
-use Rattle.tabled_text.proofs.Names.{or_right, refl, scalar, slice_index_or, subst, sum_by, sum_by-cons, sym, true, ℕ, ◌&&◌, ◌++◌, ◌+◌, ◌<◌}
-use Rattle.tabled_text.proofs.Names.{◌==◌, ◌||◌, ◌∙◌, ◌∷◌, ◌≡◌}
+-- Where columns add up: around separators, and in joined and framed lines of any characters.
+use Rattle.tabled_text.proofs.Names.{All, All-head, All-tail, Bool, EndsApart, IsAdditiveColumn, IsFrame, IsLine, IsPlainColumn}
+use Rattle.tabled_text.proofs.Names.{IsSeparatorColumn, IsUtf8, IsUtf8-append, List, Reading, [], and_from, and_parts, ap, append-nil}
+use Rattle.tabled_text.proofs.Names.{append_assoc, arith, begins_apart, begins_with_selector, cases_Bool, char_columns, chars, chars-append}
+use Rattle.tabled_text.proofs.Names.{chars-encodes, columns_of, encode_utf8, ends_before, false, flat_map, get_or-map, has_plain_width, inl}
+use Rattle.tabled_text.proofs.Names.{inr, is_additive, is_keycap_base, is_listed_or_drawn, is_no_feed, is_separator, is_simple, length}
+use Rattle.tabled_text.proofs.Names.{length-map, line_columns, lines_of, list_all, list_all-append, map, meet, not, not-true, or_cases}
+use Rattle.tabled_text.proofs.Names.{or_left, or_right, plain, read_before, refl, replicate, scalar, slice_index_or, stands_before, step}
+use Rattle.tabled_text.proofs.Names.{str_width, str_width-append_simple, subst, suc, sum_by, sum_by-cons, sym, true, zero, ℕ, ⊎_elim, ◌&&◌}
+use Rattle.tabled_text.proofs.Names.{◌++◌, ◌+◌, ◌<◌, ◌==◌, ◌||◌, ◌↔◌, ◌∙◌, ◌∷◌, ◌≡◌, ◌⊎◌}
+use Rattle.std.proofs.Common.{add_comm, zero-add}
 use Rattle.std.proofs.Math.Bool.{or-not_self}
+use Rattle.tabled_text.proofs.Basics.{all-weaker}
 use Rattle.tabled_text.proofs.Bridge.{each_in_lines, lines_of-chars, utf8_lines}
-use Rattle.tabled_text.proofs.PlainLines.{plain_line-one, scalar-listed}
-use Rattle.tabled_text.proofs.WrapRoom.{not_break}
-use Rattle.tabled_text.proofs.SeparatorLaws.{columns-meet, begins_apart-separators, ends_before-separators}
+use Rattle.tabled_text.proofs.PlainLines.{additive_column-plain, only_plain-printable, plain_line-one, scalar-listed}
+use Rattle.tabled_text.proofs.SeparatorSteps.{keycap-printable, step-flag, step-keycap, step-separator}
+use Rattle.tabled_text.proofs.WrapRoom.{not_break, plain_space}
+
+-- ---- separators, by characters
+
+-- ---- texts that leave no state
+
+read_before-append : (xs ys : List ℕ) (r : Reading) → read_before false (xs ++ ys) r ≡ read_before false xs (read_before false ys r)
+read_before-append [] ys r = refl
+read_before-append (x ∷ xs) ys r = ap (step false x) (read_before-append xs ys r)
+
+-- spaces give every total
+spaces : (k : ℕ) → (list_all is_simple (replicate k 32) ≡ true) × (read_before false (replicate k 32) (0, plain) ≡ (k, plain))
+spaces zero = (refl, refl)
+spaces (suc k) =
+    let rest = spaces k in (
+      rest.0,
+      ap (step false 32) rest.1 ∙ step-separator 32 k plain plain_space.0 refl
+          ∙ (let e : k + char_columns 32 ≡ suc k = (let w = plain_space.1 in omega arith) in ap (λ n. (n, plain)) e),
+    )
+
+-- what was read after a text in the plain state adds to it
+read_before-plain : (xs : List ℕ) (k : ℕ) → (read_before false xs (k, plain)).0 ≡ columns_of xs + k
+unfolding str_width
+read_before-plain xs k =
+    let s = spaces k in
+    ap (λ r. (read_before false xs r).0) (sym s.1) ∙ ap (λ r. r.0) (sym (read_before-append xs (replicate k 32) (0, plain)))
+    ∙ str_width-append_simple false xs (replicate k 32) s.0 ∙ ap (λ r. columns_of xs + r.0) s.1
+
+-- columns add up before a text that leaves no state
+columns-append : (front back : List ℕ) → (read_before false back (0, plain)).1 ≡ plain
+    → columns_of (front ++ back) ≡ columns_of front + columns_of back
+unfolding str_width
+columns-append front back h =
+    ap (λ r. r.0) (read_before-append front back (0, plain)) ∙ ap (λ s. (read_before false front ((read_before false back (0, plain)).0, s)).0) h
+    ∙ read_before-plain front (read_before false back (0, plain)).0
+
+-- ---- characters that stand apart
+
+no_selector-flag : (back : List ℕ) → begins_with_selector back ≡ false → (read_before false back (0, plain)).1.emoji ≡ false
+no_selector-flag [] h = refl
+no_selector-flag (c ∷ cs) h = let r = read_before false cs (0, plain) in step-flag c r.0 r.1 h
+
+and-first : (a b : Bool) → (a && b) ≡ false → a ≡ true → b ≡ false
+and-first true b h e = h
+and-first false b h e = cc
+
+read_before-apart : (c : ℕ) (back : List ℕ) → stands_before c back ≡ true
+    → read_before false (c ∷ back) (0, plain) ≡ (columns_of back + char_columns c, plain)
+unfolding str_width
+read_before-apart c back h =
+    let r = read_before false back (0, plain) in
+    let parts = and_parts (is_additive c) (not (is_keycap_base c && begins_with_selector back)) h in
+    let other = not-true (is_keycap_base c && begins_with_selector back) parts.1 in
+    ⊎_elim (λ y. step-keycap c r.0 r.1 y (no_selector-flag back (and-first (is_keycap_base c) (begins_with_selector back) other y)))
+    (λ n. step-separator c r.0 r.1 parts.0 n) (cases_Bool (is_keycap_base c))
+
+columns-first : (c : ℕ) (back : List ℕ) → stands_before c back ≡ true → columns_of (c ∷ back) ≡ char_columns c + columns_of back
+unfolding str_width
+columns-first c back h = ap (λ r. r.0) (read_before-apart c back h) ∙ add_comm (columns_of back) (char_columns c)
+
+-- around a character that stands apart
+columns-around : (c : ℕ) (front back : List ℕ) → stands_before c back ≡ true
+    → columns_of (front ++ c ∷ back) ≡ columns_of front + (char_columns c + columns_of back)
+columns-around c front back h =
+    columns-append front (c ∷ back) (ap (λ r. r.1) (read_before-apart c back h)) ∙ ap (λ n. columns_of front + n) (columns-first c back h)
+
+stands_before-separator : (c : ℕ) (back : List ℕ) → is_separator c ≡ true → stands_before c back ≡ true
+stands_before-separator c back h =
+    let parts = and_parts (is_additive c) (not (is_keycap_base c)) h in
+    let e = not-true (is_keycap_base c) parts.1 in
+    and_from (is_additive c) (not (is_keycap_base c && begins_with_selector back)) parts.0 (ap (λ b. not (b && begins_with_selector back)) e)
+
+pub columns-separator : (c : ℕ) (back : List ℕ) → is_separator c ≡ true → columns_of (c ∷ back) ≡ char_columns c + columns_of back
+columns-separator c back h = columns-first c back (stands_before-separator c back h)
+
+pub columns-between : (c : ℕ) (front back : List ℕ) → is_separator c ≡ true
+    → columns_of (front ++ c ∷ back) ≡ columns_of front + (char_columns c + columns_of back)
+columns-between c front back h = columns-around c front back (stands_before-separator c back h)
+
+-- ---- two texts
+
+columns-begins : (front back : List ℕ) → begins_apart back ≡ true → columns_of (front ++ back) ≡ columns_of front + columns_of back
+columns-begins front [] h = columns-append front [] refl
+columns-begins front (c ∷ back) h = columns-append front (c ∷ back) (ap (λ r. r.1) (read_before-apart c back h))
+
+-- a text that is empty, or ends with some character
+record HasEnd (front back : List ℕ) : Type 0 where
+  rest : List ℕ
+  last : ℕ
+  parts : front ≡ rest ++ last ∷ []
+  stands : stands_before last back ≡ true
+
+has_end : (c : ℕ) (cs back : List ℕ) → ends_before (c ∷ cs) back ≡ true → HasEnd (c ∷ cs) back
+has_end c [] back h = record { rest = []; last = c; parts = refl; stands = h }
+has_end c (d ∷ cs) back h = let e = has_end d cs back h in record { rest = c ∷ e.rest; last = e.last; parts = ap (λ l. c ∷ l) e.parts; stands = e.stands }
+
+stands_before-nil : (c : ℕ) (back : List ℕ) → stands_before c back ≡ true → stands_before c [] ≡ true
+stands_before-nil c back h =
+    and_from (is_additive c) (not (is_keycap_base c && false))
+    (and_parts (is_additive c) (not (is_keycap_base c && begins_with_selector back)) h).0 (nothing (is_keycap_base c))
+  where
+    nothing : (b : Bool) → not (b && false) ≡ true
+    nothing true = refl
+    nothing false = refl
+
+columns-ends : (front back : List ℕ) → ends_before front back ≡ true → columns_of (front ++ back) ≡ columns_of front + columns_of back
+unfolding str_width
+columns-ends [] back h = sym (zero-add (columns_of back))
+columns-ends (c ∷ cs) back h =
+    let e = has_end c cs back h in
+    let own : columns_of (c ∷ cs) ≡ columns_of e.rest + (char_columns e.last + columns_of []) = ap columns_of e.parts ∙ columns-around e.last e.rest []
+    (stands_before-nil e.last back e.stands) in
+    let all : columns_of ((c ∷ cs) ++ back) ≡ columns_of e.rest + (char_columns e.last + columns_of back) =
+    ap (λ l. columns_of (l ++ back)) e.parts ∙ ap columns_of (append_assoc e.rest (e.last ∷ []) back) ∙ columns-around e.last e.rest back e.stands in
+    let none : columns_of [] ≡ 0 = refl in
+    all ∙ (let z : columns_of e.rest + (char_columns e.last + columns_of back) ≡ columns_of (c ∷ cs) + columns_of back = omega (arith, own, none) in z)
+
+pub columns-meet : (front back : List ℕ) → meet front back ≡ true → columns_of (front ++ back) ≡ columns_of front + columns_of back
+columns-meet front back h = ⊎_elim (columns-begins front back) (columns-ends front back) (or_cases (begins_apart back) (ends_before front back) h)
+
+-- ---- separators alone
+
+pub begins_apart-separators : (cs back : List ℕ) → list_all is_separator cs ≡ true → begins_apart back ≡ true
+    → begins_apart (cs ++ back) ≡ true
+begins_apart-separators [] back h b = b
+begins_apart-separators (c ∷ cs) back h b = stands_before-separator c (cs ++ back) (and_parts (is_separator c) (list_all is_separator cs) h).0
+
+pub ends_before-separators : (cs back : List ℕ) → list_all is_separator cs ≡ true → ends_before cs back ≡ true
+ends_before-separators [] back h = refl
+ends_before-separators (c ∷ []) back h = stands_before-separator c back (and_parts (is_separator c) true h).0
+ends_before-separators (c ∷ d ∷ cs) back h = ends_before-separators (d ∷ cs) back (and_parts (is_separator c) (list_all is_separator (d ∷ cs)) h).1
+
+-- ---- additive characters of one column
+
+-- a keycap base is printable ASCII, which is plain
+pub additive_column-splits : (c : ℕ) → IsAdditiveColumn c ↔ (IsPlainColumn c ⊎ IsSeparatorColumn c)
+additive_column-splits c = (
+  λ h. ⊎_elim (λ y. inl (only_plain-printable c (keycap-printable c y))) (λ n. inr (record { additive = h; steady = n }))
+      (cases_Bool (is_keycap_base c)),
+  λ either. ⊎_elim (additive_column-plain c) (λ s. s.additive) either,
+)
+
+-- ---- lines, by bytes
 
 -- the same with its columns written otherwise
 line-as : {line : List ℕ} {m n : ℕ} → IsLine line m → m ≡ n → IsLine line n
@@ -18,7 +164,8 @@ line-as {line} p e = subst (λ k. IsLine line k) e p
 
 -- ---- two lines
 
-pub line-append : {front back : List ℕ} {m n : ℕ} → IsLine front m → IsLine back n → meet (chars front) (chars back) ≡ true → IsLine (front ++ back) (m + n)
+pub line-append : {front back : List ℕ} {m n : ℕ} → IsLine front m → IsLine back n → meet (chars front) (chars back) ≡ true
+    → IsLine (front ++ back) (m + n)
 line-append {front} {back} {m} {n} p q h =
     let e = chars-append front back p.utf8 in record {
       utf8 = IsUtf8-append front back p.utf8 q.utf8;
@@ -31,11 +178,7 @@ line-append {front} {back} {m} {n} p q h =
 -- ---- frames
 
 no_feed-plain : (cs : List ℕ) → list_all is_separator cs ≡ true → list_all is_no_feed cs ≡ true
-no_feed-plain [] h = refl
-no_feed-plain (c ∷ cs) h =
-    let parts = and_parts (is_separator c) (list_all is_separator cs) h in
-    let own = and_parts (is_additive c) (not (is_keycap_base c)) parts.0 in
-    and_from (is_no_feed c) (list_all is_no_feed cs) (ap not (not_break c own.0)) (no_feed-plain cs parts.1)
+no_feed-plain = all-weaker is_separator is_no_feed (λ c h. ap not (not_break c (and_parts (is_additive c) (not (is_keycap_base c)) h).0))
 
 pub line-frame : {text : List ℕ} {n : ℕ} → IsFrame text n → IsLine text n
 line-frame {text} p = record { utf8 = p.utf8; feedless = no_feed-plain (chars text) p.separators; columns = p.columns }
@@ -78,7 +221,8 @@ frame-one c own =
     }
 
 -- what stands between two frames adds its columns
-pub line-framed : {left line right : List ℕ} {k n l : ℕ} → IsFrame left k → IsLine line n → IsFrame right l → IsLine (left ++ (line ++ right)) (k + (n + l))
+pub line-framed : {left line right : List ℕ} {k n l : ℕ} → IsFrame left k → IsLine line n → IsFrame right l
+    → IsLine (left ++ (line ++ right)) (k + (n + l))
 line-framed {left} {line} {right} {k} {n} {l} p x q =
     let after = or_left (begins_apart (chars right)) (ends_before (chars line) (chars right))
     (subst (λ t. begins_apart t ≡ true) (append-nil (chars right)) (begins_apart-separators (chars right) [] q.separators refl)) in
@@ -91,8 +235,7 @@ line-framed {left} {line} {right} {k} {n} {l} p x q =
 
 -- lines that begin apart
 pub line-pieces : (first : List ℕ) (m : ℕ) → IsLine first m → (pieces : List (List ℕ)) → All (λ p. IsLine p (line_columns p)) pieces
-    → All (λ p. begins_apart (chars p) ≡ true) pieces
-    → IsLine (first ++ flat_map (λ p. p) pieces) (m + sum_by line_columns pieces)
+    → All (λ p. begins_apart (chars p) ≡ true) pieces → IsLine (first ++ flat_map (λ p. p) pieces) (m + sum_by line_columns pieces)
 line-pieces first m f [] h b = line-as (subst (λ l. IsLine l m) (sym (append-nil first)) f) (omega arith)
 line-pieces first m f (p ∷ ps) h b =
     let own = All-head (λ p. IsLine p (line_columns p)) p ps h in
@@ -104,8 +247,8 @@ line-pieces first m f (p ∷ ps) h b =
     (omega (arith, sum_by-cons line_columns p ps))
 
 -- lines that end apart
-pub pieces-line : (pieces : List (List ℕ)) (last : List ℕ) (m : ℕ) → IsLine last m → All (λ p. IsLine p (line_columns p)) pieces → All EndsApart pieces
-    → IsLine (flat_map (λ p. p) pieces ++ last) (sum_by line_columns pieces + m)
+pub pieces-line : (pieces : List (List ℕ)) (last : List ℕ) (m : ℕ) → IsLine last m → All (λ p. IsLine p (line_columns p)) pieces
+    → All EndsApart pieces → IsLine (flat_map (λ p. p) pieces ++ last) (sum_by line_columns pieces + m)
 pieces-line [] last m l h b = line-as l (omega arith)
 pieces-line (p ∷ ps) last m l h b =
     let own = All-head (λ p. IsLine p (line_columns p)) p ps h in

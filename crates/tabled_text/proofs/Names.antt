@@ -1,16 +1,18 @@
 -- The names of the crates below, and of the definitions of this one, that its proofs use. Declares
 -- nothing.
-pub use Rattle.std.proofs.Common.{All, Bool, IfOk, IfSome, List, None, OnOk, Option, Some, [], ap, arith, chars, cond, drop, encode_utf8}
-pub use Rattle.std.proofs.Common.{encode_utf8_all, eqb, false, get_or, inl, inr, length, length-append, lit<, ltb, map, max, min, nat_le}
-pub use Rattle.std.proofs.Common.{nat_lt, not, option_copied, refl, replicate, subst, suc, sum_by, sym, take, true, w8, zero, ℕ, ⊎_elim}
-pub use Rattle.std.proofs.Common.{◌%◌, ◌&&◌, ◌*◌, ◌++◌, ◌+◌, ◌-◌, ◌<◌, ◌==◌, ◌||◌, ◌↔◌, ◌∙◌, ◌∷◌, ◌≡◌, ◌≤◌, ◌⊎◌}
-pub use Rattle.std.proofs.Math.Seq.{split_at}
+pub use Rattle.std.proofs.Common.{All, Bool, IfOk, IfSome, List, None, OnOk, Option, Some, [], ap, arith, bit_and, chars, cond, drop}
+pub use Rattle.std.proofs.Common.{encode_utf8, encode_utf8_all, eqb, false, get_or, inl, inr, length, length-append, lit<, ltb, map, max}
+pub use Rattle.std.proofs.Common.{min, nat_le, nat_lt, not, option_copied, refl, replicate, string_bytes, subst, suc, sum_by, sym, take}
+pub use Rattle.std.proofs.Common.{true, w8, zero, ℕ, ⊎_elim, ◌%◌, ◌&&◌, ◌*◌, ◌++◌, ◌+◌, ◌-◌, ◌/◌, ◌<◌, ◌==◌, ◌^◌, ◌||◌, ◌↔◌, ◌∙◌, ◌∷◌, ◌≡◌}
+pub use Rattle.std.proofs.Common.{◌≤◌, ◌⊎◌}
+pub use Rattle.std.proofs.Math.Seq.{split_at, take-add}
 pub use Rattle.std.proofs.Math.Utf8.{scalar, scalars}
-pub use Rattle.std.proofs.lemmas.Bool.{and_from, and_parts, cases_Bool, cases_lt, eq-eqb, eqb-false, eqb-true, le-leb, leb-false, leb-true}
-pub use Rattle.std.proofs.lemmas.Bool.{lt-leb, lt-ltb, ne_eqb, not-false, not-true, or_cases, or_left, or_right}
+pub use Rattle.std.proofs.lemmas.Bool.{agree_below_at, and_from, and_parts, cases_Bool, cases_lt, eq-eqb, eqb-false, eqb-true, le-leb}
+pub use Rattle.std.proofs.lemmas.Bool.{leb-false, leb-true, lt-leb, lt-ltb, ne_eqb, not-false, not-true, or_cases, or_left, or_right}
 pub use Rattle.std.proofs.lemmas.Bool.Decides.{nat_tests}
-pub use Rattle.std.proofs.lemmas.List.{append-nil, append_assoc, drop_at, get_or-map, get_or-take, get_or_default, length-drop, length-map}
-pub use Rattle.std.proofs.lemmas.List.{length-take-le, nil_from_length, take-append-le, take-take, take_all, take_at}
+pub use Rattle.std.proofs.lemmas.List.{append-nil, append_assoc, drop-drop, drop_at, get_or-drop, get_or-map, get_or-take, get_or_default}
+pub use Rattle.std.proofs.lemmas.List.{length-drop, length-map, length-take-le, nil_from_length, take-append-drop, take-append-le}
+pub use Rattle.std.proofs.lemmas.List.{take-take, take_all, take_at}
 pub use Rattle.std.proofs.lemmas.List.Elements.{All-cons, All-head, All-nil, All-tail}
 pub use Rattle.std.proofs.lemmas.List.Folds.{list_all-append}
 pub use Rattle.std.proofs.lemmas.List.Splits.{join_with_byte-slice_split, length-slice_split, slice_split-cons_no, slice_split_none}
@@ -25,13 +27,17 @@ pub use Rattle.std.specs.Char.{IsScalar, len_utf8}
 pub use Rattle.std.specs.Int.{is_in_range}
 pub use Rattle.std.specs.List.{AllZip, flat_map, join_with_byte, list_all, onto_first, slice_index_or, slice_split}
 pub use Rattle.std.specs.Prelude.{MatchBool, ⊤}
-pub use Rattle.std.specs.Simd.Lanes.{chunk, mask_l}
+pub use Rattle.std.specs.Simd.Lanes.{chunk, mask_l, sum_l}
 pub use Rattle.std.specs.Str.{IsCharBoundary, IsUtf8}
-pub use Rattle.tabled_text.specs.Breaking.{EachUnitFits, HasFewestLines, IsBreaking, IsGrouping, IsLeastBreaking}
+pub use Rattle.tabled_text.specs.Breaking.{EachUnitFits, HasFewestLines, IsBreaking, IsGrouping, IsLeastBreaking, TextUnit, space, text_of}
+pub use Rattle.tabled_text.specs.Breaking.{unit_of_char, units, units_of_word, units_of_words, width_of, words_of}
 pub use Rattle.tabled_text.specs.Cut.{IsCut, IsLongestReached, IsParted, IsReached, last_line, last_of, missing_columns}
-pub use Rattle.tabled_text.specs.Expected.{Expects}
-pub use Rattle.tabled_text.specs.FramedLines.{EndsApart, IsFrame, IsLine, IsSeparatorColumn, is_no_feed}
-pub use Rattle.tabled_text.specs.Letters.{BeginsBy, IsLetter, is_narrow_lead, is_wide_lead}
+pub use Rattle.tabled_text.specs.Walk.{BreaksAt, Expects, IsPiece, append_all, append_text, append_used, begin_text, fits_line, fits_word}
+pub use Rattle.tabled_text.specs.Walk.{pending, used_after, words_in, written_line}
+pub use Rattle.tabled_text.specs.FramedLines.{EndsApart, IsFrame, IsLine, IsSeparatorColumn, begins_apart, begins_with_selector}
+pub use Rattle.tabled_text.specs.FramedLines.{ends_before, is_keycap_base, is_no_feed, is_separator, meet, stands_before}
+pub use Rattle.tabled_text.specs.Letters.{AreLetters, BeginsBy, IsLetter, byte_columns, is_inner_byte, is_letter_byte, is_letter_or_break}
+pub use Rattle.tabled_text.specs.Letters.{is_narrow_lead, is_wide_lead, lead_byte}
 pub use Rattle.tabled_text.specs.Lines.{lines_in, lines_left}
 pub use Rattle.tabled_text.specs.Longest.{IsLongestCut}
 pub use Rattle.tabled_text.specs.Measure.{char_columns, char_count, columns_of, count_of, greatest, line_columns, lines_of, text_columns}
@@ -39,11 +45,6 @@ pub use Rattle.tabled_text.specs.Plain.{IsAdditive, IsAdditiveColumn, IsAdditive
 pub use Rattle.tabled_text.specs.Plain.{is_additive_or_feed, is_drawn, is_listed, is_listed_or_drawn, is_plain_character}
 pub use Rattle.tabled_text.specs.Room.{is_additive_text, stays}
 pub use Rattle.tabled_text.specs.Runs.{IsFirstAt, IsSplitAt, LieWithin}
-pub use Rattle.tabled_text.specs.Separators.{begins_apart, begins_with_selector, ends_before, is_keycap_base, is_separator, meet}
-pub use Rattle.tabled_text.specs.Separators.{stands_before}
-pub use Rattle.tabled_text.specs.Units.{TextUnit, space, text_of, unit_of_char, units, units_of_word, units_of_words, width_of, words_of}
-pub use Rattle.tabled_text.specs.Walk.{IsPiece, append_all, append_text, append_used, begin_text, fits_line, fits_word, pending, used_after}
-pub use Rattle.tabled_text.specs.Walk.{words_in}
 pub use Rattle.tabled_text.specs.Wrapping.{AreFullest, Fits, IsFittingWrapping, IsFullest, IsFullestText, IsWrapped, needed, shown}
 pub use Rattle.tabled_text.specs.Wrapping.{text_from, text_of_groups, text_of_lines}
 unfoldable pub use Rattle.ucd_bidi.specs.JoiningGroup.{joining_group}
@@ -73,3 +74,7 @@ pub use Rattle.unicode_width.specs.declared.state.Change.TheVariants.{Less, One,
 pub use Rattle.unicode_width.specs.declared.state.State.{State}
 pub use denote.Shadow.{shadow}
 pub use denote.Text.{Utf8}
+pub use Rattle.tabled_text.specs.Exact.{IsExactLine}
+pub use Rattle.std.proofs.lemmas.Option.{IfSome_then}
+pub use Rattle.std.proofs.lemmas.Nat.{and_le_r}
+pub use Rattle.std.proofs.lemmas.Simd.{length-chunk, map-map, mask_l-mod, splat_is_map, zip2_of_maps, zip2_splat}

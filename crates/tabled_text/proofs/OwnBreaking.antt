@@ -1,29 +1,22 @@
 -- Where each unit finds room, a wrapped text is the text of a breaking, and so the old one with line feeds put in.
 use Rattle.tabled_text.proofs.Names.{All, All-cons, All-head, All-nil, All-tail, AllZip, AreFullest, Bool, EachUnitFits, Fits, IsBreaking}
-use Rattle.tabled_text.proofs.Names.{IsFullest, IsFullestText, IsLeastBreaking, IsWrapped, List, MatchBool, TextUnit, [], ap, append-nil}
-use Rattle.tabled_text.proofs.Names.{arith, chars, columns_of, cond, false, flat_map, join_with_byte, join_with_byte-slice_split, le-leb}
-use Rattle.tabled_text.proofs.Names.{lines_of, map, nat_le, ne_eqb, refl, replicate, space, subst, sum_by-cons, sym, text_from, text_of}
-use Rattle.tabled_text.proofs.Names.{text_of_groups, true, unit_of_char, units, units_of_word, units_of_words, width_of, words_of, ℕ, ⊤}
-use Rattle.tabled_text.proofs.Names.{◌++◌, ◌+◌, ◌-◌, ◌<◌, ◌==◌, ◌∙◌, ◌∷◌, ◌≡◌, ◌≤◌}
+use Rattle.tabled_text.proofs.Names.{IsFullest, IsLeastBreaking, IsWrapped, List, TextUnit, [], ap, append-nil, arith, chars, columns_of}
+use Rattle.tabled_text.proofs.Names.{cond, false, flat_map, join_with_byte, join_with_byte-slice_split, le-leb, lines_of, map, nat_le, refl}
+use Rattle.tabled_text.proofs.Names.{replicate, space, subst, sum_by-cons, sym, text_from, text_of, text_of_groups, true, unit_of_char}
+use Rattle.tabled_text.proofs.Names.{units, units_of_word, units_of_words, width_of, words_of, ℕ, ◌++◌, ◌+◌, ◌-◌, ◌<◌, ◌∙◌, ◌∷◌, ◌≡◌, ◌≤◌}
 use Rattle.std.proofs.lemmas.List.Concat.{flat_map-append}
 use Rattle.tabled_text.specs.Breaking.{IsBroken}
 use Rattle.tabled_text.specs.OldText.{HasOldText}
-use Rattle.tabled_text.proofs.FewestGroups.{fewest_lines}
-use Rattle.tabled_text.proofs.Filling.{written_fullest}
-use Rattle.tabled_text.proofs.WriteLemmas.{AllZip-broken}
-use Rattle.tabled_text.proofs.FewestLines.{rows-wrapped, count-chars}
+use Rattle.tabled_text.proofs.FewestLines.{count-chars, fewest_lines, rows-wrapped}
+use Rattle.tabled_text.proofs.Filling.{AllZip-broken, full_text, written_fullest}
+use Rattle.tabled_text.proofs.FitLemmas.{EachUnit, EachUnit-append, EachUnit-parts}
 
 abbrev Narrow : ℕ → List TextUnit → Type 0
-Narrow n [] = ⊤
-Narrow n (u ∷ us) = (u.width ≤ n) × Narrow n us
+Narrow n us = EachUnit (λ u. u.width ≤ n) us
 
 Narrow-from : (n : ℕ) (us : List TextUnit) → All (λ u. u.width ≤ n) us → Narrow n us
 Narrow-from n [] h = tt
 Narrow-from n (u ∷ us) h = (All-head (λ (v : TextUnit). v.width ≤ n) u us h, Narrow-from n us (All-tail (λ (v : TextUnit). v.width ≤ n) u us h))
-
-Narrow-parts : (n : ℕ) (us vs : List TextUnit) → Narrow n (us ++ vs) → Narrow n us × Narrow n vs
-Narrow-parts n [] vs h = (tt, h)
-Narrow-parts n (u ∷ us) vs h = let r = Narrow-parts n us vs h.1 in ((h.0, r.0), r.1)
 
 -- ---- the units joined are the line
 
@@ -58,10 +51,11 @@ text_from-narrow n used (p ∷ g) h =
     ap (λ b. cond b p.text (replicate (n - used) 0xFFFD) ++ text_from n (used + p.width) g) (le-leb p.width n h.0) ∙
     ap (λ l. p.text ++ l) (text_from-narrow n (used + p.width) g h.1)
 
-texts-narrow : (n : ℕ) (groups : List (List TextUnit)) → Narrow n (flat_map (λ g. g) groups) → map (text_from n 0) groups ≡ map text_of groups
+texts-narrow : (n : ℕ) (groups : List (List TextUnit)) → Narrow n (flat_map (λ g. g) groups)
+    → map (text_from n 0) groups ≡ map text_of groups
 texts-narrow n [] h = refl
 texts-narrow n (g ∷ gs) h =
-    let parts = Narrow-parts n g (flat_map (λ x. x) gs) h in
+    let parts = EachUnit-parts (λ u. u.width ≤ n) g (flat_map (λ x. x) gs) h in
     ap (λ l. l ∷ map (text_from n 0) gs) (text_from-narrow n 0 g parts.0) ∙ ap (λ l. text_of g ∷ l) (texts-narrow n gs parts.1)
 
 text_of-flat : (groups : List (List TextUnit)) → flat_map (λ part. part) (map text_of groups) ≡ text_of (flat_map (λ g. g) groups)
@@ -77,11 +71,10 @@ FitLines n words lines = All (λ line. All (λ u. u.width ≤ n) (units n words 
 each_line : (n : ℕ) (words : Bool) → (lines : List (List ℕ)) (broken : List (List (List TextUnit))) → AreFull n words lines broken
     → AllZip (λ line cut. flat_map (λ part. part) cut ≡ line) lines (map (map text_of) broken)
 each_line n words [] [] f = tt
-each_line n words [] (g ∷ gs) f = absurd f
-each_line n words (l ∷ ls) [] f = absurd f
 each_line n words (l ∷ ls) (g ∷ gs) f =
     let whole = f.0.grouping.whole in
     (text_of-flat g ∙ ap text_of whole ∙ text_of-units n words l, each_line n words ls gs f.1)
+each_line n words _ _ f = absurd f
 
 narrow_line : (n : ℕ) (words : Bool) (l : List ℕ) (ls : List (List ℕ)) (groups : List (List TextUnit))
     → FitLines n words (l ∷ ls) → IsFullest n (units n words l) groups → Narrow n (flat_map (λ g. g) groups)
@@ -89,16 +82,14 @@ narrow_line n words l ls groups h f =
     subst (Narrow n) (sym f.grouping.whole) (Narrow-from n (units n words l)
     (All-head (λ line. All (λ (u : TextUnit). u.width ≤ n) (units n words line)) l ls h))
 
-all_lines : (n : ℕ) (words : Bool) → (lines : List (List ℕ)) (broken : List (List (List TextUnit)))
-    → FitLines n words lines → AreFull n words lines broken
-    → map (text_of_groups n) broken ≡ map (λ groups. join_with_byte 10 (map text_of groups)) broken
+all_lines : (n : ℕ) (words : Bool) → (lines : List (List ℕ)) (broken : List (List (List TextUnit))) → FitLines n words lines
+    → AreFull n words lines broken → map (text_of_groups n) broken ≡ map (λ groups. join_with_byte 10 (map text_of groups)) broken
 all_lines n words [] [] e f = refl
-all_lines n words [] (g ∷ gs) e f = absurd f
-all_lines n words (l ∷ ls) [] e f = absurd f
 all_lines n words (l ∷ ls) (g ∷ gs) e f =
     ap (λ t. join_with_byte 10 t ∷ map (text_of_groups n) gs) (texts-narrow n g (narrow_line n words l ls g e f.0))
     ∙ ap (λ t. join_with_byte 10 (map text_of g) ∷ t)
     (all_lines n words ls gs (All-tail (λ line. All (λ (u : TextUnit). u.width ≤ n) (units n words line)) l ls e) f.1)
+all_lines n words _ _ e f = absurd f
 
 -- ---- the fullest breaking is one
 
@@ -109,33 +100,27 @@ fits-narrow n used (u ∷ g) le h f =
     let more = fits-narrow n (used + u.width) g own h.1 f.1 in
     omega (arith, sum_by-cons (λ (v : TextUnit). v.width) u g)
 
-groups-fit : (n : ℕ) (groups : List (List TextUnit)) → Narrow n (flat_map (λ g. g) groups) → AreFullest n groups → All (λ g. width_of g ≤ n) groups
+groups-fit : (n : ℕ) (groups : List (List TextUnit)) → Narrow n (flat_map (λ g. g) groups) → AreFullest n groups
+    → All (λ g. width_of g ≤ n) groups
 groups-fit n [] h f = All-nil (λ (g : List TextUnit). width_of g ≤ n)
 groups-fit n (g ∷ []) h f =
-    let own = fits-narrow n 0 g (omega arith) (Narrow-parts n g [] h).0 f in
+    let own = fits-narrow n 0 g (omega arith) (EachUnit-parts (λ u. u.width ≤ n) g [] h).0 f in
     All-cons (λ (g : List TextUnit). width_of g ≤ n) g [] (omega arith) (All-nil (λ (g : List TextUnit). width_of g ≤ n))
 groups-fit n (g ∷ k ∷ gs) h f =
-    let parts = Narrow-parts n g (flat_map (λ x. x) (k ∷ gs)) h in
+    let parts = EachUnit-parts (λ u. u.width ≤ n) g (flat_map (λ x. x) (k ∷ gs)) h in
     let own = fits-narrow n 0 g (omega arith) parts.0 f.0 in
     All-cons (λ (g : List TextUnit). width_of g ≤ n) g (k ∷ gs) (omega arith) (groups-fit n (k ∷ gs) parts.1 f.2)
 
-are_breakings : (n : ℕ) (words : Bool) (lines : List (List ℕ)) (broken : List (List (List TextUnit)))
-    → FitLines n words lines → AreFull n words lines broken
-    → AllZip (λ line groups. IsBreaking n (units n words line) groups) lines broken
+are_breakings : (n : ℕ) (words : Bool) (lines : List (List ℕ)) (broken : List (List (List TextUnit))) → FitLines n words lines
+    → AreFull n words lines broken → AllZip (λ line groups. IsBreaking n (units n words line) groups) lines broken
 are_breakings n words [] [] e f = tt
-are_breakings n words [] (g ∷ gs) e f = absurd f
-are_breakings n words (l ∷ ls) [] e f = absurd f
 are_breakings n words (l ∷ ls) (g ∷ gs) e f =
     let own : IsBreaking n (units n words l) g = record {
       grouping = f.0.grouping;
       fits = groups-fit n g (narrow_line n words l ls g e f.0) f.0.fullest;
     } in
     (own, are_breakings n words ls gs (All-tail (λ line. All (λ (u : TextUnit). u.width ≤ n) (units n words line)) l ls e) f.1)
-
-full_text : (n : ℕ) (words : Bool) (text answer : List ℕ) → 0 < n → IsWrapped n words text answer → IsFullestText n words (chars text) (chars answer)
-full_text n words text answer pos w =
-    let nonzero : (n == 0) ≡ false = ne_eqb n 0 (λ z. omega arith) in
-    subst (λ b. MatchBool b (answer ≡ []) (IsFullestText n words (chars text) (chars answer))) nonzero w.wrapped
+are_breakings n words _ _ e f = absurd f
 
 -- the wrapped text is the text of a breaking that has the fewest groups
 pub least_breaking : (n : ℕ) (words : Bool) (text answer : List ℕ) → 0 < n → EachUnitFits n words text
@@ -176,14 +161,10 @@ unit-le n (u ∷ g) h =
     let e = sum_by-cons (λ (v : TextUnit). v.width) u g in
     (omega arith, unit-le n g (omega arith))
 
-Narrow-append : (n : ℕ) (us vs : List TextUnit) → Narrow n us → Narrow n vs → Narrow n (us ++ vs)
-Narrow-append n [] vs f g = g
-Narrow-append n (u ∷ us) vs f g = (f.0, Narrow-append n us vs f.1 g)
-
 narrow-groups : (n : ℕ) (groups : List (List TextUnit)) → All (λ g. width_of g ≤ n) groups → Narrow n (flat_map (λ g. g) groups)
 narrow-groups n [] h = tt
 narrow-groups n (g ∷ gs) h =
-    Narrow-append n g (flat_map (λ x. x) gs) (unit-le n g (All-head (λ (g : List TextUnit). width_of g ≤ n) g gs h))
+    EachUnit-append (λ u. u.width ≤ n) g (flat_map (λ x. x) gs) (unit-le n g (All-head (λ (g : List TextUnit). width_of g ≤ n) g gs h))
     (narrow-groups n gs (All-tail (λ (g : List TextUnit). width_of g ≤ n) g gs h))
 
 All-narrow : (n : ℕ) (us : List TextUnit) → Narrow n us → All (λ u. u.width ≤ n) us
@@ -193,11 +174,10 @@ All-narrow n (u ∷ us) h = All-cons (λ (u : TextUnit). u.width ≤ n) u us h.0
 fit-lines : (n : ℕ) (words : Bool) (lines : List (List ℕ)) (broken : List (List (List TextUnit))) → AllZip
     (λ line groups. IsBreaking n (units n words line) groups) lines broken → FitLines n words lines
 fit-lines n words [] [] b = All-nil (λ line. All (λ (u : TextUnit). u.width ≤ n) (units n words line))
-fit-lines n words [] (g ∷ gs) b = absurd b
-fit-lines n words (l ∷ ls) [] b = absurd b
 fit-lines n words (l ∷ ls) (g ∷ gs) b =
     All-cons (λ line. All (λ (u : TextUnit). u.width ≤ n) (units n words line)) l ls
     (All-narrow n (units n words l) (subst (Narrow n) b.0.grouping.whole (narrow-groups n g b.0.fits))) (fit-lines n words ls gs b.1)
+fit-lines n words _ _ b = absurd b
 
 pub fits-broken : (n : ℕ) (words : Bool) (text : List ℕ) (broken : List (List (List TextUnit)))
     → IsBroken n words text broken → EachUnitFits n words text

@@ -1,21 +1,19 @@
 -- A step of the whole and of its beginning from whatever states they are in.
 use Rattle.tabled_text.proofs.Names.{Bool, Emoji, KiratAi, KiratE, LineFeed, None, One, Reading, RegionalIndicator, RegionalIndicators}
-use Rattle.tabled_text.proofs.Names.{Same, Some, State, added, alone, and_parts, ap, arith, before, cases_Bool, char_count, cond, false}
-use Rattle.tabled_text.proofs.Names.{if_kept, in_context, is_emoji_variation_base, is_indicator, is_joined_emoji, is_line_feed, is_plain}
-use Rattle.tabled_text.proofs.Names.{is_quote, is_text_presentation_base, joined_or, joins, nat_le, nat_tests, not, not-false, not-true}
-use Rattle.tabled_text.proofs.Names.{past_emoji, past_selectors, plain, refl, step, subst, sym, true, ℕ, ⊎_elim, ◌&&◌, ◌+◌, ◌==◌, ◌∙◌, ◌≡◌}
-use Rattle.tabled_text.proofs.Names.{◌≤◌}
-use Rattle.std.proofs.Common.{eqb-true}
+use Rattle.tabled_text.proofs.Names.{Same, Some, State, added, alone, and_parts, ap, arith, before, cases_Bool, char_count, cond, eqb-true}
+use Rattle.tabled_text.proofs.Names.{false, if_kept, in_context, is_emoji_variation_base, is_indicator, is_joined_emoji, is_line_feed}
+use Rattle.tabled_text.proofs.Names.{is_plain, is_quote, is_text_presentation_base, joined_or, joins, nat_le, nat_tests, not, not-false}
+use Rattle.tabled_text.proofs.Names.{not-true, past_emoji, past_selectors, plain, refl, step, subst, sym, true, ℕ, ⊎_elim, ◌&&◌, ◌+◌, ◌==◌}
+use Rattle.tabled_text.proofs.Names.{◌∙◌, ◌≡◌, ◌≤◌}
 use Rattle.unicode_width.specs.declared.state.After.TheVariants.{Nothing, ZwjEmoji}
 use Rattle.unicode_width.specs.Width.{first_of}
-use Rattle.tabled_text.proofs.CountBound.{slack, credit, Bounded-past_selectors, count-some, flag-true, IsLess-kept}
-use Rattle.tabled_text.proofs.Joining.{calm-slack, alone-emoji_selector, alone-quote_selector, alone-vowel, alone-quote, alone-base}
-use Rattle.tabled_text.proofs.Joining.{feed-no_base}
-use Rattle.tabled_text.proofs.Beside.{same_state, plain_state, emoji_state, quote_state, flags_state, vowels_state, lost, Both, Follows}
-use Rattle.tabled_text.proofs.Beside.{Goes, Goes-at, Goes-both, Goes-cond, Goes-land, Goes-own, IsOpen, alone-bound, count-alone}
-use Rattle.tabled_text.proofs.Beside.{flag-false, flag-most, flag-none, joined-slack, kept-no_emoji, no-feed, no-quote, open-kept_emoji}
-use Rattle.tabled_text.proofs.Beside.{open-kept_quote, open-parts, own-alone, own-feed, own-low}
-use Rattle.tabled_text.proofs.SameSteps.{added-at, beside-past_selectors, goes-alone, lost-joined, two-columns, lost-past_emoji, same-step}
+use Rattle.tabled_text.proofs.CountBound.{Bounded-past_selectors, IsLess-kept, count-some, credit, flag-true, slack}
+use Rattle.tabled_text.proofs.Joining.{Both, Follows, Goes, Goes-at, Goes-both, Goes-cond, Goes-land, Goes-own, IsOpen, Steps, alone-base}
+use Rattle.tabled_text.proofs.Joining.{alone-bound, alone-emoji_selector, alone-quote, alone-quote_selector, alone-vowel, calm-slack}
+use Rattle.tabled_text.proofs.Joining.{count-alone, emoji_state, feed-no_base, flag-false, flag-most, flag-none, flags_state, joined-slack}
+use Rattle.tabled_text.proofs.Joining.{kept-no_emoji, lost, no-feed, no-quote, open-kept_emoji, open-kept_quote, open-parts, own-alone}
+use Rattle.tabled_text.proofs.Joining.{own-feed, own-low, plain_state, quote_state, same_state, vowels_state}
+use Rattle.tabled_text.proofs.SameSteps.{added-at, beside-past_selectors, goes-alone, lost-joined, lost-past_emoji, same-step, two-columns}
 
 -- ---- the beginning in a plain state
 pub own-emoji_selector : (c own : ℕ) → (c == 0xFE0F) ≡ true → added own (alone false c) ≡ (own + 0, record plain { emoji = true })
@@ -25,7 +23,7 @@ pub own-quote_selector : (c own : ℕ) → (c == 0xFE01) ≡ true → added own 
 own-quote_selector c own h = added-at own (alone false c) (0, record plain { quote = true }) (ap (alone false) (eqb-true c 0xFE01 h) ∙ alone-quote_selector)
 
 module _ (c t own m k : ℕ) (s : State) (o : IsOpen s) (whole : t + slack s ≡ m) (beginning : own ≡ k) where
-  pub blank-in_context : nat_le c 0xA0 ≡ false → s.emoji ≡ false → Goes (m + char_count c) (k + char_count c) (in_context false c t s) (added own (alone false c))
+  pub blank-in_context : nat_le c 0xA0 ≡ false → s.emoji ≡ false → Steps c m k (in_context false c t s) (added own (alone false c))
   unfolding in_context
   blank-in_context high e =
       let n = char_count c in
@@ -63,7 +61,7 @@ module _ (c t own m k : ℕ) (s : State) (o : IsOpen s) (whole : t + slack s ≡
       (λ x. record { whole = x; beginning = omega arith; opens = refl; follows = same_state refl })))
       (λ _. beside-past_selectors c t own m k s.after o.linked high (omega arith) (λ x. beginning))))))
 
-  pub blank-low : (c == 0x0A) ≡ false → nat_le c 0xA0 ≡ true → Goes (m + char_count c) (k + char_count c) (past_emoji false c t s) (past_emoji false c own plain)
+  pub blank-low : (c == 0x0A) ≡ false → nat_le c 0xA0 ≡ true → Steps c m k (past_emoji false c t s) (past_emoji false c own plain)
   unfolding past_emoji
   blank-low unfed below =
       let n = char_count c in
@@ -73,7 +71,7 @@ module _ (c t own m k : ℕ) (s : State) (o : IsOpen s) (whole : t + slack s ≡
       (λ _. Goes-cond (m + n) (k + n) ((c == 0x0D) && is_line_feed s.after) _ _ _ (λ _. lost (omega arith))
       (λ _. Goes-cond (m + n) (k + n) (nat_le c 0xA0) _ _ _ (λ _. Goes-land (m + n) (k + n) 1 t own plain (omega arith) (λ x. omega arith) refl) (λ y. absurd cc))))
 
-  pub blank-high : nat_le c 0xA0 ≡ false → s.emoji ≡ false → Goes (m + char_count c) (k + char_count c) (past_emoji false c t s) (past_emoji false c own plain)
+  pub blank-high : nat_le c 0xA0 ≡ false → s.emoji ≡ false → Steps c m k (past_emoji false c t s) (past_emoji false c own plain)
   unfolding past_emoji
   blank-high above e =
       let n = char_count c in
@@ -85,7 +83,7 @@ module _ (c t own m k : ℕ) (s : State) (o : IsOpen s) (whole : t + slack s ≡
       (λ _. Goes-cond (m + n) (k + n) (nat_le c 0xA0) _ _ _ (λ y. absurd cc)
       (λ _. Goes-cond (m + n) (k + n) (is_plain s) _ _ _ (λ _. goes-alone c t own m k above (omega arith) (λ x. beginning)) (λ _. blank-in_context above e)))))
 
-  pub blank-feed : (c == 0x0A) ≡ true → Goes (m + char_count c) (k + char_count c) (past_emoji false c t s) (past_emoji false c own plain)
+  pub blank-feed : (c == 0x0A) ≡ true → Steps c m k (past_emoji false c t s) (past_emoji false c own plain)
   blank-feed feed =
       let n = char_count c in
       let some = count-some c in
@@ -93,7 +91,7 @@ module _ (c t own m k : ℕ) (s : State) (o : IsOpen s) (whole : t + slack s ≡
       (subst (λ r. Goes (m + n) (k + n) r (own + 1, before LineFeed)) (sym (own-feed c t s feed))
       (Goes-land (m + n) (k + n) 1 t own (before LineFeed) (omega arith) (λ x. omega arith) refl))
 
-  pub blank-past_emoji : s.emoji ≡ false → Goes (m + char_count c) (k + char_count c) (past_emoji false c t s) (past_emoji false c own plain)
+  pub blank-past_emoji : s.emoji ≡ false → Steps c m k (past_emoji false c t s) (past_emoji false c own plain)
   blank-past_emoji e =
       ⊎_elim blank-feed (λ no. ⊎_elim (blank-low no) (λ above. blank-high above e) (cases_Bool (nat_le c 0xA0))) (cases_Bool (c == 0x0A))
 
@@ -109,7 +107,7 @@ own-base c own h n =
     (cases_Bool (c == 0x0A))
 
 pub blank-step : (c t own m k : ℕ) (s : State) → IsOpen s → credit s.after ≤ t → t + slack s ≡ m → own ≡ k
-    → Goes (m + char_count c) (k + char_count c) (step false c (t, s)) (step false c (own, plain))
+    → Steps c m k (step false c (t, s)) (step false c (own, plain))
 unfolding step
 blank-step c t own m k s o covers whole beginning =
     let n = char_count c in
@@ -135,7 +133,7 @@ blank-step c t own m k s o covers whole beginning =
 
 -- ---- the beginning behind a selector alone
 pub emoji-step : (c t own m k : ℕ) (s : State) → IsOpen s → credit s.after ≤ t → s.emoji ≡ true → t + slack s ≡ m → own + 1 ≡ k
-    → Goes (m + char_count c) (k + char_count c) (step false c (t, s)) (step false c (own, record plain { emoji = true }))
+    → Steps c m k (step false c (t, s)) (step false c (own, record plain { emoji = true }))
 unfolding step
 emoji-step c t own m k s o covers e whole beginning =
     let n = char_count c in
@@ -157,8 +155,8 @@ pub own-quoted : (c own : ℕ) → is_quote c ≡ true → step false c (own, re
 unfolding step past_emoji in_context
 own-quoted c own h = grind (arith, nat_tests)
 
-pub quote-in_context : (c t own m k : ℕ) (s : State) → IsOpen s → credit s.after ≤ t → s.emoji ≡ false → s.quote ≡ true → t + slack s ≡ m → own + 1 ≡ k → nat_le c 0xA0 ≡ false
-    → Goes (m + char_count c) (k + char_count c) (in_context false c t s) (step false c (own, record plain { quote = true }))
+pub quote-in_context : (c t own m k : ℕ) (s : State) → IsOpen s → credit s.after ≤ t → s.emoji ≡ false → s.quote ≡ true → t + slack s ≡ m
+    → own + 1 ≡ k → nat_le c 0xA0 ≡ false → Steps c m k (in_context false c t s) (step false c (own, record plain { quote = true }))
 unfolding in_context
 quote-in_context c t own m k s o covers e q whole beginning high =
     let n = char_count c in
@@ -186,8 +184,8 @@ pub step-no_emoji : (c t : ℕ) (s : State) → s.emoji ≡ false → step false
 unfolding step
 step-no_emoji c t s e = rw e
 
-pub quote-past_emoji : (c t own m k : ℕ) (s : State) → IsOpen s → credit s.after ≤ t → s.emoji ≡ false → s.quote ≡ true → t + slack s ≡ m → own + 1 ≡ k
-    → Goes (m + char_count c) (k + char_count c) (past_emoji false c t s) (step false c (own, record plain { quote = true }))
+pub quote-past_emoji : (c t own m k : ℕ) (s : State) → IsOpen s → credit s.after ≤ t → s.emoji ≡ false → s.quote ≡ true → t + slack s ≡ m
+    → own + 1 ≡ k → Steps c m k (past_emoji false c t s) (step false c (own, record plain { quote = true }))
 unfolding past_emoji
 quote-past_emoji c t own m k s o covers e q whole beginning =
     let n = char_count c in
@@ -200,10 +198,10 @@ quote-past_emoji c t own m k s o covers e q whole beginning =
     (λ high. Goes-cond (m + n) (k + n) (is_plain s) _ _ _ (λ _. let b = alone-bound c high in lost (omega arith))
     (λ _. quote-in_context c t own m k s o covers e q whole beginning high))))
 
-pub quote-step : (c t own m k : ℕ) (s : State) → IsOpen s → credit s.after ≤ t → s.emoji ≡ false → s.quote ≡ true → t + slack s ≡ m → own + 1 ≡ k
-    → Goes (m + char_count c) (k + char_count c) (step false c (t, s)) (step false c (own, record plain { quote = true }))
+pub quote-step : (c t own m k : ℕ) (s : State) → IsOpen s → credit s.after ≤ t → s.emoji ≡ false → s.quote ≡ true → t + slack s ≡ m
+    → own + 1 ≡ k → Steps c m k (step false c (t, s)) (step false c (own, record plain { quote = true }))
 quote-step c t own m k s o covers e q whole beginning =
-    subst (λ r. Goes (m + char_count c) (k + char_count c) r (step false c (own, record plain { quote = true }))) (sym (step-no_emoji c t s e))
+    subst (λ r. Steps c m k r (step false c (own, record plain { quote = true }))) (sym (step-no_emoji c t s e))
     (quote-past_emoji c t own m k s o covers e q whole beginning)
 
 -- ---- flags and vowels, which the beginning counts from its own end
@@ -216,8 +214,8 @@ in_turn c t r =
     (cond (c == 0xFE0E) (t, record plain { text = true }) r)))))
 
 module _ (c t own m k : ℕ) (whole : t ≡ m) (beginning : own ≡ k) where
-  pub flags-pick : (b d : Bool) → Goes (m + char_count c) (k + char_count c) (added t (alone false c)) (added own (alone false c))
-      → Goes (m + char_count c) (k + char_count c)
+  pub flags-pick : (b d : Bool) → Steps c m k (added t (alone false c)) (added own (alone false c))
+      → Steps c m k
       (joined_or t (first_of (cond b (Some (One, RegionalIndicators)) (cond d (Some (Same, ZwjEmoji)) None)) None) (alone false c))
       (joined_or own (first_of (cond b (Some (One, RegionalIndicators)) None) None) (alone false c))
   flags-pick true d rest =
@@ -227,10 +225,8 @@ module _ (c t own m k : ℕ) (whole : t ≡ m) (beginning : own ≡ k) where
   flags-pick false false rest = rest
 
   pub vowels-pick : (a b d e : Bool) → (d ≡ true → added own (alone false c) ≡ (own + 1, before KiratAi))
-      → Goes (m + char_count c) (k + char_count c) (added t (alone false c)) (added own (alone false c))
-      → Goes (m + char_count c) (k + char_count c)
-      (joined_or t (first_of (cond a (Some (Same, Nothing)) (cond b (Some (Same, KiratAi)) (cond d (Some (One, KiratE)) (cond e (Some (Same, Nothing)) None)))) (first_of None None)) (alone false c))
-      (joined_or own (first_of (cond a (Some (Same, Nothing)) None) (first_of None None)) (alone false c))
+      → Steps c m k (added t (alone false c)) (added own (alone false c))
+      → Steps c m k (joined_or t (first_of (cond a (Some (Same, Nothing)) (cond b (Some (Same, KiratAi)) (cond d (Some (One, KiratE)) (cond e (Some (Same, Nothing)) None)))) (first_of None None)) (alone false c)) (joined_or own (first_of (cond a (Some (Same, Nothing)) None) (first_of None None)) (alone false c))
   vowels-pick true b d e vowel rest = let some = count-some c in lost (omega arith)
   vowels-pick false true d e vowel rest = let some = count-some c in lost (omega arith)
   vowels-pick false false true e vowel rest =
@@ -243,8 +239,7 @@ module _ (c t own m k : ℕ) (whole : t ≡ m) (beginning : own ≡ k) where
   vowels-pick false false false false vowel rest = rest
 
   -- both in a state that no selector keeps
-  pub in_turn-step : (x y : Reading) → (nat_le c 0xA0 ≡ false → Goes (m + char_count c) (k + char_count c) x y)
-      → Goes (m + char_count c) (k + char_count c) (in_turn c t x) (in_turn c own y)
+  pub in_turn-step : (x y : Reading) → (nat_le c 0xA0 ≡ false → Steps c m k x y) → Steps c m k (in_turn c t x) (in_turn c own y)
   in_turn-step x y rest =
       let n = char_count c in
       let some = count-some c in
@@ -259,59 +254,60 @@ module _ (c t own m k : ℕ) (whole : t ≡ m) (beginning : own ≡ k) where
       (λ x. record { whole = x; beginning = omega arith; opens = refl; follows = same_state refl }))
       (λ _. Goes-both (m + n) (k + n) (c == 0xFE0E) _ _ _ _ (λ _. lost (omega arith)) (λ _. rest high))))))
 
-  pub flags-past : nat_le c 0xA0 ≡ false → Goes (m + char_count c) (k + char_count c) (past_selectors false c t RegionalIndicators) (past_selectors false c own RegionalIndicator)
+  pub flags-past : nat_le c 0xA0 ≡ false
+      → Steps c m k (past_selectors false c t RegionalIndicators) (past_selectors false c own RegionalIndicator)
   unfolding past_selectors joins
   flags-past high = flags-pick (is_indicator c) (c == 0x200D) (goes-alone c t own m k high (omega arith) (λ x. beginning))
 
-  pub flags-step : Goes (m + char_count c) (k + char_count c) (step false c (t, before RegionalIndicators)) (step false c (own, before RegionalIndicator))
+  pub flags-step : Steps c m k (step false c (t, before RegionalIndicators)) (step false c (own, before RegionalIndicator))
   unfolding step past_emoji in_context
   flags-step = in_turn-step (past_selectors false c t RegionalIndicators) (past_selectors false c own RegionalIndicator) flags-past
 
-  pub vowels-past : nat_le c 0xA0 ≡ false → Goes (m + char_count c) (k + char_count c) (past_selectors false c t KiratE) (past_selectors false c own KiratAi)
+  pub vowels-past : nat_le c 0xA0 ≡ false → Steps c m k (past_selectors false c t KiratE) (past_selectors false c own KiratAi)
   unfolding past_selectors joins
   vowels-past high =
       vowels-pick (c == 0x16D63) (c == 0x16D67) (c == 0x16D68) (c == 0x16D69)
       (λ v. added-at own (alone false c) (1, before KiratAi) (ap (alone false) (eqb-true c 0x16D68 v) ∙ alone-vowel))
       (goes-alone c t own m k high (omega arith) (λ x. beginning))
 
-  pub vowels-step : Goes (m + char_count c) (k + char_count c) (step false c (t, before KiratE)) (step false c (own, before KiratAi))
+  pub vowels-step : Steps c m k (step false c (t, before KiratE)) (step false c (own, before KiratAi))
   unfolding step past_emoji in_context
   vowels-step = in_turn-step (past_selectors false c t KiratE) (past_selectors false c own KiratAi) vowels-past
 
 -- ---- a step from whatever states
 pub both-step : (c t own m k : ℕ) (s u : State) → credit s.after ≤ t → Both m k (t, s) (own, u)
-    → Goes (m + char_count c) (k + char_count c) (step false c (t, s)) (step false c (own, u))
+    → Steps c m k (step false c (t, s)) (step false c (own, u))
 both-step c t own m k s u covers h = from h.follows
   where
     o : IsOpen s
     o = open-parts s h.opens
 
-    from : Follows s u → Goes (m + char_count c) (k + char_count c) (step false c (t, s)) (step false c (own, u))
+    from : Follows s u → Steps c m k (step false c (t, s)) (step false c (own, u))
     from (same_state e) =
         let b : own + slack s ≡ k = subst (λ v. own + slack v ≡ k) e h.beginning in
-        subst (λ v. Goes (m + char_count c) (k + char_count c) (step false c (t, s)) (step false c (own, v))) (sym e)
+        subst (λ v. Steps c m k (step false c (t, s)) (step false c (own, v))) (sym e)
         (same-step c t own m k s o covers h.whole b)
     from (plain_state e) =
         let b : own + 0 ≡ k = subst (λ v. own + slack v ≡ k) e h.beginning in
-        subst (λ v. Goes (m + char_count c) (k + char_count c) (step false c (t, s)) (step false c (own, v))) (sym e)
+        subst (λ v. Steps c m k (step false c (t, s)) (step false c (own, v))) (sym e)
         (blank-step c t own m k s o covers h.whole (omega arith))
     from (emoji_state y e) =
         let b : own + 1 ≡ k = subst (λ v. own + slack v ≡ k) e h.beginning in
-        subst (λ v. Goes (m + char_count c) (k + char_count c) (step false c (t, s)) (step false c (own, v))) (sym e)
+        subst (λ v. Steps c m k (step false c (t, s)) (step false c (own, v))) (sym e)
         (emoji-step c t own m k s o covers y h.whole b)
     from (quote_state off y e) =
         let b : own + 1 ≡ k = subst (λ v. own + slack v ≡ k) e h.beginning in
-        subst (λ v. Goes (m + char_count c) (k + char_count c) (step false c (t, s)) (step false c (own, v))) (sym e)
+        subst (λ v. Steps c m k (step false c (t, s)) (step false c (own, v))) (sym e)
         (quote-step c t own m k s o covers off y h.whole b)
     from (flags_state d e) =
         let a : t + 0 ≡ m = subst (λ v. t + slack v ≡ m) d h.whole in
         let b : own + 0 ≡ k = subst (λ v. own + slack v ≡ k) e h.beginning in
-        subst (λ v. Goes (m + char_count c) (k + char_count c) (step false c (t, v)) (step false c (own, u))) (sym d)
-        (subst (λ v. Goes (m + char_count c) (k + char_count c) (step false c (t, before RegionalIndicators)) (step false c (own, v))) (sym e)
+        subst (λ v. Steps c m k (step false c (t, v)) (step false c (own, u))) (sym d)
+        (subst (λ v. Steps c m k (step false c (t, before RegionalIndicators)) (step false c (own, v))) (sym e)
         (flags-step c t own m k (omega arith) (omega arith)))
     from (vowels_state d e) =
         let a : t + 0 ≡ m = subst (λ v. t + slack v ≡ m) d h.whole in
         let b : own + 0 ≡ k = subst (λ v. own + slack v ≡ k) e h.beginning in
-        subst (λ v. Goes (m + char_count c) (k + char_count c) (step false c (t, v)) (step false c (own, u))) (sym d)
-        (subst (λ v. Goes (m + char_count c) (k + char_count c) (step false c (t, before KiratE)) (step false c (own, v))) (sym e)
+        subst (λ v. Steps c m k (step false c (t, v)) (step false c (own, u))) (sym d)
+        (subst (λ v. Steps c m k (step false c (t, before KiratE)) (step false c (own, v))) (sym e)
         (vowels-step c t own m k (omega arith) (omega arith)))

@@ -1,16 +1,15 @@
 -- Printable ASCII, whose characters are its bytes and take a column each, broken between bytes.
-use Rattle.tabled_text.proofs.Names.{All, All-cons, All-nil, BeginsBy, Bool, IsParted, IsPiece, IsReached, IsUtf8-append}
-use Rattle.tabled_text.proofs.Names.{IsUtf8-encode, IsUtf8-from_ascii, IsUtf8-past_char, List, TextUnit, [], and_parts, ap}
-use Rattle.tabled_text.proofs.Names.{append-nil, append_all, append_assoc, append_used, arith, char_count, chars}
-use Rattle.tabled_text.proofs.Names.{chars-append, cond, count_of}
-use Rattle.tabled_text.proofs.Names.{drop, encode_utf8, encode_utf8_all, encodes-append, encodes-chars, false, is_in_range}
-use Rattle.tabled_text.proofs.Names.{last_line, last_of, le-leb, length, length-drop, length-take-le, lines_of, list_all, list_all-append}
-use Rattle.tabled_text.proofs.Names.{map, max, nat_le, nat_tests, needed, pending, refl, replicate, subst, sum_by-cons, sym, take, true}
-use Rattle.tabled_text.proofs.Names.{unit_of_char, units, used_after, ℕ, ◌++◌, ◌+◌, ◌-◌, ◌<◌, ◌∙◌, ◌∷◌, ◌≡◌, ◌≤◌}
+use Rattle.tabled_text.proofs.Names.{All, All-cons, All-nil, BeginsBy, Bool, IsParted, IsPiece, IsReached, IsUtf8-append, IsUtf8-encode}
+use Rattle.tabled_text.proofs.Names.{IsUtf8-from_ascii, IsUtf8-past_char, List, TextUnit, [], and_parts, ap, append-nil, append_all}
+use Rattle.tabled_text.proofs.Names.{append_assoc, append_used, arith, char_count, chars, chars-append, cond, count_of, drop, encode_utf8}
+use Rattle.tabled_text.proofs.Names.{encode_utf8_all, encodes-append, encodes-chars, false, is_in_range, last_line, last_of, le-leb, length}
+use Rattle.tabled_text.proofs.Names.{length-drop, length-take-le, lines_of, list_all, map, max, nat_le, nat_tests, needed, pending, refl}
+use Rattle.tabled_text.proofs.Names.{replicate, subst, sum_by-cons, sym, take, take-append-drop, true, unit_of_char, units, used_after, ℕ}
+use Rattle.tabled_text.proofs.Names.{◌++◌, ◌+◌, ◌-◌, ◌<◌, ◌∙◌, ◌∷◌, ◌≡◌, ◌≤◌}
 use Rattle.std.specs.Str.{IsAscii}
-use Rattle.std.proofs.lemmas.List.{take-append-drop}
 use Rattle.std.proofs.lemmas.Str.{chars-IsAscii}
-use Rattle.std.proofs.lemmas.Str.Ascii.{IsAscii-nil, IsAscii-cons}
+use Rattle.std.proofs.lemmas.Str.Ascii.{IsAscii-cons, IsAscii-nil}
+use Rattle.tabled_text.proofs.Basics.{all-parts}
 use Rattle.tabled_text.proofs.CountBound.{count-some}
 use Rattle.tabled_text.proofs.CutLemmas.{IsParted-full, IsScalar-first, Walked, chars-push, count_of-push, more_bytes}
 use Rattle.tabled_text.proofs.Filling.{append_all-append, append_all-breaks, append_text-fits}
@@ -32,11 +31,6 @@ chars-printable bytes h = chars-IsAscii bytes (IsAscii-printable bytes h)
 
 pub count-printable : (c : ℕ) → is_in_range 0x20 0x7E c ≡ true → char_count c ≡ 1
 count-printable c h = ap (max 1) (columns-printable c h)
-
-pub parts-printable : (n : ℕ) (bytes : List ℕ) → is_printable bytes ≡ true → (is_printable (take n bytes) ≡ true) × (is_printable (drop n bytes) ≡ true)
-parts-printable n bytes h =
-    and_parts (is_printable (take n bytes)) (is_printable (drop n bytes))
-    (sym (list_all-append (is_in_range 0x20 0x7E) (take n bytes) (drop n bytes)) ∙ ap is_printable (take-append-drop n bytes) ∙ h)
 
 pub count_of-printable : (cs : List ℕ) → is_printable cs ≡ true → count_of cs ≡ length cs
 count_of-printable [] h = refl
@@ -142,7 +136,7 @@ filled-line n k m cs us some e h long =
     let front = take m cs in
     let back = drop m cs in
     let more = map unit_of_char back ++ us in
-    let parts = parts-printable m cs h in
+    let parts = all-parts (is_in_range 0x20 0x7E) m cs h in
     let len : length front ≡ m = length-take-le m cs (omega arith) in
     let count = count_of-printable front parts.0 in
     let fit = fitted n k front (omega arith) in
@@ -175,7 +169,7 @@ reached-printable : (n : ℕ) (cs : List ℕ) → is_printable cs ≡ true → l
 reached-printable n cs h le = record {
   fits = subst (All (λ line. count_of line ≤ n)) (sym (printable-line cs h))
       (All-cons (λ line. count_of line ≤ n) cs [] (omega (arith, count_of-printable cs h)) (All-nil (λ line. count_of line ≤ n)));
-  shorter = λ k l. omega (arith, last-printable (take k cs) (parts-printable k cs h).0, length-take-le k cs (omega arith));
+  shorter = λ k l. omega (arith, last-printable (take k cs) (all-parts (is_in_range 0x20 0x7E) k cs h).0, length-take-le k cs (omega arith));
 }
 
 walked-printable : (n : ℕ) (text : List ℕ) → is_printable (take n text) ≡ true → n ≤ length text → Walked n text (drop n text) n

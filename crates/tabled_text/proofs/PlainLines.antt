@@ -1,16 +1,21 @@
 -- Plain lines: what they are made of, and the lines of a plain text.
 use Rattle.tabled_text.proofs.Names.{All, IsAdditive, IsAdditiveColumn, IsAdditiveLine, IsPlainColumn, IsScalar, IsUtf8-append}
 use Rattle.tabled_text.proofs.Names.{IsUtf8-encode, IsUtf8-nil, List, [], and_from, and_parts, ap, append-nil, arith, char_columns, chars}
-use Rattle.tabled_text.proofs.Names.{chars-append, chars-encodes, chars-nil, encode_ascii, encode_utf8, eq-eqb, false, get_or-map}
-use Rattle.tabled_text.proofs.Names.{has_plain_width, is_additive, is_additive_or_feed, is_drawn, is_in_range, is_listed}
-use Rattle.tabled_text.proofs.Names.{is_listed_or_drawn, is_plain_character, is_simple, length, length-map, line_columns, lines_of}
-use Rattle.tabled_text.proofs.Names.{list_all, list_all-append, map, nat_tests, onto_first, or_cases, or_left, or_right, refl, scalar}
-use Rattle.tabled_text.proofs.Names.{slice_index_or, slice_split-cons_no, str_width, str_width-append_simple, subst, sym, text_columns}
-use Rattle.tabled_text.proofs.Names.{true, ℕ, ⊎_elim, ◌&&◌, ◌++◌, ◌+◌, ◌<◌, ◌==◌, ◌∙◌, ◌∷◌, ◌≡◌}
-use Rattle.tabled_text.specs.Plain.{is_plain_or_feed, IsPlain}
-use Rattle.tabled_text.proofs.PlainLemmas.{is_additive-plain, is_simple-plain, line_columns-plain}
-use Rattle.tabled_text.proofs.Bridge.{each_in_lines, lines_of-chars, utf8_lines, lines_of-one, text_columns-one}
+use Rattle.tabled_text.proofs.Names.{chars-append, chars-encodes, chars-nil, encode_ascii, encode_utf8, encodes-chars, eq-eqb, eqb-true}
+use Rattle.tabled_text.proofs.Names.{false, get_or-map, get_or_default, has_plain_width, is_additive, is_additive_or_feed, is_drawn}
+use Rattle.tabled_text.proofs.Names.{is_in_range, is_listed, is_listed_or_drawn, is_no_feed, is_plain_character, is_simple, length}
+use Rattle.tabled_text.proofs.Names.{length-map, length-slice_split, line_columns, lines_of, list_all, list_all-append, map, nat_tests, not}
+use Rattle.tabled_text.proofs.Names.{or_cases, or_left, or_right, refl, scalar, slice_index_or, str_width, str_width-append_simple, subst}
+use Rattle.tabled_text.proofs.Names.{sum_by, sum_by-cons, sym, text_columns, true, ℕ, ⊎_elim, ◌&&◌, ◌*◌, ◌++◌, ◌+◌, ◌<◌, ◌==◌, ◌||◌, ◌∙◌}
+use Rattle.tabled_text.proofs.Names.{◌∷◌, ◌≡◌, ◌≤◌}
+use Rattle.tabled_text.specs.Plain.{IsPlain, is_plain_or_feed}
+use Rattle.std.proofs.lemmas.List.Sums.{count_by-le-length}
+use Rattle.std.proofs.lemmas.Str.{length-le-encodes}
+use Rattle.tabled_text.proofs.Basics.{all-weaker}
+use Rattle.tabled_text.proofs.Bridge.{each_in_lines, greatest-le, lines_length, lines_of-chars, lines_of-feedless, lines_of-one}
+use Rattle.tabled_text.proofs.Bridge.{text_columns-one, utf8_lines}
 use Rattle.tabled_text.proofs.LetterLemmas.{columns-printable}
+use Rattle.tabled_text.proofs.PlainLemmas.{is_additive-plain, is_simple-plain, line_columns-plain}
 
 -- ---- characters
 
@@ -42,13 +47,9 @@ only_plain-printable c h =
     }
 
 additive-each : (cs : List ℕ) → list_all is_plain_or_feed cs ≡ true → list_all is_additive_or_feed cs ≡ true
-additive-each [] h = refl
-additive-each (c ∷ cs) h =
-    let parts = and_parts (is_plain_or_feed c) (list_all is_plain_or_feed cs) h in
-    and_from (is_additive_or_feed c) (list_all is_additive_or_feed cs)
-    (⊎_elim (λ feed. or_left (c == 10) (is_additive c) feed)
-    (λ own. or_right (c == 10) (is_additive c) (is_additive-plain c own)) (or_cases (c == 10) (is_plain_character c) parts.0))
-    (additive-each cs parts.1)
+additive-each = all-weaker is_plain_or_feed is_additive_or_feed (λ c h.
+    ⊎_elim (λ feed. or_left (c == 10) (is_additive c) feed)
+    (λ own. or_right (c == 10) (is_additive c) (is_additive-plain c own)) (or_cases (c == 10) (is_plain_character c) h))
 
 -- plain texts are additive
 pub additive-plain : (text : List ℕ) → IsPlain text → IsAdditive text
@@ -63,7 +64,8 @@ pub plain_line-nil : IsAdditiveLine [] 0
 unfolding str_width
 plain_line-nil = record { utf8 = IsUtf8-nil; characters = ap (list_all is_additive) chars-nil; columns = ap (str_width false) chars-nil }
 
-pub plain_line-append : {front back : List ℕ} {m n : ℕ} → IsAdditiveLine front m → IsAdditiveLine back n → IsAdditiveLine (front ++ back) (m + n)
+pub plain_line-append : {front back : List ℕ} {m n : ℕ} → IsAdditiveLine front m → IsAdditiveLine back n
+    → IsAdditiveLine (front ++ back) (m + n)
 plain_line-append {front} {back} {m} {n} p q = record {
   utf8 = IsUtf8-append front back p.utf8 q.utf8;
   characters = ap (list_all is_additive) (chars-append front back p.utf8) ∙ list_all-append is_additive (chars front) (chars back)
@@ -121,11 +123,8 @@ not_feed c h = grind (arith, nat_tests)
 
 -- plain characters are one line
 pub one_line : (cs : List ℕ) → list_all is_additive cs ≡ true → lines_of cs ≡ cs ∷ []
-one_line [] h = refl
-one_line (c ∷ cs) h =
-    let parts = and_parts (is_additive c) (list_all is_additive cs) h in
-    let listed = and_parts (is_listed_or_drawn c) (has_plain_width c && is_simple c) parts.0 in
-    slice_split-cons_no (λ x. x == 10) c cs (not_feed c listed.0) ∙ ap (onto_first c) (one_line cs parts.1)
+one_line cs h = lines_of-feedless cs (all-weaker is_additive is_no_feed
+    (λ c a. ap not (not_feed c (and_parts (is_listed_or_drawn c) (has_plain_width c && is_simple c) a).0)) cs h)
 
 -- it has no line feed
 pub plain_line-lines : {line : List ℕ} {n : ℕ} → IsAdditiveLine line n → lines_of line ≡ line ∷ []
@@ -144,3 +143,36 @@ or_feed (c ∷ cs) h =
 
 pub plain_text-line : {line : List ℕ} {n : ℕ} → IsAdditiveLine line n → IsAdditive line
 plain_text-line {line} p = record { utf8 = p.utf8; characters = or_feed (chars line) p.characters }
+
+-- ---- bounds on the lines and the columns of a text by its bytes
+
+-- a line takes a byte, but for the last
+pub count_lines-le : (text : List ℕ) → length (lines_of text) ≤ length text + 1
+count_lines-le text = omega (arith, length-slice_split (λ c. c == 10) text, count_by-le-length (λ c. c == 10) text)
+
+plain_width-le : (w : ℕ) → ((w == 1) || (w == 2)) ≡ true → w ≤ 2
+plain_width-le w h = ⊎_elim (λ a. let e = eqb-true w 1 a in omega arith) (λ a. let e = eqb-true w 2 a in omega arith) (or_cases _ _ h)
+
+sum-le : (cs : List ℕ) → list_all is_additive cs ≡ true → sum_by char_columns cs ≤ 2 * length cs
+sum-le [] h = omega arith
+sum-le (c ∷ cs) h =
+    let parts = and_parts (is_additive c) (list_all is_additive cs) h in
+    let own = and_parts (has_plain_width c) (is_simple c) (and_parts (is_listed_or_drawn c) (has_plain_width c && is_simple c) parts.0).1 in
+    omega (arith, plain_width-le (char_columns c) own.0, sum-le cs parts.1, sum_by-cons char_columns c cs)
+
+-- a plain line takes at most two columns a byte
+pub line_columns-le_bytes : (line : List ℕ) (n : ℕ) → IsAdditiveLine line n → line_columns line ≤ 2 * length line
+line_columns-le_bytes line n p =
+    let cs = chars line in
+    omega (arith, line_columns-plain cs p.characters, sum-le cs p.characters, length-le-encodes cs, ap length (encodes-chars line p.utf8))
+
+-- and so does a plain text
+pub text_columns-le_bytes : (text : List ℕ) → IsAdditive text → text_columns text ≤ 2 * length text
+text_columns-le_bytes text p =
+    let lines = lines_of text in
+    greatest-le line_columns (2 * length text) lines (λ k d h.
+    let line : List ℕ = slice_index_or lines k [] in
+    let same = get_or_default lines k d [] h in
+    let own = line_columns-le_bytes line (line_columns line) (plain_line-each text p k h) in
+    let short : length line ≤ length text = lines_length text k [] h in
+    subst (λ l. line_columns l ≤ 2 * length text) (sym same) (omega (arith, own, short)))

@@ -1,18 +1,17 @@
 -- A step of the whole and of its beginning from the same state, and what a step does that only the whole joins.
 use Rattle.tabled_text.proofs.Names.{After, Bool, Change, Emoji, KiratAi, KiratE, Less, LineFeed, None, One, Option, RegionalIndicator}
 use Rattle.tabled_text.proofs.Names.{RegionalIndicators, Same, Some, State, Three, added, alone, and_parts, ap, arith, before, cases_Bool}
-use Rattle.tabled_text.proofs.Names.{char_count, cond, false, if_kept, in_context, is_emoji_variation_base, is_joined_emoji}
+use Rattle.tabled_text.proofs.Names.{char_count, cond, eqb-true, false, if_kept, in_context, is_emoji_variation_base, is_joined_emoji}
 use Rattle.tabled_text.proofs.Names.{is_ligature_transparent, is_line_feed, is_plain, is_quote, is_text_presentation_base, joined_or, joins}
 use Rattle.tabled_text.proofs.Names.{nat_le, not, not-false, not-true, past_emoji, past_selectors, plain, refl, skips_marks, step, true, ℕ}
 use Rattle.tabled_text.proofs.Names.{⊎_elim, ◌&&◌, ◌+◌, ◌<◌, ◌==◌, ◌∙◌, ◌≡◌, ◌≤◌}
-use Rattle.std.proofs.Common.{eqb-true}
 use Rattle.unicode_width.specs.declared.state.After.TheVariants.{JoinerTifinagh}
-use Rattle.tabled_text.proofs.CountBound.{slack, credit, Bounded-past_emoji, count-some, flag-true, with_joiner-same, IsLess-kept}
-use Rattle.tabled_text.proofs.Joining.{is_linked, is_open, takes_column, IsCalm, joins-calm, takes-linked, calm-slack, alone-open}
-use Rattle.tabled_text.proofs.Joining.{alone-joiner, alone-vowel, alone-indicator}
-use Rattle.tabled_text.proofs.Beside.{same_state, plain_state, flags_state, vowels_state, lost, Follows, Goes, Goes-at, Goes-both}
-use Rattle.tabled_text.proofs.Beside.{Goes-cond, Goes-land, Goes-own, IsOpen, alone-bound, cond-no_quote, flag-false, flag-most}
-use Rattle.tabled_text.proofs.Beside.{joined-slack, kept-no_emoji, kept-no_quote, no-quote, open-before, open-kept_emoji, open-kept_quote}
+use Rattle.tabled_text.proofs.CountBound.{Bounded-past_emoji, IsLess-kept, count-some, credit, flag-true, slack, with_joiner-same}
+use Rattle.tabled_text.proofs.Joining.{Follows, Goes-at, Goes-both, Goes-cond, Goes-land, Goes-own, IsCalm, IsOpen, Steps, alone-bound}
+use Rattle.tabled_text.proofs.Joining.{alone-indicator, alone-joiner, alone-open, alone-vowel, calm-slack, cond-no_quote, flag-false}
+use Rattle.tabled_text.proofs.Joining.{flag-most, flags_state, is_linked, is_open, joined-slack, joins-calm, kept-no_emoji, kept-no_quote}
+use Rattle.tabled_text.proofs.Joining.{lost, no-quote, open-before, open-kept_emoji, open-kept_quote, plain_state, same_state, takes-linked}
+use Rattle.tabled_text.proofs.Joining.{takes_column, vowels_state}
 
 -- a character that takes a column by a join, read by itself
 pub record IsOwn (after : After) (own : ℕ × State) : Type 0 where
@@ -33,7 +32,7 @@ added-at own a b e = ap (added own) e
 -- ---- a step of both, where the whole had t columns and the beginning own
 module _ (c t own m k : ℕ) where
   -- neither state joins the character
-  pub goes-alone : nat_le c 0xA0 ≡ false → t ≤ m → (t ≡ m → own ≡ k) → Goes (m + char_count c) (k + char_count c) (added t (alone false c)) (added own (alone false c))
+  pub goes-alone : nat_le c 0xA0 ≡ false → t ≤ m → (t ≡ m → own ≡ k) → Steps c m k (added t (alone false c)) (added own (alone false c))
   goes-alone high le both =
       let n = char_count c in
       let some = count-some c in
@@ -50,8 +49,7 @@ module _ (c t own m k : ℕ) where
 
   -- both join it in the same way
   pub goes-joined : (j : Option (Change × After)) (a : ℕ × State) → IsCalm c j → t ≤ m → (t ≡ m → own ≡ k)
-      → Goes (m + char_count c) (k + char_count c) (added t a) (added own a)
-      → Goes (m + char_count c) (k + char_count c) (joined_or t j a) (joined_or own j a)
+      → Steps c m k (added t a) (added own a) → Steps c m k (joined_or t j a) (joined_or own j a)
   goes-joined None a calm le both rest = rest
   goes-joined (Some (Less, after)) a calm le both rest = let some = count-some c in lost (omega arith)
   goes-joined (Some (Same, after)) a calm le both rest = let some = count-some c in lost (omega arith)
@@ -65,8 +63,8 @@ module _ (c t own m k : ℕ) where
 
   -- the whole joins it, and the beginning doesn't
   pub goes-beside : (j : Option (Change × After)) → IsCalm c j → t ≤ m → (t ≡ m → own ≡ k)
-      → Goes (m + char_count c) (k + char_count c) (added t (alone false c)) (added own (alone false c))
-      → Goes (m + char_count c) (k + char_count c) (joined_or t j (alone false c)) (added own (alone false c))
+      → Steps c m k (added t (alone false c)) (added own (alone false c))
+      → Steps c m k (joined_or t j (alone false c)) (added own (alone false c))
   goes-beside None calm le both rest = rest
   goes-beside (Some (Less, after)) calm le both rest = let some = count-some c in lost (omega arith)
   goes-beside (Some (Same, after)) calm le both rest = let some = count-some c in lost (omega arith)
@@ -86,7 +84,7 @@ module _ (c t own m k : ℕ) where
 
   -- past the selectors
   pub goes-past_selectors : (after : After) → is_linked after ≡ false → nat_le c 0xA0 ≡ false → t ≤ m → (t ≡ m → own ≡ k)
-      → Goes (m + char_count c) (k + char_count c) (past_selectors false c t after) (past_selectors false c own after)
+      → Steps c m k (past_selectors false c t after) (past_selectors false c own after)
   unfolding past_selectors
   goes-past_selectors after linked high le both =
       let n = char_count c in
@@ -98,7 +96,7 @@ module _ (c t own m k : ℕ) where
       (λ _. goes-joined (joins false after c) (alone false c) (joins-calm after c linked) le both (goes-alone high le both)))
 
   pub beside-past_selectors : (after : After) → is_linked after ≡ false → nat_le c 0xA0 ≡ false → t ≤ m → (t ≡ m → own ≡ k)
-      → Goes (m + char_count c) (k + char_count c) (past_selectors false c t after) (added own (alone false c))
+      → Steps c m k (past_selectors false c t after) (added own (alone false c))
   unfolding past_selectors
   beside-past_selectors after linked high le both =
       let n = char_count c in
@@ -111,8 +109,7 @@ module _ (c t own m k : ℕ) where
 
 -- ---- both in the same open state
 module _ (c t own m k : ℕ) (s : State) (o : IsOpen s) (whole : t + slack s ≡ m) (beginning : own + slack s ≡ k) where
-  pub same-in_context : nat_le c 0xA0 ≡ false → s.emoji ≡ false
-      → Goes (m + char_count c) (k + char_count c) (in_context false c t s) (in_context false c own s)
+  pub same-in_context : nat_le c 0xA0 ≡ false → s.emoji ≡ false → Steps c m k (in_context false c t s) (in_context false c own s)
   unfolding in_context
   same-in_context high e =
       let n = char_count c in
@@ -153,7 +150,7 @@ module _ (c t own m k : ℕ) (s : State) (o : IsOpen s) (whole : t + slack s ≡
       Goes-land (m + n) (k + n) 2 t own plain (omega arith) (λ x. omega arith) refl)
       (λ _. goes-past_selectors c t own m k s.after o.linked high (omega arith) (λ x. omega arith))))))
 
-  pub same-past_emoji : s.emoji ≡ false → Goes (m + char_count c) (k + char_count c) (past_emoji false c t s) (past_emoji false c own s)
+  pub same-past_emoji : s.emoji ≡ false → Steps c m k (past_emoji false c t s) (past_emoji false c own s)
   unfolding past_emoji
   same-past_emoji e =
       let n = char_count c in
@@ -184,7 +181,7 @@ two-columns true h = absurd cc
 two-columns false h = refl
 
 pub same-step : (c t own m k : ℕ) (s : State) → IsOpen s → credit s.after ≤ t → t + slack s ≡ m → own + slack s ≡ k
-    → Goes (m + char_count c) (k + char_count c) (step false c (t, s)) (step false c (own, s))
+    → Steps c m k (step false c (t, s)) (step false c (own, s))
 unfolding step
 same-step c t own m k s o covers whole beginning =
     let n = char_count c in

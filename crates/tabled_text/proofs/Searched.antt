@@ -1,12 +1,24 @@
 -- Texts split at the first byte that a search finds.
-use Rattle.tabled_text.proofs.Names.{All, All-cons, All-nil, Bor, IsFirstAt, IsSplitAt, IsUtf8, List, None, Option, Some, [], ap, arith}
-use Rattle.tabled_text.proofs.Names.{cases_Bool, chars, chars-append, drop, encode_ascii, encode_utf8, encode_utf8_all, encodes-chars}
-use Rattle.tabled_text.proofs.Names.{eq-eqb, eqb, eqb-true, false, get_or, get_or-take, get_or_default, length, length-drop, length-take-le}
-use Rattle.tabled_text.proofs.Names.{lines_in, lines_of, ne_eqb, refl, slice_split_none, split_at, subst, suc, sym, take, take_all}
-use Rattle.tabled_text.proofs.Names.{words_in, words_of, ℕ, ⊎_elim, ◌++◌, ◌+◌, ◌-◌, ◌<◌, ◌∙◌, ◌∷◌, ◌≡◌}
-use Rattle.std.proofs.lemmas.List.{length-append, get_or-append_right}
+use Rattle.tabled_text.proofs.Names.{All, All-cons, All-nil, Bor, IsFirstAt, IsSplitAt, IsUtf8, IsUtf8-append, IsUtf8-from_ascii, List}
+use Rattle.tabled_text.proofs.Names.{None, Option, Some, [], ap, arith, cases_Bool, chars, chars-append, chars_past_char, drop}
+use Rattle.tabled_text.proofs.Names.{encode_ascii, encode_utf8, encode_utf8_all, encodes-chars, eq-eqb, eqb, eqb-true, false, get_or}
+use Rattle.tabled_text.proofs.Names.{get_or-take, get_or_default, length, length-append, length-drop, length-take-le, lines_in, lines_of}
+use Rattle.tabled_text.proofs.Names.{lit<, ne_eqb, refl, slice_split_none, split_at, subst, suc, sym, take, take_all, words_in, words_of}
+use Rattle.tabled_text.proofs.Names.{zero, ℕ, ⊎_elim, ◌++◌, ◌+◌, ◌-◌, ◌<◌, ◌∙◌, ◌∷◌, ◌≡◌}
+use Rattle.std.proofs.lemmas.List.{get_or-append_right}
 use Rattle.std.proofs.lemmas.List.Splits.{slice_split_at}
-use Rattle.tabled_text.proofs.WordLemmas.{chars-mark, IsUtf8-mark}
+
+-- ---- a text before an ASCII character
+
+pub chars-mark : (d : ℕ) → d < 128 → (ys : List ℕ) → IsUtf8 (d ∷ ys) → chars (d ∷ ys) ≡ d ∷ chars ys
+chars-mark d small ys v = chars_past_char (d ∷ ys) ys d v (ap (λ l. l ++ ys) (sym (encode_ascii d small)))
+
+pub IsUtf8-mark : (d : ℕ) → d < 128 → (ys : List ℕ) → IsUtf8 ys → IsUtf8 (d ∷ ys)
+IsUtf8-mark d small ys v = IsUtf8-append (d ∷ []) ys (IsUtf8-from_ascii (d ∷ []) (λ i. ascii i)) v
+  where
+    ascii : (i : ℕ) → get_or (d ∷ []) i 0 < 128
+    ascii zero = small
+    ascii (suc i) = lit< tt
 
 -- bytes before the first one differ from it
 missed : (d at : ℕ) (bs : List ℕ) → IsFirstAt d bs at → All (λ b. eqb b d ≡ false) (take at bs)
@@ -22,10 +34,12 @@ found d at bs f l =
     let next : suc at ≡ at + 1 = omega arith in
     split_at bs at 0 l ∙ ap (λ n. take at bs ++ get_or bs at 0 ∷ drop n bs) next ∙ ap (λ b. take at bs ++ b ∷ drop (at + 1) bs) (f.found l)
 
-pub whole-front : (d : ℕ) (text front : List ℕ) (after : Option (Bor (List ℕ))) → IsSplitAt d text front after → length front ≡ length text → text ≡ front
+pub whole-front : (d : ℕ) (text front : List ℕ) (after : Option (Bor (List ℕ))) → IsSplitAt d text front after → length front ≡ length text
+    → text ≡ front
 whole-front d text front after s e = sym (s.front_is ∙ take_all (length front) text (omega arith))
 
-pub all-front : (d : ℕ) (text front : List ℕ) (after : Option (Bor (List ℕ))) → IsSplitAt d text front after → All (λ b. eqb b d ≡ false) front
+pub all-front : (d : ℕ) (text front : List ℕ) (after : Option (Bor (List ℕ))) → IsSplitAt d text front after
+    → All (λ b. eqb b d ≡ false) front
 all-front d text front after s = subst (All (λ b. eqb b d ≡ false)) (sym s.front_is) (missed d (length front) text s.first)
 
 pub whole-parts : (d : ℕ) (text front : List ℕ) (rest : Bor (List ℕ)) → IsSplitAt d text front (Some rest) → text ≡ front ++ d ∷ rest.now
@@ -35,7 +49,8 @@ whole-parts d text front rest s =
     ∙ ap (λ l. l ++ d ∷ drop (length front + 1) text) (sym s.front_is) ∙ ap (λ l. front ++ d ∷ l) (sym h.1)
 
 -- a text whose lines are split off
-pub lines-split : (text front : List ℕ) (after : Option (Bor (List ℕ))) → IsSplitAt 10 text front after → lines_of text ≡ front ∷ lines_in after
+pub lines-split : (text front : List ℕ) (after : Option (Bor (List ℕ))) → IsSplitAt 10 text front after
+    → lines_of text ≡ front ∷ lines_in after
 lines-split text front None s =
     ap lines_of (whole-front 10 text front None s s.after_is) ∙ slice_split_none (λ b. eqb b 10) front (all-front 10 text front None s)
 lines-split text front (Some rest) s =
@@ -65,7 +80,8 @@ chars-miss d small (c ∷ cs) h =
     ∙ ap (λ i. get_or rest i x) at)
     (h (length (encode_utf8 c) + k) x far)))
 
-pub all-chars : (d : ℕ) → d < 128 → (front : List ℕ) → IsUtf8 front → All (λ b. eqb b d ≡ false) front → All (λ c. eqb c d ≡ false) (chars front)
+pub all-chars : (d : ℕ) → d < 128 → (front : List ℕ) → IsUtf8 front → All (λ b. eqb b d ≡ false) front
+    → All (λ c. eqb c d ≡ false) (chars front)
 all-chars d small front u h = chars-miss d small (chars front) (subst (All (λ b. eqb b d ≡ false)) (sym (encodes-chars front u)) h)
 
 -- a text whose words are split off
@@ -85,5 +101,6 @@ words-split text front (Some rest) s =
     ∙ slice_split_at (λ b. eqb b 32) (chars front) 32 (chars rest.now)
     (all-chars 32 small front s.utf8 (all-front 32 text front (Some rest) s)) (eq-eqb 32 32 refl)
 
-pub shorter-split : (text front rest : List ℕ) → length front < length text → rest ≡ drop (length front + 1) text → length rest < length text
+pub shorter-split : (text front rest : List ℕ) → length front < length text → rest ≡ drop (length front + 1) text
+    → length rest < length text
 shorter-split text front rest l e = omega (arith, ap length e, length-drop (length front + 1) text)

@@ -1,19 +1,20 @@
 -- A separator adds its own columns to every reading, and leaves the plain state.
 use Rattle.tabled_text.proofs.Names.{After, Bool, Change, Kind, None, Option, Reading, Some, State, added, alone, and_parts, ap, arith}
-use Rattle.tabled_text.proofs.Names.{before, before_alef, cases_Bool, char_columns, cond, eqb-true, false, has_plain_width, if_kept}
-use Rattle.tabled_text.proofs.Names.{in_context, in_ranges, is_additive, is_emoji_variation_base, is_in_range, is_indicator}
-use Rattle.tabled_text.proofs.Names.{is_joined_emoji, is_kept, is_keycap_base, is_ligature_transparent, is_line_feed, is_listed_or_drawn}
-use Rattle.tabled_text.proofs.Names.{is_plain, is_quote, is_simple, is_simple_kind, is_text_presentation_base, joined_or, joins, kind}
-use Rattle.tabled_text.proofs.Names.{nat_le, nat_lt, nat_tests, not, of_kind, past_emoji, past_selectors, plain, refl, single, skips_marks}
-use Rattle.tabled_text.proofs.Names.{step, subst, sym, true, ℕ, ⊎_elim, ◌&&◌, ◌+◌, ◌==◌, ◌||◌, ◌∙◌, ◌≡◌}
+use Rattle.tabled_text.proofs.Names.{before, before_alef, cases_Bool, char_columns, cond, false, has_plain_width, if_kept, in_context}
+use Rattle.tabled_text.proofs.Names.{in_ranges, is_additive, is_emoji_variation_base, is_in_range, is_indicator, is_joined_emoji, is_kept}
+use Rattle.tabled_text.proofs.Names.{is_keycap_base, is_ligature_transparent, is_line_feed, is_listed_or_drawn, is_plain, is_quote}
+use Rattle.tabled_text.proofs.Names.{is_simple, is_simple_kind, is_text_presentation_base, joined_or, joins, kind, nat_le, nat_lt}
+use Rattle.tabled_text.proofs.Names.{nat_tests, ne_eqb, not, not-true, of_kind, past_emoji, past_selectors, plain, refl, single}
+use Rattle.tabled_text.proofs.Names.{skips_marks, step, subst, sym, true, ℕ, ⊎_elim, ◌&&◌, ◌+◌, ◌==◌, ◌||◌, ◌∙◌, ◌≡◌}
 use Rattle.std.proofs.Math.Bool.{and-false}
+use Rattle.unicode_width.specs.Width.{is_emoji, is_tag_digit, is_tag_letter, is_tifinagh}
+use Rattle.tabled_text.proofs.Basics.{cond-cases}
+use Rattle.tabled_text.proofs.CountBound.{columns-high}
+use Rattle.tabled_text.proofs.Joining.{cond-emoji}
+use Rattle.tabled_text.proofs.LetterLemmas.{columns-printable}
+use Rattle.tabled_text.proofs.PlainLemmas.{IsUnmarked, unmarked-listed}
 use Rattle.unicode_width.specs.declared.kind.Kind.TheVariants as kinds
 use Rattle.unicode_width.specs.declared.state.After.TheVariants as states
-use Rattle.unicode_width.specs.Width.{is_emoji, is_tifinagh, is_tag_letter, is_tag_digit}
-use Rattle.tabled_text.proofs.Missed.{IsUnmarked, unmarked-listed}
-use Rattle.tabled_text.proofs.LetterLemmas.{columns-printable}
-use Rattle.tabled_text.proofs.CountBound.{columns-high}
-use Rattle.tabled_text.proofs.Beside.{cond-emoji}
 
 -- ---- numbers that no sequence names
 
@@ -27,9 +28,7 @@ clear-listed : (c : ℕ) → is_listed_or_drawn c ≡ true → is_in_range 0x20 
 clear-listed c h k = grind (arith, nat_tests)
 
 not_named : (c k : ℕ) → is_clear c ≡ true → is_clear k ≡ false → (c == k) ≡ false
-not_named c k h n = ⊎_elim
-    (λ y. absurd (let e : true ≡ false = sym h ∙ ap is_clear (eqb-true c k y) ∙ n in cc))
-    (λ no. no) (cases_Bool (c == k))
+not_named c k h n = ne_eqb c k (λ e. let clash : true ≡ false = sym h ∙ ap is_clear e ∙ n in cc)
 
 -- a character that joins nothing, and is seen by itself in no state
 record IsCalm (c : ℕ) : Type 0 where
@@ -144,21 +143,17 @@ in_context-calm c total s h =
     rw (not_named c 0xFE0F h.clear refl, not_named c 0xFE01 h.clear refl, not_named c 0xFE0E h.clear refl, text-calm c h, not_quote c h.clear, and-false s.text, and-false s.quote)
     (past_selectors-calm c total s.after h)
 
-cond-same : (b : Bool) (x y z : Reading) → x ≡ z → y ≡ z → cond b x y ≡ z
-cond-same true x y z p q = p
-cond-same false x y z p q = q
-
 past_emoji-calm : (c total : ℕ) (s : State) → IsCalm c → past_emoji false c total s ≡ apart c total
 unfolding past_emoji
 past_emoji-calm c total s h =
     rw (not_named c 0x0A h.clear refl, not_named c 0x0D h.clear refl, not_low c h.clear)
-    (cond-same (is_plain s) _ _ _ (added-calm c total h) (in_context-calm c total s h))
+    (cond-cases (λ r. r ≡ apart c total) (is_plain s) _ _ (λ _. added-calm c total h) (λ _. in_context-calm c total s h))
 
 -- a character that U+FE0F leaves as it is takes a step as it does without that
 step-steady : (c total : ℕ) (s : State) (r : Reading) → is_emoji_variation_base c ≡ false → ((s : State) → past_emoji false c total s ≡ r)
     → step false c (total, s) ≡ r
 unfolding step
-step-steady c total s r v p = rw v (cond-same (not s.emoji) _ _ _ (p s) (p (record (if_kept s) { emoji = false })))
+step-steady c total s r v p = rw v (cond-cases (λ u. u ≡ r) (not s.emoji) _ _ (λ _. p s) (λ _. p (record (if_kept s) { emoji = false })))
 
 past_emoji-printable : (c total : ℕ) (s : State) → is_in_range 0x20 0x7E c ≡ true → past_emoji false c total s ≡ (total + 1, plain)
 unfolding past_emoji
@@ -167,7 +162,8 @@ past_emoji-printable c total s h = grind (arith, nat_tests)
 abbrev adds_own : ℕ → ℕ → Reading
 adds_own c total = (total + char_columns c, plain)
 
-step-printable : (c total : ℕ) (s : State) → is_emoji_variation_base c ≡ false → is_in_range 0x20 0x7E c ≡ true → step false c (total, s) ≡ adds_own c total
+step-printable : (c total : ℕ) (s : State) → is_emoji_variation_base c ≡ false → is_in_range 0x20 0x7E c ≡ true
+    → step false c (total, s) ≡ adds_own c total
 step-printable c total s v h =
     step-steady c total s (adds_own c total) v (λ u. past_emoji-printable c total u h ∙ ap (λ n. (total + n, plain)) (sym (columns-printable c h)))
 
@@ -207,7 +203,8 @@ pub keycap-printable : (c : ℕ) → is_keycap_base c ≡ true → is_in_range 0
 keycap-printable c h = grind (arith, nat_tests)
 
 -- so does a keycap base where no U+FE0F follows
-pub step-keycap : (c total : ℕ) (s : State) → is_keycap_base c ≡ true → s.emoji ≡ false → step false c (total, s) ≡ (total + char_columns c, plain)
+pub step-keycap : (c total : ℕ) (s : State) → is_keycap_base c ≡ true → s.emoji ≡ false
+    → step false c (total, s) ≡ (total + char_columns c, plain)
 unfolding step
 step-keycap c total s h e =
     let p = keycap-printable c h in
@@ -228,52 +225,46 @@ of_kind-flag c _ h = refl
 record IsUnflagged (r : Reading) : Type 0 where
   unflagged : r.1.emoji ≡ false
 
-IsUnflagged-cond : (b : Bool) (x y : Reading) → IsUnflagged x → IsUnflagged y → IsUnflagged (cond b x y)
-IsUnflagged-cond true x y f g = f
-IsUnflagged-cond false x y f g = g
-
 unflagged-alone : (c total : ℕ) → (c == 0xFE0F) ≡ false → IsUnflagged (added total (alone false c))
 unfolding alone
 unflagged-alone c total h = record { unflagged = of_kind-flag c (kind c) h }
 
-unflagged-joined : (total : ℕ) (j : Option (Change × After)) (own : ℕ × State) → IsUnflagged (added total own) → IsUnflagged (joined_or total j own)
+unflagged-joined : (total : ℕ) (j : Option (Change × After)) (own : ℕ × State) → IsUnflagged (added total own)
+    → IsUnflagged (joined_or total j own)
 unflagged-joined total None own h = h
 unflagged-joined total (Some j) own h = record { unflagged = refl }
 
 unflagged-past_selectors : (c total : ℕ) (after : After) → (c == 0xFE0F) ≡ false → IsUnflagged (past_selectors false c total after)
 unfolding past_selectors
 unflagged-past_selectors c total after h =
-    IsUnflagged-cond (skips_marks after && (c == 0x200D)) _ _ (record { unflagged = refl })
-    (IsUnflagged-cond (skips_marks after && is_ligature_transparent c) _ _ (record { unflagged = refl })
-    (unflagged-joined total (joins false after c) (alone false c) (unflagged-alone c total h)))
+    cond-cases IsUnflagged (skips_marks after && (c == 0x200D)) _ _ (λ _. record { unflagged = refl })
+    (λ _. cond-cases IsUnflagged (skips_marks after && is_ligature_transparent c) _ _ (λ _. record { unflagged = refl })
+    (λ _. unflagged-joined total (joins false after c) (alone false c) (unflagged-alone c total h)))
 
 unflagged-in_context : (c total : ℕ) (s : State) → (c == 0xFE0F) ≡ false → s.emoji ≡ false → IsUnflagged (in_context false c total s)
 unfolding in_context
 unflagged-in_context c total s h e =
     rw h
-    (IsUnflagged-cond (c == 0xFE01) _ _ (record { unflagged = cond-emoji (is_kept s.after) s e })
-    (IsUnflagged-cond (c == 0xFE0E) _ _ (record { unflagged = cond-emoji (is_kept s.after) s e })
-    (IsUnflagged-cond (s.text && is_text_presentation_base c) _ _ (record { unflagged = refl })
-    (IsUnflagged-cond (s.quote && is_quote c) _ _ (record { unflagged = refl }) (unflagged-past_selectors c total s.after h)))))
+    (cond-cases IsUnflagged (c == 0xFE01) _ _ (λ _. record { unflagged = cond-emoji (is_kept s.after) s e })
+    (λ _. cond-cases IsUnflagged (c == 0xFE0E) _ _ (λ _. record { unflagged = cond-emoji (is_kept s.after) s e })
+    (λ _. cond-cases IsUnflagged (s.text && is_text_presentation_base c) _ _ (λ _. record { unflagged = refl })
+    (λ _. cond-cases IsUnflagged (s.quote && is_quote c) _ _ (λ _. record { unflagged = refl })
+    (λ _. unflagged-past_selectors c total s.after h)))))
 
 unflagged-past_emoji : (c total : ℕ) (s : State) → (c == 0xFE0F) ≡ false → s.emoji ≡ false → IsUnflagged (past_emoji false c total s)
 unfolding past_emoji
 unflagged-past_emoji c total s h e =
-    IsUnflagged-cond (c == 0x0A) _ _ (record { unflagged = refl })
-    (IsUnflagged-cond ((c == 0x0D) && is_line_feed s.after) _ _ (record { unflagged = refl })
-    (IsUnflagged-cond (nat_le c 0xA0) _ _ (record { unflagged = refl })
-    (IsUnflagged-cond (is_plain s) _ _ (unflagged-alone c total h) (unflagged-in_context c total s h e))))
-
-unflagged-first : (b : Bool) (x y : Reading) → (b ≡ false → IsUnflagged x) → IsUnflagged y → IsUnflagged (cond (not b) x y)
-unflagged-first true x y f g = g
-unflagged-first false x y f g = f refl
+    cond-cases IsUnflagged (c == 0x0A) _ _ (λ _. record { unflagged = refl })
+    (λ _. cond-cases IsUnflagged ((c == 0x0D) && is_line_feed s.after) _ _ (λ _. record { unflagged = refl })
+    (λ _. cond-cases IsUnflagged (nat_le c 0xA0) _ _ (λ _. record { unflagged = refl })
+    (λ _. cond-cases IsUnflagged (is_plain s) _ _ (λ _. unflagged-alone c total h) (λ _. unflagged-in_context c total s h e))))
 
 unflagged-step : (c total : ℕ) (s : State) → (c == 0xFE0F) ≡ false → IsUnflagged (step false c (total, s))
 unfolding step
 unflagged-step c total s h =
-    unflagged-first s.emoji _ _ (λ e. unflagged-past_emoji c total s h e)
-    (IsUnflagged-cond (is_emoji_variation_base c) _ _ (record { unflagged = refl })
-    (unflagged-past_emoji c total (record (if_kept s) { emoji = false }) h refl))
+    cond-cases IsUnflagged (not s.emoji) _ _ (λ e. unflagged-past_emoji c total s h (not-true s.emoji e))
+    (λ _. cond-cases IsUnflagged (is_emoji_variation_base c) _ _ (λ _. record { unflagged = refl })
+    (λ _. unflagged-past_emoji c total (record (if_kept s) { emoji = false }) h refl))
 
 pub step-flag : (c total : ℕ) (s : State) → (c == 0xFE0F) ≡ false → (step false c (total, s)).1.emoji ≡ false
 step-flag c total s h = (unflagged-step c total s h).unflagged

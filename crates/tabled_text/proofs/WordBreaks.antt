@@ -1,41 +1,22 @@
 -- Printable ASCII, broken between words: what is before a break stays as it is.
-use Rattle.tabled_text.proofs.Names.{All, All-cons, All-nil, Bool, Bor, IsSplitAt, List, None, Option, Some, TextUnit, [], and_parts, ap}
+use Rattle.tabled_text.proofs.Names.{All, All-cons, All-nil, Bool, Bor, BreaksAt, IsSplitAt, List, None, Option, Some, TextUnit, [], ap}
 use Rattle.tabled_text.proofs.Names.{append-nil, append_all, append_assoc, arith, cases_Bool, cases_lt, columns_of, cond, drop, encode_utf8}
-use Rattle.tabled_text.proofs.Names.{encode_utf8_all, encodes-IsAscii, encodes-append, eqb, eqb-true, false, get_or, inl, inr, is_additive}
-use Rattle.tabled_text.proofs.Names.{is_in_range, le-leb, length, length-append, length-drop, length-take-le, list_all, list_all-append}
-use Rattle.tabled_text.proofs.Names.{lt-leb, map, needed, onto_first, refl, slice_split_none, space, split_at, subst, suc, sym, take, true}
-use Rattle.tabled_text.proofs.Names.{unit_of_char, units, units_of_word, units_of_words, used_after, words_in, words_of, zero, ℕ, ⊎_elim, ⊤}
-use Rattle.tabled_text.proofs.Names.{◌++◌, ◌+◌, ◌-◌, ◌<◌, ◌∙◌, ◌∷◌, ◌≡◌, ◌≤◌}
-use Rattle.std.proofs.Common.{take-append-drop}
+use Rattle.tabled_text.proofs.Names.{encode_utf8_all, encodes-IsAscii, encodes-append, eqb, eqb-true, false, get_or, get_or-drop, inl, inr}
+use Rattle.tabled_text.proofs.Names.{is_additive, is_in_range, le-leb, length, length-append, length-drop, length-take-le, list_all, lt-leb}
+use Rattle.tabled_text.proofs.Names.{map, needed, refl, slice_split_none, space, split_at, subst, suc, sym, take, take-append-drop, true}
+use Rattle.tabled_text.proofs.Names.{unit_of_char, units, units_of_word, units_of_words, used_after, words_in, words_of, written_line, zero}
+use Rattle.tabled_text.proofs.Names.{ℕ, ⊎_elim, ⊤, ◌++◌, ◌+◌, ◌-◌, ◌<◌, ◌∙◌, ◌∷◌, ◌≡◌, ◌≤◌}
 use Rattle.std.proofs.Math.Seq.{drop-append_seam, drop-cons, get_or-append_seam, take-append_seam, take-suc}
-use Rattle.std.proofs.lemmas.List.{get_or-drop}
 use Rattle.std.proofs.lemmas.List.Elements.{All-drop}
-use Rattle.tabled_text.specs.Walk.{BreaksAt, written_line}
-use Rattle.tabled_text.proofs.Filling.{append_all-append, append_all-breaks}
+use Rattle.tabled_text.proofs.Basics.{all-halves, all-parts}
+use Rattle.tabled_text.proofs.Bridge.{begins-split, split-append}
+use Rattle.tabled_text.proofs.Filling.{append_all-append, append_all-breaks, short, unit_of}
 use Rattle.tabled_text.proofs.Pieces.{IsAscii-printable, chars-printable, count_of-printable, filled-line, fitted, is_printable}
-use Rattle.tabled_text.proofs.Pieces.{parts-printable}
 use Rattle.tabled_text.proofs.PlainLines.{plain_line-printable}
 use Rattle.tabled_text.proofs.Searched.{all-front, whole-front, whole-parts, words-split}
 use Rattle.tabled_text.proofs.WrapKept.{line_kept-before}
-use Rattle.tabled_text.proofs.WriteLemmas.{short, split_cons, unit_of}
 
 -- ---- the units around a space
-
-onto_first-append : (x : ℕ) (y : List ℕ) (ys zs : List (List ℕ)) → onto_first x ((y ∷ ys) ++ zs) ≡ onto_first x (y ∷ ys) ++ zs
-onto_first-append x y ys zs = refl
-
-words-append : (xs ys : List ℕ) → words_of (xs ++ 32 ∷ ys) ≡ words_of xs ++ words_of ys
-words-append [] ys = refl
-words-append (x ∷ xs) ys = by_test (eqb x 32) (words-append xs ys) (split_cons (λ c. eqb c 32) xs)
-  where
-    by_test : (b : Bool) → words_of (xs ++ 32 ∷ ys) ≡ words_of xs ++ words_of ys
-        → (w : List ℕ) × (ws : List (List ℕ)) × (words_of xs ≡ w ∷ ws)
-        → cond b ([] ∷ words_of (xs ++ 32 ∷ ys)) (onto_first x (words_of (xs ++ 32 ∷ ys)))
-        ≡ cond b ([] ∷ words_of xs) (onto_first x (words_of xs)) ++ words_of ys
-    by_test true e h = ap (λ l. [] ∷ l) e
-    by_test false e h =
-        ap (onto_first x) e ∙ subst (λ l. onto_first x (l ++ words_of ys) ≡ onto_first x l ++ words_of ys) (sym h.2)
-        (onto_first-append x h.0 h.1 (words_of ys))
 
 units-append : (n : ℕ) (ws : List (List ℕ)) (v : List ℕ) (vs : List (List ℕ)) → 0 < length ws
     → units_of_words n (ws ++ v ∷ vs) ≡ units_of_words n ws ++ space ∷ units_of_words n (v ∷ vs)
@@ -50,12 +31,11 @@ kept_units n cs = units_of_words n (words_of cs)
 
 units-around : (n : ℕ) (xs ys : List ℕ) → kept_units n (xs ++ 32 ∷ ys) ≡ kept_units n xs ++ space ∷ kept_units n ys
 units-around n xs ys =
-    let front = split_cons (λ c. eqb c 32) xs in
-    let back = split_cons (λ c. eqb c 32) ys in
-    let some : 0 < length (words_of xs) = omega (arith, ap length front.2) in
-    ap (units_of_words n) (words-append xs ys)
-    ∙ subst (λ ws. units_of_words n (words_of xs ++ ws) ≡ units_of_words n (words_of xs) ++ space ∷ units_of_words n ws) (sym back.2)
-    (units-append n (words_of xs) back.0 back.1 some)
+    let back = begins-split (λ c. eqb c 32) ys in
+    let some : 0 < length (words_of xs) = omega (arith, ap length (begins-split (λ c. eqb c 32) xs).parts) in
+    ap (units_of_words n) (split-append (λ c. eqb c 32) 32 refl xs ys)
+    ∙ subst (λ ws. units_of_words n (words_of xs ++ ws) ≡ units_of_words n (words_of xs) ++ space ∷ units_of_words n ws) (sym back.parts)
+    (units-append n (words_of xs) back.first back.rest some)
 
 -- the units before an index, which is 0 or after a space, and those from it on
 around : (n k : ℕ) (line : List ℕ) → k ≤ length line → (0 < k → get_or line (k - 1) 0 ≡ 32)
@@ -92,9 +72,8 @@ additive-printable : (cs : List ℕ) → is_printable cs ≡ true → list_all i
 additive-printable cs h = subst (λ l. list_all is_additive l ≡ true) (chars-printable cs h) (plain_line-printable cs h).characters
 
 -- a line ends before a unit that does not fit
-ended : (n : ℕ) (front : List ℕ) (us : List TextUnit) (p : TextUnit) → 0 < n → is_printable front ≡ true → length front ≤ n
-    → First us p → n < length front + needed n p
-    → append_all n 0 (kept_units n front ++ us) ≡ front ++ 10 ∷ append_all n 0 us
+ended : (n : ℕ) (front : List ℕ) (us : List TextUnit) (p : TextUnit) → 0 < n → is_printable front ≡ true → length front ≤ n → First us p
+    → n < length front + needed n p → append_all n 0 (kept_units n front ++ us) ≡ front ++ 10 ∷ append_all n 0 us
 ended n front us p some h le f wide =
     let columns = columns-printable_line front h in
     line_kept-before n true front us (additive-printable front h) (omega arith)
@@ -121,7 +100,7 @@ breaks-before n line some h long at =
       some = some;
       end = omega arith;
       rest = ap (λ l. append_all n 0 (kept_units n l)) whole ∙ ap (append_all n 0) (units-around n front ys)
-          ∙ ended n front (space ∷ kept_units n ys) space some (parts-printable n line h).0 (omega arith) first (omega (arith, need))
+          ∙ ended n front (space ∷ kept_units n ys) space some (all-parts (is_in_range 0x20 0x7E) n line h).0 (omega arith) first (omega (arith, need))
           ∙ ap (λ us. front ++ 10 ∷ append_all n 0 us) (sym (units-around n [] ys))
           ∙ ap (λ l. front ++ 10 ∷ append_all n 0 (kept_units n l)) (sym back);
     }
@@ -129,8 +108,7 @@ breaks-before n line some h long at =
 -- behind a space, before a word that does not fit
 breaks-after : (n k : ℕ) (line word : List ℕ) (ws : List (List ℕ)) → 0 < n → is_printable line ≡ true → k ≤ n → n < length line
     → (0 < k → get_or line (k - 1) 0 ≡ 32) → words_of (drop k line) ≡ word ∷ ws → is_printable word ≡ true → length word ≤ n
-    → n < k + length word
-    → BreaksAt n true line k
+    → n < k + length word → BreaksAt n true line k
 breaks-after n k line word ws some h le long at words own short_word wide =
     let columns = columns-printable_line word own in
     let p = unit_of word (columns_of word) in
@@ -142,7 +120,7 @@ breaks-after n k line word ws some h le long at words own short_word wide =
       some = omega arith;
       end = omega arith;
       rest = ap (append_all n 0) (around n k line (omega arith) at)
-          ∙ ended n (take k line) (kept_units n (drop k line)) p some (parts-printable k line h).0 (omega arith) first
+          ∙ ended n (take k line) (kept_units n (drop k line)) p some (all-parts (is_in_range 0x20 0x7E) k line h).0 (omega arith) first
           (omega (arith, need));
     }
 
@@ -230,10 +208,8 @@ breaks-inside n k m line word some h long e at t wide =
     let front = take k line in
     let none = t.none in
     let us = tail_units n t.tail in
-    let halves = parts-printable k line h in
-    let own : is_printable word ≡ true =
-    (and_parts (is_printable word) (is_printable t.tail)
-    (sym (list_all-append (is_in_range 0x20 0x7E) word t.tail) ∙ ap is_printable (sym t.parts) ∙ halves.1)).0 in
+    let halves = all-parts (is_in_range 0x20 0x7E) k line h in
+    let own : is_printable word ≡ true = (all-halves (is_in_range 0x20 0x7E) word t.tail (ap is_printable (sym t.parts) ∙ halves.1)).0 in
     let head = take m word in
     let w = drop m word in
     let front_len : length front ≡ k = length-take-le k line (omega arith) in
@@ -260,7 +236,7 @@ breaks-inside n k m line word some h long e at t wide =
           ∙ ap (λ j. front ++ append_all n j (map unit_of_char word ++ us)) (columns ∙ front_len)
           ∙ ap (λ l. front ++ l) (filled-line n k m word us some e own (omega arith))
           ∙ ap (λ l. front ++ (head ++ 10 ∷ l))
-          (as-chars n w us (parts-printable m word own).1 (All-drop (λ b. eqb b 32 ≡ false) m word none)
+          (as-chars n w us (all-parts (is_in_range 0x20 0x7E) m word own).1 (All-drop (λ b. eqb b 32 ≡ false) m word none)
           ∙ ap (append_all n 0) (sym (opened n w t.tail t.tail_is (All-drop (λ b. eqb b 32 ≡ false) m word none)) ∙ ap (kept_units n) (sym dropped)))
           ∙ sym (append_assoc front head (10 ∷ next))
           ∙ ap (λ l. l ++ 10 ∷ next) (sym taken);
@@ -281,7 +257,7 @@ pub written-more : (n k : ℕ) (words : Bool) (cs : List ℕ) → is_printable c
     → take k cs ++ (encode_utf8 10 ++ written_line n words (drop k cs)) ≡ written_line n words cs
 written-more n k words cs h b =
     let front = take k cs in
-    let parts = parts-printable k cs h in
+    let parts = all-parts (is_in_range 0x20 0x7E) k cs h in
     let more = append_all n 0 (units n words (drop k cs)) in
     let written : written_line n words cs ≡ front ++ (encode_utf8 10 ++ encode_utf8_all more) =
     ap (λ l. encode_utf8_all (append_all n 0 (units n words l))) (chars-printable cs h)
@@ -318,12 +294,11 @@ breaks-one n line some h long none next =
 
 -- it is split off
 pub breaks-word : (n k : ℕ) (line word : List ℕ) (after : Option (Bor (List ℕ))) → 0 < n → is_printable line ≡ true → k ≤ n
-    → n < length line
-    → (0 < k → get_or line (k - 1) 0 ≡ 32) → IsSplitAt 32 (drop k line) word after → length word ≤ n → n < k + length word
+    → n < length line → (0 < k → get_or line (k - 1) 0 ≡ 32) → IsSplitAt 32 (drop k line) word after → length word ≤ n → n < k + length word
     → BreaksAt n true line k
 breaks-word n k line word after some h le long at s short_word wide =
-    let back = parts-printable k line h in
-    let own : is_printable word ≡ true = ap is_printable s.front_is ∙ (parts-printable (length word) (drop k line) back.1).0 in
+    let back = all-parts (is_in_range 0x20 0x7E) k line h in
+    let own : is_printable word ≡ true = ap is_printable s.front_is ∙ (all-parts (is_in_range 0x20 0x7E) (length word) (drop k line) back.1).0 in
     let words : words_of (drop k line) ≡ word ∷ words_in after =
     ap words_of (sym (chars-printable (drop k line) back.1)) ∙ words-split (drop k line) word after s
     ∙ ap (λ l. l ∷ words_in after) (chars-printable word own) in

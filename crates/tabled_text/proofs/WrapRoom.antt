@@ -1,15 +1,17 @@
 -- Wrapped plain texts stay in their room.
-use Rattle.tabled_text.proofs.Names.{AllZip, Bool, IsFullest, IsFullestText, IsPlainColumn, IsWrapped, List, MatchBool, TextUnit, []}
-use Rattle.tabled_text.proofs.Names.{and_from, and_parts, ap, append-nil, append_all, append_assoc, append_text, append_used, arith}
-use Rattle.tabled_text.proofs.Names.{cases_Bool, char_columns, char_count, chars, chars-nil, columns_of, cond, eqb-true, false, greatest}
-use Rattle.tabled_text.proofs.Names.{has_plain_width, is_additive, is_additive_or_feed, is_additive_text, is_listed_or_drawn, le-leb}
-use Rattle.tabled_text.proofs.Names.{leb-false, leb-true, lines_of, list_all, map, min, nat_le, nat_tests, needed, onto_first, refl}
-use Rattle.tabled_text.proofs.Names.{replicate, shown, space, stays, subst, suc, sum_by, sum_by-cons, sym, text_of_groups, text_of_lines}
-use Rattle.tabled_text.proofs.Names.{true, unicode_width, unit_of_char, units, units_of_word, units_of_words, words_of, zero, ℕ, ⊎_elim, ⊤}
-use Rattle.tabled_text.proofs.Names.{◌&&◌, ◌++◌, ◌+◌, ◌-◌, ◌<◌, ◌==◌, ◌||◌, ◌∙◌, ◌∷◌, ◌≡◌, ◌≤◌}
-use Rattle.tabled_text.proofs.Each.{Each, Each-split, Each-lines}
-use Rattle.tabled_text.proofs.PlainLemmas.{columns_of-plain, char_count-plain}
-use Rattle.tabled_text.proofs.Filling.{text_is, append_text-fits, append_text-breaks}
+use Rattle.tabled_text.proofs.Names.{AllZip, Bool, IsFullest, IsPlainColumn, IsWrapped, List, TextUnit, [], and_from, and_parts, ap}
+use Rattle.tabled_text.proofs.Names.{append-nil, append_all, append_assoc, append_text, append_used, arith, cases_Bool, char_columns}
+use Rattle.tabled_text.proofs.Names.{char_count, chars, chars-nil, columns_of, cond, false, greatest, has_plain_width, is_additive}
+use Rattle.tabled_text.proofs.Names.{is_additive_or_feed, is_additive_text, is_listed_or_drawn, le-leb, leb-false, leb-true, lines_of}
+use Rattle.tabled_text.proofs.Names.{list_all, map, min, nat_le, nat_tests, ne_eqb, needed, onto_first, or_left, or_right, refl, replicate}
+use Rattle.tabled_text.proofs.Names.{shown, space, stays, subst, suc, sum_by, sum_by-cons, sym, text_of_groups, text_of_lines, true}
+use Rattle.tabled_text.proofs.Names.{unicode_width, unit_of_char, units, zero, ℕ, ⊎_elim, ⊤, ◌&&◌, ◌++◌, ◌+◌, ◌-◌, ◌<◌, ◌==◌, ◌||◌, ◌∙◌}
+use Rattle.tabled_text.proofs.Names.{◌∷◌, ◌≡◌, ◌≤◌}
+use Rattle.tabled_text.proofs.Basics.{cond-both, list_all-copies}
+use Rattle.tabled_text.proofs.Bridge.{Each}
+use Rattle.tabled_text.proofs.Filling.{append_text-breaks, append_text-fits, text_is, wrapped-cases}
+use Rattle.tabled_text.proofs.FitLemmas.{Each-lines, EachUnit, EachUnit-units, IsMade}
+use Rattle.tabled_text.proofs.PlainLemmas.{char_count-plain, line_columns-plain}
 
 -- ---- single characters
 pub plain_replacement : (is_additive 0xFFFD ≡ true) × (char_columns 0xFFFD ≡ 1)
@@ -25,10 +27,8 @@ unfolding unicode_width
 plain_space = (refl, refl)
 
 pub not_break : (c : ℕ) → is_additive c ≡ true → (c == 10) ≡ false
-not_break c h = ⊎_elim
-    (λ y. let z : is_additive 10 ≡ true = subst (λ k. is_additive k ≡ true) (eqb-true c 10 y) h in
-    absurd (let w : false ≡ true = z in cc))
-    (λ n. n) (cases_Bool (c == 10))
+not_break c h = ne_eqb c 10 (λ e.
+    let z : is_additive 10 ≡ true = subst (λ k. is_additive k ≡ true) e h in let w : false ≡ true = z in cc)
 
 -- ---- what stays in n columns
 stays-char : (n used c : ℕ) (rest : List ℕ) → is_additive c ≡ true → stays n (used + char_columns c) rest
@@ -49,15 +49,16 @@ stays-line n used (c ∷ xs) rest h s =
 pub stays-break : (n used : ℕ) (rest : List ℕ) → used ≤ n → stays n 0 rest ≡ true → stays n used (10 ∷ rest) ≡ true
 stays-break n used rest h s = and_from (nat_le used n) (stays n 0 rest) (le-leb used n h) s
 
+pub copies : (c k : ℕ) → is_additive c ≡ true → char_columns c ≡ 1
+    → (list_all is_additive (replicate k c) ≡ true) × (sum_by char_columns (replicate k c) ≡ k)
+copies c k h e = (list_all-copies is_additive c k h, columns k)
+  where
+    columns : (k : ℕ) → sum_by char_columns (replicate k c) ≡ k
+    columns zero = refl
+    columns (suc k) = omega (arith, e, sum_by-cons char_columns c (replicate k c), columns k)
+
 pub replacements : (k : ℕ) → (list_all is_additive (replicate k 0xFFFD) ≡ true) × (sum_by char_columns (replicate k 0xFFFD) ≡ k)
-replacements zero = (refl, refl)
-replacements (suc k) =
-    let r = replacements k in
-    let p = plain_replacement in (
-      and_from (is_additive 0xFFFD) (list_all is_additive (replicate k 0xFFFD)) p.0 r.0,
-      sum_by-cons char_columns 0xFFFD (replicate k 0xFFFD) ∙ (let a = p.1 in let b = r.1 in
-          let e : char_columns 0xFFFD + sum_by char_columns (replicate k 0xFFFD) ≡ suc k = omega arith in e),
-    )
+replacements k = copies 0xFFFD k plain_replacement.0 plain_replacement.1
 
 -- its lines, with what the first one has already
 abbrev pub Lines : ℕ → ℕ → List (List ℕ) → Type 0
@@ -74,65 +75,49 @@ Lines-onto n used c (x ∷ ls) h l le = (
   l.2,
 )
 
-stays-le : (n used : ℕ) (cs : List ℕ) → stays n used cs ≡ true → used ≤ n
-stays-le n used [] h = leb-true used n h
-stays-le n used (c ∷ cs) h = ⊎_elim
-    (λ y. let t = subst (λ b. cond b (nat_le used n && stays n 0 cs) (is_additive c && stays n (used + char_columns c) cs) ≡ true) y h in
-    leb-true used n (and_parts (nat_le used n) (stays n 0 cs) t).0)
-    (λ no. let t = subst (λ b. cond b (nat_le used n && stays n 0 cs) (is_additive c && stays n (used + char_columns c) cs) ≡ true) no h in
-    let r = stays-le n (used + char_columns c) cs (and_parts (is_additive c) (stays n (used + char_columns c) cs) t).1 in omega arith)
-    (cases_Bool (c == 10))
-
-Lines-stays : (n used : ℕ) (cs : List ℕ) → stays n used cs ≡ true → Lines n used (lines_of cs)
-Lines-stays n used [] h = (refl, (let l = leb-true used n h in omega arith), tt)
-Lines-stays n used (c ∷ cs) h = ⊎_elim
-    (λ y. let t = subst (λ b. cond b (nat_le used n && stays n 0 cs) (is_additive c && stays n (used + char_columns c) cs) ≡ true) y h in
+-- the lines of a text that stays, and the columns used before it
+pub Lines-stays : (n used : ℕ) (cs : List ℕ) → stays n used cs ≡ true → (used ≤ n) × Lines n used (lines_of cs)
+Lines-stays n used [] h = let l = leb-true used n h in (l, (refl, omega arith, tt))
+Lines-stays n used (c ∷ cs) h =
+    cond-both (λ (t : Bool). t ≡ true) (λ ls. (used ≤ n) × Lines n used ls) (c == 10) (nat_le used n && stays n 0 cs)
+    (is_additive c && stays n (used + char_columns c) cs) ([] ∷ lines_of cs) (onto_first c (lines_of cs))
+    (λ _ t.
     let parts = and_parts (nat_le used n) (stays n 0 cs) t in
-    let own : Lines n used ([] ∷ lines_of cs) = (refl, (let l = leb-true used n parts.0 in omega arith), Lines-stays n 0 cs parts.1) in
-    subst (λ b. Lines n used (cond b ([] ∷ lines_of cs) (onto_first c (lines_of cs)))) (sym y) own)
-    (λ no. let t = subst (λ b. cond b (nat_le used n && stays n 0 cs) (is_additive c && stays n (used + char_columns c) cs) ≡ true) no h in
+    let l = leb-true used n parts.0 in
+    (l, (refl, omega arith, (Lines-stays n 0 cs parts.1).1)))
+    (λ _ t.
     let parts = and_parts (is_additive c) (stays n (used + char_columns c) cs) t in
-    let own = Lines-onto n used c (lines_of cs) parts.0 (Lines-stays n (used + char_columns c) cs parts.1)
-    (stays-le n (used + char_columns c) cs parts.1) in
-    subst (λ b. Lines n used (cond b ([] ∷ lines_of cs) (onto_first c (lines_of cs)))) (sym no) own)
-    (cases_Bool (c == 10))
+    let rest = Lines-stays n (used + char_columns c) cs parts.1 in
+    (let l = rest.0 in omega arith, Lines-onto n used c (lines_of cs) parts.0 rest.1 rest.0)) h
 
 Lines-greatest : (n used : ℕ) (ls : List (List ℕ)) → Lines n used ls → greatest (map columns_of ls) ≤ n
 Lines-greatest n used [] h = omega arith
 Lines-greatest n used (l ∷ ls) h =
-    let own = columns_of-plain l h.0 in
+    let own = line_columns-plain l h.0 in
     let a = h.1 in
     let rest = Lines-greatest n 0 ls h.2 in
     omega arith
 
 -- a text that stays in n columns measures at most n
 pub columns-stays : (n : ℕ) (cs : List ℕ) → stays n 0 cs ≡ true → greatest (map columns_of (lines_of cs)) ≤ n
-columns-stays n cs h = Lines-greatest n 0 (lines_of cs) (Lines-stays n 0 cs h)
+columns-stays n cs h = Lines-greatest n 0 (lines_of cs) (Lines-stays n 0 cs h).1
 
 -- and is plain
 pub is_additive_text-stays : (n used : ℕ) (cs : List ℕ) → stays n used cs ≡ true → is_additive_text cs ≡ true
 is_additive_text-stays n used [] h = refl
-is_additive_text-stays n used (c ∷ cs) h = ⊎_elim
-    (λ y. let t = subst (λ b. cond b (nat_le used n && stays n 0 cs) (is_additive c && stays n (used + char_columns c) cs) ≡ true) y h in
-    let parts = and_parts (nat_le used n) (stays n 0 cs) t in
-    subst (λ b. ((b || is_additive c) && is_additive_text cs) ≡ true) (sym y) (is_additive_text-stays n 0 cs parts.1))
-    (λ no. let t = subst (λ b. cond b (nat_le used n && stays n 0 cs) (is_additive c && stays n (used + char_columns c) cs) ≡ true) no h in
+is_additive_text-stays n used (c ∷ cs) h =
+    cond-both (λ (t : Bool). t ≡ true) (λ (k : ℕ). is_additive_text (c ∷ cs) ≡ true) (c == 10) (nat_le used n && stays n 0 cs)
+    (is_additive c && stays n (used + char_columns c) cs) 0 0
+    (λ feed t. and_from (is_additive_or_feed c) (is_additive_text cs) (or_left (c == 10) (is_additive c) feed)
+    (is_additive_text-stays n 0 cs (and_parts (nat_le used n) (stays n 0 cs) t).1))
+    (λ _ t.
     let parts = and_parts (is_additive c) (stays n (used + char_columns c) cs) t in
-    subst (λ b. ((b || is_additive c) && is_additive_text cs) ≡ true) (sym no)
-    (and_from (is_additive c) (is_additive_text cs) parts.0 (is_additive_text-stays n (used + char_columns c) cs parts.1)))
-    (cases_Bool (c == 10))
+    and_from (is_additive_or_feed c) (is_additive_text cs) (or_right (c == 10) (is_additive c) parts.0)
+    (is_additive_text-stays n (used + char_columns c) cs parts.1)) h
 
 -- ---- units that are plain and as wide as they say
 abbrev pub Good : TextUnit → Type 0
 Good p = (list_all is_additive p.text ≡ true) × (p.width ≡ sum_by char_columns p.text)
-
-abbrev pub EachGood : List TextUnit → Type 0
-EachGood [] = ⊤
-EachGood (p ∷ ps) = Good p × EachGood ps
-
-EachGood-append : (xs ys : List TextUnit) → EachGood xs → EachGood ys → EachGood (xs ++ ys)
-EachGood-append [] ys f g = g
-EachGood-append (x ∷ xs) ys f g = (f.0, EachGood-append xs ys f.1 g)
 
 Good-char : (c : ℕ) → is_additive c ≡ true → Good (unit_of_char c)
 Good-char c h =
@@ -143,21 +128,6 @@ Good-char c h =
           (let z : char_columns c ≡ sum_by char_columns (c ∷ []) = omega (arith, sum_by-cons char_columns c []) in z),
     )
 
-EachGood-chars : (cs : List ℕ) → list_all is_additive cs ≡ true → EachGood (map unit_of_char cs)
-EachGood-chars [] h = tt
-EachGood-chars (c ∷ cs) h = let parts = and_parts (is_additive c) (list_all is_additive cs) h in
-    (Good-char c parts.0, EachGood-chars cs parts.1)
-
-EachGood-cond : (b : Bool) (xs ys : List TextUnit) → EachGood xs → EachGood ys → EachGood (cond b xs ys)
-EachGood-cond true xs ys f g = f
-EachGood-cond false xs ys f g = g
-
-EachGood-word : (n : ℕ) (word : List ℕ) → list_all is_additive word ≡ true → EachGood (units_of_word n word)
-EachGood-word n [] h = tt
-EachGood-word n (c ∷ cs) h =
-    EachGood-cond (nat_le (columns_of (c ∷ cs)) n) (record { text = c ∷ cs; width = columns_of (c ∷ cs) } ∷ []) (map unit_of_char (c ∷ cs))
-    ((h, columns_of-plain (c ∷ cs) h), tt) (EachGood-chars (c ∷ cs) h)
-
 Good-space : Good space
 Good-space = let p = plain_space in (and_from (is_additive 32) true p.0 refl, (let e = p.1 in omega (arith, sum_by-cons char_columns 32 [])))
 
@@ -167,46 +137,36 @@ EachPlain ls = Each is_additive ls
 pub EachPlain-lines : (cs : List ℕ) → is_additive_text cs ≡ true → EachPlain (lines_of cs)
 EachPlain-lines cs h = Each-lines is_additive is_additive_or_feed (λ c a b. subst (λ x. (x || is_additive c) ≡ true) b a) cs h
 
-EachGood-words : (n : ℕ) (words : List (List ℕ)) → EachPlain words → EachGood (units_of_words n words)
-EachGood-words n [] h = tt
-EachGood-words n (w ∷ []) h = EachGood-word n w h.0
-EachGood-words n (w ∷ x ∷ ws) h =
-    let more : EachGood (space ∷ units_of_words n (x ∷ ws)) = (Good-space, EachGood-words n (x ∷ ws) h.1) in
-    EachGood-append (units_of_word n w) (space ∷ units_of_words n (x ∷ ws)) (EachGood-word n w h.0) more
+pub good-made : IsMade is_additive Good
+good-made = record { char = Good-char; word = λ cs h. (h, line_columns-plain cs h); space = Good-space }
 
-pub EachGood-units : (n : ℕ) (words : Bool) (line : List ℕ) → list_all is_additive line ≡ true → EachGood (units n words line)
-EachGood-units n false line h = EachGood-chars line h
-EachGood-units n true line h = EachGood-words n (words_of line) (Each-split (λ c. c == 32) is_additive is_additive (λ c a b. a) line h)
+pub EachGood-units : (n : ℕ) (words : Bool) (line : List ℕ) → list_all is_additive line ≡ true → EachUnit Good (units n words line)
+EachGood-units n words line h = EachUnit-units is_additive Good good-made n words line h
 
 -- ---- a unit that is shown stays in the line
 shown-wide : (n used : ℕ) (p : TextUnit) (rest : List ℕ) → Good p → used + needed n p ≤ n
     → (stays n (min (used + p.width) n) rest ≡ true) → stays n used (shown n used p ++ rest) ≡ true
-shown-wide n used p rest g fits s = ⊎_elim
-    (λ y.
-    let l : p.width ≤ n = leb-true p.width n y in
-    let fit : used + cond (nat_le p.width n) p.width 1 ≤ n = fits in
-    let fit' : used + p.width ≤ n = subst (λ b. used + cond b p.width 1 ≤ n) y fit in
+shown-wide n used p rest g fits s =
+    cond-both (λ k. used + k ≤ n) (λ (t : List ℕ). stays n used (t ++ rest) ≡ true) (nat_le p.width n) p.width 1 p.text
+    (replicate (n - used) 0xFFFD)
+    (λ _ fit.
+    let room : used + p.width ≤ n = fit in
     let w = g.1 in
-    subst (λ b. stays n used (cond b p.text (replicate (n - used) 0xFFFD) ++ rest) ≡ true) (sym y)
-    (stays-line n used p.text rest g.0 (subst (λ k. stays n k rest ≡ true)
-    (let e : min (used + p.width) n ≡ used + sum_by char_columns p.text = omega arith in e) s)))
-    (λ no.
-    let l : n < p.width = leb-false p.width n no in
-    let fit : used + cond (nat_le p.width n) p.width 1 ≤ n = fits in
-    let fit' : used + 1 ≤ n = subst (λ b. used + cond b p.width 1 ≤ n) no fit in
+    let e : min (used + p.width) n ≡ used + sum_by char_columns p.text = omega arith in
+    stays-line n used p.text rest g.0 (subst (λ k. stays n k rest ≡ true) e s))
+    (λ no fit.
+    let room : used + 1 ≤ n = fit in
+    let wide = leb-false p.width n no in
     let r = replacements (n - used) in
     let w = r.1 in
-    subst (λ b. stays n used (cond b p.text (replicate (n - used) 0xFFFD) ++ rest) ≡ true) (sym no)
-    (stays-line n used (replicate (n - used) 0xFFFD) rest r.0
-    (subst (λ k. stays n k rest ≡ true) (let e : min (used + p.width) n
-    ≡ used + sum_by char_columns (replicate (n - used) 0xFFFD) = omega arith in e) s)))
-    (cases_Bool (nat_le p.width n))
+    let e : min (used + p.width) n ≡ used + sum_by char_columns (replicate (n - used) 0xFFFD) = omega arith in
+    stays-line n used (replicate (n - used) 0xFFFD) rest r.0 (subst (λ k. stays n k rest ≡ true) e s)) fits
 
 needed-fits : (n : ℕ) (p : TextUnit) → 0 < n → 0 + needed n p ≤ n
 needed-fits n p h = grind (arith, nat_tests)
 
 -- adding unit to unit, where what follows stays from every column on
-pub stays-append_all : (n used : ℕ) (ps : List TextUnit) (rest : List ℕ) → 0 < n → EachGood ps
+pub stays-append_all : (n used : ℕ) (ps : List TextUnit) (rest : List ℕ) → 0 < n → EachUnit Good ps
     → ((k : ℕ) → k ≤ n → stays n k rest ≡ true) → stays n (min used n) (append_all n used ps ++ rest) ≡ true
 stays-append_all n used [] rest pos g h = h (min used n) (omega arith)
 stays-append_all n used (p ∷ ps) rest pos g h =
@@ -244,27 +204,20 @@ stays-broken n words pos line groups rest plain f h =
 stays-lines : (n : ℕ) (words : Bool) → 0 < n → (lines : List (List ℕ)) (broken : List (List (List TextUnit))) → EachPlain lines
     → AllZip (λ line groups. IsFullest n (units n words line) groups) lines broken → stays n 0 (text_of_lines n broken) ≡ true
 stays-lines n words pos [] [] p f = le-leb 0 n (omega arith)
-stays-lines n words pos [] (g ∷ gs) p f = absurd f
-stays-lines n words pos (l ∷ ls) [] p f = absurd f
 stays-lines n words pos (l ∷ []) (g ∷ []) p f =
     subst (λ t. stays n 0 t ≡ true) (append-nil (text_of_groups n g)) (stays-broken n words pos l g [] p.0 f.0 (stays-nothing n))
-stays-lines n words pos (l ∷ []) (g ∷ h ∷ gs) p f = absurd f.1
-stays-lines n words pos (l ∷ m ∷ ls) (g ∷ []) p f = absurd f.1
 stays-lines n words pos (l ∷ m ∷ ls) (g ∷ h ∷ gs) p f =
     let rest = stays-lines n words pos (m ∷ ls) (h ∷ gs) p.1 f.1 in
     stays-broken n words pos l g (10 ∷ text_of_lines n (h ∷ gs)) p.0 f.0 (λ k le. stays-break n k (text_of_lines n (h ∷ gs)) le rest)
+stays-lines n words pos [] _ p f = absurd f
+stays-lines n words pos _ [] p f = absurd f
+stays-lines n words pos _ _ p f = absurd f.1
 
 -- a wrapped plain text stays in n columns, whatever its characters' widths
 pub stays-wrapped : (n : ℕ) (words : Bool) (text answer : List ℕ) → is_additive_text (chars text) ≡ true
     → IsWrapped n words text answer → stays n 0 (chars answer) ≡ true
 stays-wrapped n words text answer plain w = ⊎_elim
-    (λ y.
-    let empty : answer ≡ [] = subst (λ b. MatchBool b (answer ≡ []) (IsFullestText n words (chars text) (chars answer))) y w.wrapped in
-    subst (λ t. stays n 0 t ≡ true) (sym (ap chars empty ∙ chars-nil)) (le-leb 0 n (omega arith)))
-    (λ no.
-    let full : IsFullestText n words (chars text) (chars answer) = subst
-    (λ b. MatchBool b (answer ≡ []) (IsFullestText n words (chars text) (chars answer))) no w.wrapped in
-    let pos : 0 < n = grind (arith, nat_tests) in
-    subst (λ t. stays n 0 t ≡ true) (sym full.answered)
-    (stays-lines n words pos (lines_of (chars text)) full.broken (EachPlain-lines (chars text) plain) full.fullest))
-    (cases_Bool (n == 0))
+    (λ none. subst (λ t. stays n 0 t ≡ true) (sym (ap chars none.1 ∙ chars-nil)) (le-leb 0 n (omega arith)))
+    (λ full. subst (λ t. stays n 0 t ≡ true) (sym full.1.answered)
+    (stays-lines n words full.0 (lines_of (chars text)) full.1.broken (EachPlain-lines (chars text) plain) full.1.fullest))
+    (wrapped-cases n words text answer w)

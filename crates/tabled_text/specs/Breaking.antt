@@ -1,8 +1,49 @@
--- Breakings of lines and texts, and which of them have the fewest lines.
-use Rattle.std.specs.Prelude.{◌≡◌, ℕ, ◌<◌, ◌≤◌, Bool, List, chars, length, All, map, sum_by}
-use Rattle.std.specs.List.{flat_map, AllZip, join_with_byte}
-use Rattle.tabled_text.specs.Measure.{lines_of}
-use Rattle.tabled_text.specs.Units.{TextUnit, units, width_of, text_of}
+-- The units of a line, which wrapping never breaks, breakings of lines and texts, and which of them
+-- have the fewest lines. Lines and units are lists of characters.
+use Rattle.std.specs.Prelude.{◌≡◌, ℕ, ◌<◌, ◌≤◌, Bool, List, chars, length, All, map, sum_by, true, false, ◌==◌, nat_le, [], ◌∷◌, ◌++◌, if◌then◌else◌}
+use Rattle.std.specs.List.{flat_map, AllZip, join_with_byte, slice_split}
+use Rattle.tabled_text.specs.Measure.{lines_of, columns_of, char_count}
+
+pub record TextUnit : Type 0 where
+  pub text : List ℕ
+  pub width : ℕ
+
+-- a character as a unit, as wide as its count
+abbrev pub unit_of_char : ℕ → TextUnit
+unit_of_char c = record { text = c ∷ []; width = char_count c }
+
+abbrev pub space : TextUnit
+space = record { text = 32 ∷ []; width = 1 }
+
+-- the words of a line: its pieces between spaces, of which some may be empty
+abbrev pub words_of : List ℕ → List (List ℕ)
+words_of line = slice_split (λ c. c == 32) line
+
+-- a word of at most n columns is one unit. A wider word is its characters, and an empty one no unit
+abbrev pub units_of_word : ℕ → List ℕ → List TextUnit
+units_of_word n [] = []
+units_of_word n (c ∷ cs) =
+    if nat_le (columns_of (c ∷ cs)) n then record { text = c ∷ cs; width = columns_of (c ∷ cs) } ∷ []
+    else map unit_of_char (c ∷ cs)
+
+-- the units of the words, with a space between every two words
+abbrev pub units_of_words : ℕ → List (List ℕ) → List TextUnit
+units_of_words n [] = []
+units_of_words n (word ∷ []) = units_of_word n word
+units_of_words n (word ∷ next ∷ words) = units_of_word n word ++ space ∷ units_of_words n (next ∷ words)
+
+-- the units of a line for n columns: its words and spaces, or its characters
+abbrev pub units : ℕ → Bool → List ℕ → List TextUnit
+units n false line = map unit_of_char line
+units n true line = units_of_words n (words_of line)
+
+-- the total width of a list of units
+abbrev pub width_of : List TextUnit → ℕ
+width_of units = sum_by (λ unit. unit.width) units
+
+-- the text of a list of units
+abbrev pub text_of : List TextUnit → List ℕ
+text_of units = flat_map (λ unit. unit.text) units
 
 -- the groups are the units in order. No group is empty, except that a line without units is one
 -- empty group

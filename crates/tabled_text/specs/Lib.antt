@@ -1,7 +1,6 @@
 pub mod Breaking
 pub mod Cut
 pub mod Exact
-pub mod Expected
 pub mod Fitting
 pub mod FramedLines
 pub mod Letters
@@ -12,7 +11,5 @@ pub mod OldText
 pub mod Plain
 pub mod Room
 pub mod Runs
-pub mod Separators
-pub mod Units
 pub mod Walk
 pub mod Wrapping

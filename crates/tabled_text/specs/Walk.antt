@@ -1,12 +1,14 @@
--- What the private functions that wrap and compare do, unit after unit and without looking ahead.
-use Rattle.std.specs.Prelude.{◌≡◌, ℕ, ◌+◌, ◌<◌, ◌≤◌, Bool, true, false, ◌||◌, nat_le, List, [], ◌∷◌, ◌++◌, chars, encode_utf8_all, length, take, drop, Option, Some, None, if◌then◌else◌}
+-- What the private functions that wrap and compare do, unit after unit and without looking ahead,
+-- and what is still expected of a text that is compared piece by piece.
+use Rattle.std.specs.Prelude.{◌≡◌, ℕ, ◌+◌, ◌<◌, ◌≤◌, Bool, true, false, ◌||◌, nat_le, List, [], ◌∷◌, ◌++◌, chars, encode_utf8_all, length, take, drop, Option, Some, None, if◌then◌else◌, ◌↔◌}
 use Rattle.std.specs.Borrow.{Bor}
 use Rattle.std.specs.List.{list_all}
 use Rattle.std.specs.Str.{IsUtf8}
 use Rattle.tabled_text.specs.Measure.{columns_of, count_of}
 use Rattle.tabled_text.specs.OldText.{all_chars_fit}
-use Rattle.tabled_text.specs.Units.{TextUnit, units, words_of}
+use Rattle.tabled_text.specs.Breaking.{TextUnit, units, words_of}
 use Rattle.tabled_text.specs.Wrapping.{needed, shown}
+use Rattle.std.proofs.Common.{append_assoc, sym, ap, ◌∙◌}
 
 -- the words of the rest after a space, if there is one
 abbrev pub words_in : Option (Bor (List ℕ)) → List (List ℕ)
@@ -67,3 +69,17 @@ pub record IsPiece (n : ℕ) (text piece : List ℕ) (columns : ℕ) (rest : Lis
   pub rest_utf8 : IsUtf8 rest
   pub counted : columns ≡ count_of (chars piece)
   pub fits : columns ≤ n
+
+-- `x` was matched: z is expected afterwards exactly if x and then z were expected before
+abbrev pub Expects : Option (List ℕ) → List ℕ → Option (List ℕ) → Type 0
+Expects s x t = (z : List ℕ) → (s ≡ Some (x ++ z)) ↔ (t ≡ Some z)
+
+pub Expects-nothing : (s : Option (List ℕ)) → Expects s [] s
+Expects-nothing s = λ z. (λ h. h, λ h. h)
+
+pub Expects-more : (s t u : Option (List ℕ)) (x y : List ℕ) → Expects s x t → Expects t y u → Expects s (x ++ y) u
+Expects-more s t u x y h k = λ z.
+    let first = h (y ++ z) in
+    let next = k z in
+    let e = append_assoc x y z in
+    (λ a. next.0 (first.0 (a ∙ ap (λ l. Some l) e)), λ b. first.1 (next.1 b) ∙ ap (λ l. Some l) (sym e))

@@ -3,7 +3,7 @@ use Rattle.std.specs.Prelude.{◌≡◌, ℕ, ◌+◌, ◌-◌, ◌<◌, ◌≤�
 use Rattle.std.specs.List.{AllZip, join_with_byte}
 use Rattle.std.specs.Str.{IsUtf8}
 use Rattle.tabled_text.specs.Measure.{lines_of}
-use Rattle.tabled_text.specs.Units.{TextUnit, units, width_of}
+use Rattle.tabled_text.specs.Breaking.{TextUnit, units, width_of}
 use Rattle.tabled_text.specs.Breaking.{IsGrouping, EachUnitFits}
 
 -- ---- the fullest breaking

@@ -1,18 +1,16 @@
 //! What a character counts, and whether it is plain, additive or a separator.
 ghost use Rattle.std.specs.Prelude.{◌≡◌, ◌<◌, ◌≤◌, ◌∷◌, [], ◌++◌, ◌+◌, chars, encode_utf8, length};
-ghost use Rattle.std.specs.Prelude.{List, MatchOption, ◌↔◌, IfSome, ℕ};
-ghost use Rattle.std.specs.Prelude.{IsTrue};
+ghost use Rattle.std.specs.Prelude.{List, MatchOption, ◌↔◌, IfSome, ℕ, IsTrue};
 ghost use Rattle.tabled_text.specs.Letters.{BeginsBy, IsLetter, is_narrow_lead, is_wide_lead};
 ghost use Rattle.tabled_text.specs.Letters.{is_narrow_letter, is_wide_letter, lead_byte};
 ghost use Rattle.tabled_text.specs.Measure.{char_count};
 ghost use Rattle.tabled_text.specs.Walk.{IsPiece};
 ghost use Rattle.std.specs.List.{list_all};
-ghost use Rattle.tabled_text.specs.Plain.{is_listed, is_drawn, has_plain_width, is_plain_character};
-ghost use Rattle.tabled_text.specs.Plain.{is_plain_or_feed};
-ghost use Rattle.tabled_text.specs.Plain.{IsPlain, IsPlainColumn, is_listed_or_drawn, is_additive};
-ghost use Rattle.tabled_text.specs.Plain.{is_additive_or_feed, IsAdditive, IsAdditiveColumn};
+ghost use Rattle.tabled_text.specs.Plain.{is_plain_or_feed, is_additive_or_feed, is_listed};
+ghost use Rattle.tabled_text.specs.Plain.{is_drawn, has_plain_width, is_plain_character, IsPlain};
+ghost use Rattle.tabled_text.specs.Plain.{IsPlainColumn, is_listed_or_drawn, is_additive};
+ghost use Rattle.tabled_text.specs.Plain.{IsAdditive, IsAdditiveColumn};
 ghost use Rattle.tabled_text.specs.FramedLines.{IsSeparatorColumn};
-ghost use Rattle.tabled_text.specs.Separators.{is_keycap_base};
 
 use crate::letters::split_letters;
 use unicode_width::UnicodeWidthChar;
@@ -246,16 +244,10 @@ pub fn is_additive_column(c: char) -> bool
     is_additive_char(c) && c.width() == Some(1)
 }
 
-fn is_keycap_base(c: char) -> bool
-    ensures { result ≡ is_keycap_base c }
-{
-    matches!(c, '#' | '*' | '0'..='9')
-}
-
 /// Whether a character takes one column whatever text is around it. These are the additive
 /// characters of one column except `#`, `*` and digits, which U+FE0F widens.
 pub fn is_separator_column(c: char) -> bool
     ensures { IsTrue result ↔ IsSeparatorColumn c }
 {
-    is_additive_column(c) && !is_keycap_base(c)
+    is_additive_column(c) && !matches!(c, '#' | '*' | '0'..='9')
 }

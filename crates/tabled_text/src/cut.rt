@@ -12,23 +12,16 @@ use crate::sink::append_copies;
 use std::alloc::{AllocError, Global};
 use std::borrow::CowStr;
 
-/// A text cut in two. A character dropped between the parts is in neither.
-#[derive(Drop)]
-struct Parts<'a> {
-    front: &'a str,
-    missing: usize,
-    after: &'a str,
-}
-
-/// Cuts a text to n columns. `missing` is the number of columns that a dropped character leaves.
+/// Cuts a text to n columns. Returns the cut text, the number of columns that a dropped character
+/// leaves, and the rest after the cut.
 #[inline(never)]
-fn part_by_chars(text: &str, n: usize) -> Parts<'_>
-    ensures parted { IsParted n (chars text.now) (chars result.front.now) result.missing
-        (chars result.after.now) }
-    ensures front { IsUtf8 result.front.now }
-    ensures after { IsUtf8 result.after.now }
-    ensures beginning { take (length result.front.now) text.now ≡ result.front.now }
-    ensures boundary { IsCharBoundary text.now (length result.front.now) }
+fn part_by_chars(text: &str, n: usize) -> (&str, usize, &str)
+    ensures parted { IsParted n (chars text.now) (chars result.0.now) result.1
+        (chars result.2.now) }
+    ensures front { IsUtf8 result.0.now }
+    ensures after { IsUtf8 result.2.now }
+    ensures beginning { take (length result.0.now) text.now ≡ result.0.now }
+    ensures boundary { IsCharBoundary text.now (length result.0.now) }
 {
     let (_, mut columns, mut rest) = split_letters(text, n);
     'chars: while let Some((count, after)) = split_count(rest) {
@@ -40,50 +33,34 @@ fn part_by_chars(text: &str, n: usize) -> Parts<'_>
         } else {
             if count > n - columns {
                 let (front, _) = text.split_at(text.len() - rest.len());
-                return Parts {
-                    front,
-                    missing: n - columns,
-                    after,
-                };
+                return (front, n - columns, after);
             }
             columns += count;
         }
         rest = after;
     }
     let (front, after) = text.split_at(text.len() - rest.len());
-    Parts {
-        front,
-        missing: 0,
-        after,
-    }
+    (front, 0, after)
 }
 
 /// Cuts a text to n columns. A text of at most n bytes isn't cut, and if the first n bytes are
 /// printable ASCII, they are the cut text.
 #[inline(always)]
-fn part(text: &str, n: usize) -> Parts<'_>
-    ensures parted { IsParted n (chars text.now) (chars result.front.now) result.missing
-        (chars result.after.now) }
-    ensures front { IsUtf8 result.front.now }
-    ensures after { IsUtf8 result.after.now }
-    ensures beginning { take (length result.front.now) text.now ≡ result.front.now }
-    ensures boundary { IsCharBoundary text.now (length result.front.now) }
+fn part(text: &str, n: usize) -> (&str, usize, &str)
+    ensures parted { IsParted n (chars text.now) (chars result.0.now) result.1
+        (chars result.2.now) }
+    ensures front { IsUtf8 result.0.now }
+    ensures after { IsUtf8 result.2.now }
+    ensures beginning { take (length result.0.now) text.now ≡ result.0.now }
+    ensures boundary { IsCharBoundary text.now (length result.0.now) }
 {
     if text.len() <= n {
-        return Parts {
-            front: text,
-            missing: 0,
-            after: "",
-        };
+        return (text, 0, "");
     }
     let (bytes, _) = text.as_bytes().split_at(n);
     if is_run(bytes, 0, b' ', b'~') {
         let (front, after) = text.split_at(n);
-        return Parts {
-            front,
-            missing: 0,
-            after,
-        };
+        return (front, 0, after);
     }
     part_by_chars(text, n)
 }
@@ -113,8 +90,8 @@ pub fn cut_str(alloc: Global, text: &str, n: usize) -> Result<CowStr<'_, Global>
     ensures owned { IfOk result (λ answer. IsOwnedStr answer → NeedsFill n text.now) }
     ensures err { OnErr result (NeedsFill n text.now) }
 {
-    let parts = part(text, n);
-    fill(alloc, parts.front, parts.missing)
+    let (front, missing, _) = part(text, n);
+    fill(alloc, front, missing)
 }
 
 /// Returns the length in bytes of what `cut_str` returns, or `None` if `cut_str` fills columns with
@@ -126,9 +103,9 @@ pub fn cut_length(text: &str, n: usize) -> Option<usize>
     ensures some { IfSome result (λ _. NeedsFill n text.now → ⊥) }
     ensures none { IfNone result (NeedsFill n text.now) }
 {
-    let parts = part(text, n);
-    if parts.missing == 0 {
-        Some(parts.front.len())
+    let (front, missing, _) = part(text, n);
+    if missing == 0 {
+        Some(front.len())
     } else {
         None
     }
@@ -145,7 +122,7 @@ pub fn split_str(
     ensures owned { IfOk result (λ parts. IsOwnedStr parts.0 → NeedsFill n text.now) }
     ensures err { OnErr result (NeedsFill n text.now) }
 {
-    let parts = part(text, n);
-    let front = fill(alloc, parts.front, parts.missing)?;
-    Ok((front, parts.after))
+    let (cut, missing, after) = part(text, n);
+    let front = fill(alloc, cut, missing)?;
+    Ok((front, after))
 }

@@ -3,12 +3,11 @@ ghost use Rattle.std.specs.Prelude.{◌≡◌, ◌++◌, ◌↔◌, ◌<◌, ℕ
 ghost use Rattle.std.specs.Prelude.{encode_utf8, IsTrue};
 ghost use Rattle.std.specs.List.{list_all};
 ghost use Rattle.std.specs.Option.{option_copied};
-ghost use Rattle.tabled_text.specs.Breaking.{HasFewestLines, IsLeastBreaking};
-ghost use Rattle.tabled_text.specs.Expected.{Expects, Expects-nothing, Expects-more};
+ghost use Rattle.tabled_text.specs.Breaking.{HasFewestLines, IsLeastBreaking, words_of};
+ghost use Rattle.tabled_text.specs.Walk.{Expects, Expects-nothing, Expects-more, fits_word};
+ghost use Rattle.tabled_text.specs.Walk.{fits_line};
 ghost use Rattle.tabled_text.specs.Measure.{lines_of};
 ghost use Rattle.tabled_text.specs.OldText.{all_chars_fit};
-ghost use Rattle.tabled_text.specs.Units.{words_of};
-ghost use Rattle.tabled_text.specs.Walk.{fits_word, fits_line};
 ghost use Rattle.tabled_text.specs.Wrapping.{IsFittingWrapping};
 
 use crate::character::char_count;

@@ -14,7 +14,7 @@ ghost use Rattle.tabled_text.specs.Wrapping.{IsWrapped};
 ghost use Rattle.tabled_text.specs.Exact.{IsExactLine};
 ghost use Rattle.tabled_text.specs.Fitting.{FitsIn};
 ghost use Rattle.tabled_text.specs.FramedLines.{EndsApart, IsFrame, IsLine, IsSeparatorColumn};
-ghost use Rattle.tabled_text.specs.Separators.{begins_apart, is_separator, meet};
+ghost use Rattle.tabled_text.specs.FramedLines.{begins_apart, is_separator, meet};
 
 /// A separator adds its own columns, whatever is before and after it. The columns of two texts that
 /// `meet` add up. An additive character of one column is plain or a separator.

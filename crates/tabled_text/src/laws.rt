@@ -6,7 +6,7 @@ ghost use Rattle.std.specs.Int.{is_in_range};
 ghost use Rattle.std.specs.List.{join_with_byte, list_all, slice_index_or};
 ghost use Rattle.std.specs.Str.{IsUtf8};
 ghost use Rattle.tabled_text.specs.Breaking.{EachUnitFits, HasFewestLines, IsBroken};
-ghost use Rattle.tabled_text.specs.Breaking.{IsLeastBreaking};
+ghost use Rattle.tabled_text.specs.Breaking.{IsLeastBreaking, TextUnit, text_of, units};
 ghost use Rattle.tabled_text.specs.Cut.{IsCut};
 ghost use Rattle.tabled_text.specs.Longest.{IsLongestCut};
 ghost use Rattle.tabled_text.specs.Measure.{char_columns, count_of, greatest, line_columns};
@@ -16,7 +16,6 @@ ghost use Rattle.tabled_text.specs.Plain.{is_listed, is_drawn, has_plain_width, 
 ghost use Rattle.tabled_text.specs.Plain.{IsPlain, IsPlainColumn, is_additive, IsAdditive};
 ghost use Rattle.tabled_text.specs.Plain.{IsAdditiveColumn, IsAdditiveLine};
 ghost use Rattle.tabled_text.specs.Room.{stays, StaysWithin};
-ghost use Rattle.tabled_text.specs.Units.{TextUnit, text_of, units};
 ghost use Rattle.tabled_text.specs.Wrapping.{IsWrapped};
 
 use crate::measure::line_width;

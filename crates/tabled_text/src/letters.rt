@@ -2,8 +2,7 @@
 ghost use Rattle.std.specs.Prelude.{◌≡◌, ◌+◌, ◌/◌, ◌++◌, ◌≤◌, IfSome, bit_and, drop, length, map};
 ghost use Rattle.std.specs.Prelude.{replicate, slice_index, take, true, IsUtf8};
 ghost use Rattle.std.specs.List.{list_all};
-ghost use Rattle.tabled_text.specs.Letters.{AreLetters, is_letter_byte};
-ghost use Rattle.tabled_text.specs.Letters.{is_letter_or_break};
+ghost use Rattle.tabled_text.specs.Letters.{AreLetters, is_letter_byte, is_letter_or_break};
 
 use crate::character::{is_narrow_lead, is_wide_lead};
 use crate::runs::{BLOCK, block_at, short_run_end};

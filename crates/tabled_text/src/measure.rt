@@ -1,7 +1,6 @@
 //! The columns and lines of a text, and an iterator over its lines.
 ghost use Rattle.std.specs.Prelude.{◌≡◌, ◌*◌, ◌<◌, ◌≤◌, drop, length, map, IfSome, ◌∷◌};
-ghost use Rattle.std.specs.Prelude.{slice_range};
-ghost use Rattle.std.specs.Prelude.{IsUtf8};
+ghost use Rattle.std.specs.Prelude.{slice_range, IsUtf8};
 ghost use Rattle.std.specs.Int.{is_in_range};
 ghost use Rattle.std.specs.List.{list_all};
 ghost use Rattle.std.specs.Str.{IsCharBoundary};
@@ -117,19 +116,6 @@ fn measures_of_lines(text: &str, run: usize) -> (usize, usize)
     }
 }
 
-/// Returns the columns of a line of letters alone, or `None` if it has other characters or if byte
-/// `run` is ASCII.
-fn letters_from(text: &str, run: usize) -> Option<usize>
-    requires { run < length text.now }
-    ensures line { IfSome result (IsLine text.now) }
-    ensures bound { IfSome result (λ columns. columns ≤ 2 * length text.now) }
-{
-    if text.as_bytes()[run] < 0x80 {
-        return None;
-    }
-    letters_width(text)
-}
-
 /// Returns the columns and the number of lines of a text. Printable ASCII is measured fastest.
 #[inline]
 pub fn text_measures(text: &str) -> (usize, usize)
@@ -141,10 +127,12 @@ pub fn text_measures(text: &str) -> (usize, usize)
     if run == text.len() {
         return (run, 1);
     }
-    match letters_from(text, run) {
-        Some(columns) => (columns, 1),
-        None => measures_of_lines(text, run),
+    if text.as_bytes()[run] >= 0x80 {
+        if let Some(columns) = letters_width(text) {
+            return (columns, 1);
+        }
     }
+    measures_of_lines(text, run)
 }
 
 /// Returns the columns and the number of lines of a text from byte `start` on. Printable ASCII is

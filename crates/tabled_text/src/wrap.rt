@@ -1,15 +1,15 @@
 //! Wraps texts to n columns. One walk writes unit after unit to a `Sink`.
-ghost use Rattle.std.specs.Prelude.{◌≡◌, Bool, nat_le, ◌<◌, ◌≤◌, ◌+◌, ◌-◌, slice_index, ◌∷◌};
-ghost use Rattle.std.specs.Prelude.{chars, encode_utf8_all, length, map, IfOk, OnOk, IfSome};
-ghost use Rattle.std.specs.Prelude.{IsUtf8, string_bytes, OnErr, [], false, true, ℕ};
+ghost use Rattle.std.specs.Prelude.{◌≡◌, Bool, nat_le, ◌<◌, ◌≤◌, ◌+◌, ◌-◌, slice_index, ◌∷◌, chars};
+ghost use Rattle.std.specs.Prelude.{encode_utf8_all, length, map, IfOk, OnOk, IfSome, IsUtf8};
+ghost use Rattle.std.specs.Prelude.{string_bytes, OnErr, [], false, true, ℕ};
 ghost use Rattle.std.specs.Int.{is_in_range};
 ghost use Rattle.std.specs.List.{list_all};
 ghost use Rattle.tabled_text.specs.Cut.{IsCut, NeedsFill};
 ghost use Rattle.tabled_text.specs.Measure.{char_count, lines_of, text_columns};
 ghost use Rattle.tabled_text.specs.Letters.{is_letter_byte};
-ghost use Rattle.tabled_text.specs.Units.{unit_of_char, words_of, units, units_of_word};
-ghost use Rattle.tabled_text.specs.Units.{units_of_words};
-ghost use Rattle.tabled_text.specs.Breaking.{EachUnitFits, HasFewestLines, IsLeastBreaking};
+ghost use Rattle.tabled_text.specs.Breaking.{unit_of_char, words_of, units, units_of_word};
+ghost use Rattle.tabled_text.specs.Breaking.{units_of_words, EachUnitFits, HasFewestLines};
+ghost use Rattle.tabled_text.specs.Breaking.{IsLeastBreaking};
 ghost use Rattle.tabled_text.specs.Wrapping.{IsWrapped};
 ghost use Rattle.tabled_text.specs.Walk.{BreaksAt, words_in, begin_at, begin_text, append_text};
 ghost use Rattle.tabled_text.specs.Walk.{append_used, append_all, used_after, pending};

@@ -1,5 +1,5 @@
-use Rattle.tabled_text.proofs.Names.{ap, arith, chars_past_char, len_utf8_bounds, length, length-append, length-encode, ◌++◌, ◌≡◌}
-use Rattle.std.specs.Prelude.{encode_utf8}
+use Rattle.tabled_text.proofs.Names.{ap, arith, chars_past_char, encode_utf8, len_utf8_bounds, length, length-append, length-encode, ◌++◌}
+use Rattle.tabled_text.proofs.Names.{◌≡◌}
 use Rattle.tabled_text.proofs.character.split_first.Goals as goal
 
 pub returns : goal.returns

@@ -1,7 +1,7 @@
-use Rattle.tabled_text.proofs.Names.{BeginsBy, IsPiece, List, [], ap, arith, char_count, chars, get_or, subst, sym, ℕ, ◌+◌, ◌-◌, ◌<◌}
-use Rattle.tabled_text.proofs.Names.{◌∙◌, ◌∷◌, ◌≡◌}
+use Rattle.tabled_text.proofs.Names.{BeginsBy, IsPiece, List, [], ap, arith, char_count, chars, get_or, subst, sym, ℕ, ◌+◌, ◌-◌, ◌<◌, ◌∙◌}
+use Rattle.tabled_text.proofs.Names.{◌∷◌, ◌≡◌}
 use Rattle.tabled_text.proofs.CutLemmas.{front_boundary, front_taken}
-use Rattle.tabled_text.proofs.LetterFronts.{letters-taken}
+use Rattle.tabled_text.proofs.LetterPieces.{letters-taken}
 use Rattle.tabled_text.proofs.Pieces.{Taken-more}
 use Rattle.tabled_text.proofs.character.split_piece.Goals as goal
 use Rattle.tabled_text.proofs.character.split_piece.Goals.{in-Some+then-count-n, in_default}

@@ -1,7 +1,7 @@
 use Rattle.tabled_text.proofs.Names.{IsCharBoundary, IsUtf8-from_ascii, ap, arith, subst, sym, take, true, ◌∙◌, ◌≡◌}
 use Rattle.std.proofs.lemmas.Str.{IsCharBoundary-from_take}
 use Rattle.tabled_text.proofs.CutWhole.{IsParted-short}
-use Rattle.tabled_text.proofs.Pieces.{is_printable, IsAscii-printable, parted-printable}
+use Rattle.tabled_text.proofs.Pieces.{IsAscii-printable, is_printable, parted-printable}
 use Rattle.tabled_text.proofs.cut.part.Goals as goal
 
 pub returns-then-text-n-clause-parted : goal.returns-then-text-n-clause-parted

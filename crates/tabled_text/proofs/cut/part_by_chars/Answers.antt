@@ -1,9 +1,9 @@
 use Rattle.tabled_text.proofs.Names.{IsCharBoundary, IsParted, IsUtf8-past_char, ap, arith, char_count, chars, get_or, subst, sym, ◌+◌, ◌<◌}
 use Rattle.tabled_text.proofs.Names.{◌∙◌, ◌≤◌}
-use Rattle.tabled_text.proofs.CutLemmas.{Walked, Walked-le, Walked-feed, Walked-push, IsParted-wide, IsParted-full}
-use Rattle.tabled_text.proofs.CutLemmas.{IsParted-end, front_taken, rest_taken, front_boundary}
-use Rattle.tabled_text.proofs.LetterFronts.{letters-walked}
+use Rattle.tabled_text.proofs.CutLemmas.{IsParted-end, IsParted-full, IsParted-wide, Walked, Walked-feed, Walked-le, Walked-push}
+use Rattle.tabled_text.proofs.CutLemmas.{front_boundary, front_taken, rest_taken}
 use Rattle.tabled_text.proofs.LetterLemmas.{feed-lead, lead-feed}
+use Rattle.tabled_text.proofs.LetterPieces.{letters-walked}
 use Rattle.tabled_text.proofs.cut.part_by_chars.Goals as goal
 use Rattle.tabled_text.proofs.cut.part_by_chars.Goals.{in-Some+then-columns-n, in_default}
 

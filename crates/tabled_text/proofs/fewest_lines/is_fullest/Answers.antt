@@ -1,11 +1,11 @@
 use Rattle.tabled_text.proofs.Names.{Expects, IsFittingWrapping, Some, arith, chars, encode_utf8_all, false, inl, inr, lines_of}
 use Rattle.tabled_text.proofs.Names.{option_copied, pending, subst, sym, true, ◌<◌, ◌↔◌, ◌∙◌, ◌≡◌}
 use Rattle.std.proofs.Common.{IsTrue}
-use Rattle.tabled_text.proofs.CheckLemmas.{expected-iff, roomy-iff, not_roomy}
 use Rattle.tabled_text.proofs.FewestLines.{fewest-wrapped}
+use Rattle.tabled_text.proofs.FitLemmas.{expected-iff, not_roomy, roomy-iff}
 use Rattle.tabled_text.proofs.OwnBreaking.{least_breaking}
 use Rattle.tabled_text.proofs.fewest_lines.is_fullest.Goals as goal
-use Rattle.tabled_text.proofs.fewest_lines.is_fullest.Goals.{then-n-eq0-via-then-n-eq0, then-n-eq0-via-else-n-eq0+then-not-units_fit}
+use Rattle.tabled_text.proofs.fewest_lines.is_fullest.Goals.{then-n-eq0-via-else-n-eq0+then-not-units_fit, then-n-eq0-via-then-n-eq0}
 
 pub returns-then-n-eq0-clause-fullest : goal.returns-then-n-eq0-clause-fullest
 returns-then-n-eq0-clause-fullest c =

@@ -1,7 +1,7 @@
 use Rattle.tabled_text.proofs.Names.{Some, ap, option_copied, sym, ◌++◌, ◌∙◌, ◌≡◌}
 use Rattle.std.proofs.lemmas.Slice.Eq.{strip_prefix_is}
 use Rattle.std.proofs.lemmas.Bool.Decides.{Decides-eqb}
-use Rattle.tabled_text.proofs.CheckLemmas.{strip_is}
+use Rattle.tabled_text.proofs.FitLemmas.{strip_is}
 use Rattle.tabled_text.proofs.fewest_lines.strip.Goals as goal
 
 pub returns : goal.returns

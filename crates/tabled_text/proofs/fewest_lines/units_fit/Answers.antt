@@ -1,6 +1,6 @@
 use Rattle.tabled_text.proofs.Names.{ap, chars, fits_line, lines_left, list_all, map, sym, ◌∙◌}
-use Rattle.tabled_text.proofs.FitLemmas.{fits-wide}
 use Rattle.tabled_text.proofs.Bridge.{lines_of-chars}
+use Rattle.tabled_text.proofs.FitLemmas.{fits-wide}
 use Rattle.tabled_text.proofs.fewest_lines.units_fit.Goals as goal
 
 pub loop-line-init : goal.loop-line-init

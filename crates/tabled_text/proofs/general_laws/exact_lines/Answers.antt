@@ -1,5 +1,4 @@
-use Rattle.tabled_text.proofs.ExactBeginnings.{exact-take}
-use Rattle.tabled_text.proofs.ExactLines.{exact-kept, exact-longest, plain_exact}
+use Rattle.tabled_text.proofs.ExactLines.{exact-kept, exact-longest, exact-take, plain_exact}
 use Rattle.tabled_text.proofs.general_laws.exact_lines.Goals as goal
 
 pub returns : goal.returns

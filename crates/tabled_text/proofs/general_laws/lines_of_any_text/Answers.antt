@@ -1,4 +1,4 @@
-use Rattle.tabled_text.proofs.LineLaws.{line-frame, frame-one, frame-append, line-append, line-framed, line-pieces, pieces-line, line-each}
+use Rattle.tabled_text.proofs.LineLaws.{frame-append, frame-one, line-append, line-each, line-frame, line-framed, line-pieces, pieces-line}
 use Rattle.tabled_text.proofs.general_laws.lines_of_any_text.Goals as goal
 
 pub returns : goal.returns

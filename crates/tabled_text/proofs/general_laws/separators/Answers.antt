@@ -1,4 +1,4 @@
-use Rattle.tabled_text.proofs.SeparatorLaws.{additive_column-splits, columns-separator, columns-between, columns-meet}
+use Rattle.tabled_text.proofs.LineLaws.{additive_column-splits, columns-between, columns-meet, columns-separator}
 use Rattle.tabled_text.proofs.general_laws.separators.Goals as goal
 
 pub returns : goal.returns

@@ -1,4 +1,4 @@
-use Rattle.tabled_text.proofs.FittingLaws.{fits-cut, fits-followed, fits-suffix, fits-wrapped, fits-joined, fits-none, fits-filled}
+use Rattle.tabled_text.proofs.FittingLaws.{fits-cut, fits-filled, fits-followed, fits-joined, fits-none, fits-suffix, fits-wrapped}
 use Rattle.tabled_text.proofs.general_laws.texts_that_fit.Goals as goal
 
 pub returns : goal.returns

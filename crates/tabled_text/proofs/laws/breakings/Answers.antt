@@ -1,5 +1,5 @@
 use Rattle.tabled_text.proofs.FitLemmas.{fits-room}
-use Rattle.tabled_text.proofs.OwnBreaking.{text_of-units, fits-broken, some_breaking}
+use Rattle.tabled_text.proofs.OwnBreaking.{fits-broken, some_breaking, text_of-units}
 use Rattle.tabled_text.proofs.laws.breakings.Goals as goal
 
 pub returns : goal.returns

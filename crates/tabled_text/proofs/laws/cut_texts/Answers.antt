@@ -1,6 +1,6 @@
 use Rattle.tabled_text.proofs.Names.{arith}
+use Rattle.tabled_text.proofs.ExactLines.{cut_kept, cut_longest}
 use Rattle.tabled_text.proofs.FewestLines.{lines-cut}
-use Rattle.tabled_text.proofs.LongestLemmas.{cut_longest, cut_kept}
 use Rattle.tabled_text.proofs.StayLemmas.{StaysWithin-cut, StaysWithin-cut_before, StaysWithin-suffix}
 use Rattle.tabled_text.proofs.laws.cut_texts.Goals as goal
 

@@ -1,4 +1,4 @@
-use Rattle.tabled_text.proofs.JoinLemmas.{lines_of-feed, text_columns-feed, lines_of-join, count_lines-join, text_columns-join}
+use Rattle.tabled_text.proofs.Bridge.{count_lines-join, lines_of-feed, lines_of-join, text_columns-feed, text_columns-join}
 use Rattle.tabled_text.proofs.laws.joined_lines.Goals as goal
 
 pub returns : goal.returns

@@ -1,6 +1,6 @@
 use Rattle.tabled_text.proofs.Names.{is_drawn, is_listed, or_right, sym, ◌∙◌}
-use Rattle.tabled_text.proofs.PlainLemmas.{is_plain-listed, is_additive-listed, is_additive-plain}
-use Rattle.tabled_text.proofs.PlainLines.{only_plain-printable, additive_column-plain, additive-plain}
+use Rattle.tabled_text.proofs.PlainLemmas.{is_additive-listed, is_additive-plain, is_plain-listed}
+use Rattle.tabled_text.proofs.PlainLines.{additive-plain, additive_column-plain, only_plain-printable}
 use Rattle.tabled_text.proofs.WrapRoom.{only_plain_replacement}
 use Rattle.tabled_text.proofs.laws.plain_characters.Goals as goal
 

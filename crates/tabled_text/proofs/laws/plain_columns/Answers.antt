@@ -1,5 +1,5 @@
 use Rattle.tabled_text.proofs.Names.{chars, sym, ◌∙◌}
-use Rattle.tabled_text.proofs.PlainLemmas.{line_columns-plain, count_of-plain}
+use Rattle.tabled_text.proofs.PlainLemmas.{count_of-plain, line_columns-plain}
 use Rattle.tabled_text.proofs.WrapRoom.{plain_replacement}
 use Rattle.tabled_text.proofs.laws.plain_columns.Goals as goal
 

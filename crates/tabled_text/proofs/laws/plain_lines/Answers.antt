@@ -1,4 +1,4 @@
-use Rattle.tabled_text.proofs.PlainLines.{plain_line-one, plain_line-append, plain_line-each}
+use Rattle.tabled_text.proofs.PlainLines.{plain_line-append, plain_line-each, plain_line-one}
 use Rattle.tabled_text.proofs.laws.plain_lines.Goals as goal
 
 pub returns-clause-one : goal.returns-clause-one

@@ -1,4 +1,4 @@
-use Rattle.tabled_text.proofs.BoundLemmas.{count_lines-le, text_columns-le_bytes}
+use Rattle.tabled_text.proofs.PlainLines.{count_lines-le, text_columns-le_bytes}
 use Rattle.tabled_text.proofs.laws.text_bounds.Goals as goal
 
 pub returns : goal.returns

@@ -1,5 +1,5 @@
-use Rattle.tabled_text.proofs.StayLemmas.{IsAdditive-stays, text_columns-stays, StaysWithin-from, StaysWithin-join, StaysWithin-none}
-use Rattle.tabled_text.proofs.StayLemmas.{StaysWithin-filled}
+use Rattle.tabled_text.proofs.StayLemmas.{IsAdditive-stays, StaysWithin-filled, StaysWithin-from, StaysWithin-join, StaysWithin-none}
+use Rattle.tabled_text.proofs.StayLemmas.{text_columns-stays}
 use Rattle.tabled_text.proofs.laws.texts_that_stay.Goals as goal
 
 pub returns : goal.returns

@@ -1,9 +1,7 @@
-use Rattle.tabled_text.proofs.Names.{ap, arith, map, refl, sum_by, sym, w8, ◌∙◌, ◌≡◌}
-use Rattle.std.specs.Simd.Lanes.{sum_l}
+use Rattle.tabled_text.proofs.Names.{ap, arith, byte_columns, is_letter_byte, map, refl, sum_by, sum_l, sym, w8, ◌∙◌, ◌≡◌}
 use Rattle.std.proofs.lemmas.Simd.{fold-sum, sum_fits}
-use Rattle.tabled_text.specs.Letters.{byte_columns, is_letter_byte}
 use Rattle.tabled_text.proofs.LetterBytes.{sum-two}
-use Rattle.tabled_text.proofs.LetterLanes.{each-passed, sum-map}
+use Rattle.tabled_text.proofs.RunLemmas.{each-passed, sum-map}
 use Rattle.tabled_text.proofs.letters.block_columns.Goals as goal
 
 pub overflow_add-result : goal.overflow_add-result

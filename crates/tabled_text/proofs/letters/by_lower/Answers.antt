@@ -1,8 +1,5 @@
-use Rattle.tabled_text.proofs.Names.{arith}
-use Rattle.std.proofs.Common.{bit_and}
-use Rattle.std.proofs.lemmas.Nat.{and_le_r}
-use Rattle.std.proofs.lemmas.Simd.{zip2_splat}
-use Rattle.tabled_text.proofs.LetterLanes.{looked-up, lower-ok}
+use Rattle.tabled_text.proofs.Names.{and_le_r, arith, bit_and, zip2_splat}
+use Rattle.tabled_text.proofs.RunLemmas.{looked-up, lower-ok}
 use Rattle.tabled_text.proofs.letters.by_lower.Goals as goal
 
 pub swizzle : goal.swizzle

@@ -1,7 +1,5 @@
-use Rattle.tabled_text.proofs.Names.{arith}
-use Rattle.std.proofs.Common.{◌/◌, ◌^◌}
-use Rattle.std.proofs.lemmas.Simd.{zip2_splat}
-use Rattle.tabled_text.proofs.LetterLanes.{looked-up, upper-ok}
+use Rattle.tabled_text.proofs.Names.{arith, zip2_splat, ◌/◌, ◌^◌}
+use Rattle.tabled_text.proofs.RunLemmas.{looked-up, upper-ok}
 use Rattle.tabled_text.proofs.letters.by_upper.Goals as goal
 
 pub swizzle : goal.swizzle

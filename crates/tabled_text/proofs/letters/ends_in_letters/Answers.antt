@@ -1,5 +1,5 @@
-use Rattle.tabled_text.proofs.Names.{ap, arith, chunk, drop, length, length-drop, list_all, sym, take_all, ◌-◌, ◌∙◌, ◌≡◌}
-use Rattle.tabled_text.specs.Letters.{is_letter_or_break}
+use Rattle.tabled_text.proofs.Names.{ap, arith, chunk, drop, is_letter_or_break, length, length-drop, list_all, sym, take_all, ◌-◌, ◌∙◌}
+use Rattle.tabled_text.proofs.Names.{◌≡◌}
 use Rattle.tabled_text.proofs.RunLemmas.{rest-decides}
 use Rattle.tabled_text.proofs.letters.ends_in_letters.Goals as goal
 

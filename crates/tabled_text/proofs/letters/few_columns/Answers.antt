@@ -1,7 +1,6 @@
-use Rattle.tabled_text.proofs.Names.{ap, arith, chunk, drop, length, length-append, replicate, subst, ◌++◌, ◌-◌, ◌∙◌}
-use Rattle.std.proofs.lemmas.Option.{IfSome_then}
-use Rattle.std.proofs.lemmas.Simd.{length-chunk, pick_l_whole}
-use Rattle.tabled_text.specs.Letters.{AreLetters}
+use Rattle.tabled_text.proofs.Names.{AreLetters, IfSome_then, ap, arith, chunk, drop, length, length-append, length-chunk, replicate, subst}
+use Rattle.tabled_text.proofs.Names.{◌++◌, ◌-◌, ◌∙◌}
+use Rattle.std.proofs.lemmas.Simd.{pick_l_whole}
 use Rattle.tabled_text.proofs.LetterBytes.{letters-halves}
 use Rattle.tabled_text.proofs.letters.few_columns.Goals as goal
 

@@ -1,4 +1,4 @@
-use Rattle.tabled_text.proofs.LetterLanes.{filled-block}
+use Rattle.tabled_text.proofs.RunLemmas.{filled-block}
 use Rattle.tabled_text.proofs.letters.filled.Goals as goal
 
 pub returns : goal.returns

@@ -1,5 +1,4 @@
-use Rattle.tabled_text.proofs.Names.{ap, arith, list_all, sym, ◌∙◌}
-use Rattle.tabled_text.specs.Letters.{is_letter_or_break}
+use Rattle.tabled_text.proofs.Names.{ap, arith, is_letter_or_break, list_all, sym, ◌∙◌}
 use Rattle.tabled_text.proofs.RunLemmas.{all-more, some-fails}
 use Rattle.tabled_text.proofs.letters.is_letter_text.Goals as goal
 

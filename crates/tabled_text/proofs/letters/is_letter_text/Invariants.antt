@@ -1,5 +1,4 @@
-use Rattle.tabled_text.proofs.Names.{length, list_all, take, true, ◌-◌, ◌≡◌, ◌≤◌}
-use Rattle.tabled_text.specs.Letters.{is_letter_or_break}
+use Rattle.tabled_text.proofs.Names.{is_letter_or_break, length, list_all, take, true, ◌-◌, ◌≡◌, ◌≤◌}
 use Rattle.tabled_text.proofs.letters.is_letter_text.Given as goal
 
 abbrev pub invariant-whole : goal.invariant-whole

@@ -1,8 +1,6 @@
-use Rattle.tabled_text.proofs.Names.{arith, cond, ltb, refl}
+use Rattle.tabled_text.proofs.Names.{arith, cond, is_letter_or_break, ltb, refl, splat_is_map, zip2_of_maps}
 use lib.Bits.{bit_and}
-use Rattle.std.proofs.lemmas.Simd.{splat_is_map, zip2_of_maps}
-use Rattle.tabled_text.specs.Letters.{is_letter_or_break}
-use Rattle.tabled_text.proofs.LetterLanes.{all-lanes}
+use Rattle.tabled_text.proofs.RunLemmas.{all-lanes}
 use Rattle.tabled_text.proofs.letters.is_text_block.Goals as goal
 
 pub returns : goal.returns

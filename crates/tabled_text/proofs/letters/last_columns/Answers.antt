@@ -1,7 +1,4 @@
-use Rattle.tabled_text.proofs.Names.{ap, arith, drop, length, subst, ◌++◌, ◌-◌, ◌∙◌}
-use Rattle.std.proofs.Common.{replicate}
-use Rattle.std.proofs.lemmas.Option.{IfSome_then}
-use Rattle.tabled_text.specs.Letters.{AreLetters}
+use Rattle.tabled_text.proofs.Names.{AreLetters, IfSome_then, ap, arith, drop, length, replicate, subst, ◌++◌, ◌-◌, ◌∙◌}
 use Rattle.tabled_text.proofs.LetterBytes.{letters-last}
 use Rattle.tabled_text.proofs.letters.last_columns.Goals as goal
 

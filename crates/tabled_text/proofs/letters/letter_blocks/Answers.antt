@@ -1,6 +1,4 @@
-use Rattle.tabled_text.proofs.Names.{arith, subst, sym, ◌+◌}
-use Rattle.std.proofs.Math.Seq.{take-add}
-use Rattle.tabled_text.specs.Letters.{AreLetters}
+use Rattle.tabled_text.proofs.Names.{AreLetters, arith, subst, sym, take-add, ◌+◌}
 use Rattle.tabled_text.proofs.LetterBytes.{letters-append, letters-nil}
 use Rattle.tabled_text.proofs.letters.letter_blocks.Goals as goal
 

@@ -1,5 +1,4 @@
-use Rattle.tabled_text.proofs.Names.{length, take, ◌-◌, ◌≤◌}
-use Rattle.tabled_text.specs.Letters.{AreLetters}
+use Rattle.tabled_text.proofs.Names.{AreLetters, length, take, ◌-◌, ◌≤◌}
 use Rattle.tabled_text.proofs.letters.letter_blocks.Given as goal
 
 abbrev pub invariant-whole : goal.invariant-whole

@@ -1,6 +1,4 @@
-use Rattle.tabled_text.proofs.Names.{ap, arith, drop, length, length-drop, subst, ◌+◌, ◌≡◌}
-use Rattle.std.proofs.lemmas.Simd.{length-chunk}
-use Rattle.tabled_text.specs.Letters.{AreLetters}
+use Rattle.tabled_text.proofs.Names.{AreLetters, ap, arith, drop, length, length-chunk, length-drop, subst, ◌+◌, ◌≡◌}
 use Rattle.tabled_text.proofs.LetterBytes.{letters-block, letters-bound}
 use Rattle.tabled_text.proofs.letters.letter_columns.Goals as goal
 

@@ -1,5 +1,4 @@
-use Rattle.tabled_text.proofs.Names.{drop, length, ℕ, ◌*◌, ◌+◌, ◌-◌, ◌≤◌}
-use Rattle.tabled_text.specs.Letters.{AreLetters}
+use Rattle.tabled_text.proofs.Names.{AreLetters, drop, length, ℕ, ◌*◌, ◌+◌, ◌-◌, ◌≤◌}
 use Rattle.tabled_text.proofs.letters.letter_columns.Given as goal
 
 abbrev pub invariant-whole : goal.invariant-whole

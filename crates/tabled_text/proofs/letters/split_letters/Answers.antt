@@ -1,5 +1,4 @@
-use Rattle.tabled_text.proofs.Names.{ap, subst, sym, take, ◌∙◌}
-use Rattle.tabled_text.specs.Letters.{AreLetters}
+use Rattle.tabled_text.proofs.Names.{AreLetters, ap, subst, sym, take, ◌∙◌}
 use Rattle.tabled_text.proofs.LetterBytes.{letters-inner}
 use Rattle.tabled_text.proofs.letters.split_letters.Goals as goal
 

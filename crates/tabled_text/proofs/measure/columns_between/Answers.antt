@@ -1,7 +1,9 @@
-use Rattle.tabled_text.proofs.Names.{IsCharBoundary, List, arith, get_or, get_or-take, length, length-take-le, subst, sym, take, ℕ, ◌≡◌, ◌≤◌}
+use Rattle.tabled_text.proofs.Names.{IsCharBoundary, List, arith, get_or, get_or-take, length, length-take-le, subst, sym, take, ℕ, ◌≡◌}
+use Rattle.tabled_text.proofs.Names.{◌≤◌}
 use Rattle.tabled_text.proofs.measure.columns_between.Goals as goal
 
-in-front : (text : List ℕ) (start end : ℕ) → start ≤ end → end ≤ length text → IsCharBoundary text start → IsCharBoundary (take end text) start
+in-front : (text : List ℕ) (start end : ℕ) → start ≤ end → end ≤ length text → IsCharBoundary text start
+    → IsCharBoundary (take end text) start
 in-front text start end o e b =
     let long = length-take-le end text e in (
       omega arith,

@@ -1,6 +1,4 @@
-use Rattle.tabled_text.proofs.Names.{subst}
-use Rattle.std.proofs.lemmas.Option.{IfSome_then}
-use Rattle.tabled_text.specs.Letters.{AreLetters}
+use Rattle.tabled_text.proofs.Names.{AreLetters, IfSome_then, subst}
 use Rattle.tabled_text.proofs.LetterBytes.{letters-bound, letters-line}
 use Rattle.tabled_text.proofs.measure.letters_width.Goals as goal
 

@@ -1,8 +1,8 @@
-use Rattle.tabled_text.proofs.Names.{IfSome, List, ap, arith, greatest, length, length-map, line_columns, lines_in, lines_of, map, subst, ℕ}
-use Rattle.tabled_text.proofs.Names.{◌+◌, ◌<◌, ◌∙◌, ◌∷◌, ◌≡◌}
-use Rattle.std.proofs.Common.{rules, IsUtf8}
-use Rattle.tabled_text.proofs.BoundLemmas.{count_lines-le}
+use Rattle.tabled_text.proofs.Names.{IfSome, IsUtf8, List, ap, arith, greatest, length, length-map, line_columns, lines_in, lines_of, map}
+use Rattle.tabled_text.proofs.Names.{subst, ℕ, ◌+◌, ◌<◌, ◌∙◌, ◌∷◌, ◌≡◌}
+use Rattle.std.proofs.Common.{rules}
 use Rattle.tabled_text.proofs.Bridge.{some_line}
+use Rattle.tabled_text.proofs.PlainLines.{count_lines-le}
 use Rattle.tabled_text.proofs.measure.measures_of_lines.Goals as goal
 
 counts : (n : ℕ) (ls more : List (List ℕ)) → map line_columns ls ≡ n ∷ map line_columns more → length ls ≡ length more + 1

@@ -1,6 +1,4 @@
-use Rattle.tabled_text.proofs.Names.{IsUtf8-drop, drop, subst}
-use Rattle.std.proofs.lemmas.Option.{IfSome_then}
-use Rattle.tabled_text.specs.Letters.{AreLetters}
+use Rattle.tabled_text.proofs.Names.{AreLetters, IfSome_then, IsUtf8-drop, drop, subst}
 use Rattle.tabled_text.proofs.LetterBytes.{letters-line}
 use Rattle.tabled_text.proofs.measure.tail_width.Goals as goal
 

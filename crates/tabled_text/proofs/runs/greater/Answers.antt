@@ -1,6 +1,5 @@
-use Rattle.tabled_text.proofs.Names.{ap, arith, length-map, ltb, map, mask_l, replicate, w8, ◌%◌, ◌∙◌}
-use Rattle.std.proofs.Common.{◌^◌}
-use Rattle.std.proofs.lemmas.Simd.{mask_l-mod, tops_compared, zip2_splat_left}
+use Rattle.tabled_text.proofs.Names.{ap, arith, length-map, ltb, map, mask_l, mask_l-mod, replicate, w8, ◌%◌, ◌^◌, ◌∙◌}
+use Rattle.std.proofs.lemmas.Simd.{tops_compared, zip2_splat_left}
 use Rattle.tabled_text.proofs.runs.greater.Goals as goal
 
 pub returns : goal.returns

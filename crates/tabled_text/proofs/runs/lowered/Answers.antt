@@ -1,5 +1,4 @@
-use Rattle.tabled_text.proofs.Names.{◌%◌, ◌+◌, ◌-◌}
-use Rattle.std.proofs.lemmas.Simd.{zip2_splat}
+use Rattle.tabled_text.proofs.Names.{zip2_splat, ◌%◌, ◌+◌, ◌-◌}
 use Rattle.tabled_text.proofs.runs.lowered.Goals as goal
 
 pub returns : goal.returns

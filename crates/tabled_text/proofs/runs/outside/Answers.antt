@@ -1,6 +1,6 @@
-use Rattle.tabled_text.proofs.Names.{ap, arith, chunk, ltb, map, mask_l, w8, ◌%◌, ◌+◌, ◌-◌, ◌∙◌}
-use Rattle.std.proofs.lemmas.Simd.{chunk-fits, map-map}
-use Rattle.tabled_text.proofs.Blocks.{same-tests}
+use Rattle.tabled_text.proofs.Names.{ap, arith, chunk, ltb, map, map-map, mask_l, w8, ◌%◌, ◌+◌, ◌-◌, ◌∙◌}
+use Rattle.std.proofs.lemmas.Simd.{chunk-fits}
+use Rattle.tabled_text.proofs.RunLemmas.{same-tests}
 use Rattle.tabled_text.proofs.runs.outside.Goals as goal
 
 pub returns : goal.returns

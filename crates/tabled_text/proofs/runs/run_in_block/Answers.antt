@@ -1,6 +1,6 @@
 use Rattle.tabled_text.proofs.Names.{Bool, arith, is_in_range, not, not-false, not-true, sym, ℕ, ◌∙◌}
 use Rattle.std.proofs.lemmas.Simd.{none_from_empty_mask, run_in_chunk_fails, run_in_chunk_le, run_in_chunk_stops}
-use Rattle.tabled_text.proofs.Blocks.{lowest-is-first}
+use Rattle.tabled_text.proofs.RunLemmas.{lowest-is-first}
 use Rattle.tabled_text.proofs.runs.run_in_block.Goals as goal
 
 pub returns-then-outside-eq0-clause-passed : goal.returns-then-outside-eq0-clause-passed

@@ -1,6 +1,6 @@
 use Rattle.tabled_text.proofs.Names.{IsCharBoundary, IsFirstAt, IsUtf8, IsUtf8-drop, List, ap, arith, drop, length, refl, subst, sym, take}
 use Rattle.tabled_text.proofs.Names.{take_all, ℕ, ◌+◌, ◌<◌, ◌∙◌, ◌≡◌}
-use Rattle.std.proofs.lemmas.Str.{IsCharBoundary-before_ascii, IsCharBoundary-after_ascii, IsUtf8-take}
+use Rattle.std.proofs.lemmas.Str.{IsCharBoundary-after_ascii, IsCharBoundary-before_ascii, IsUtf8-take}
 use Rattle.tabled_text.proofs.runs.split_at_byte.Goals as goal
 
 before : (byte at : ℕ) (text : List ℕ) → byte < 128 → IsFirstAt byte text at → at < length text → IsCharBoundary text at

@@ -1,5 +1,5 @@
 use Rattle.tabled_text.proofs.Names.{encode_utf8, encode_utf8_all, replicate, subst}
-use Rattle.tabled_text.proofs.WriteLemmas.{encodes-copies}
+use Rattle.tabled_text.proofs.Filling.{encodes-copies}
 use Rattle.tabled_text.proofs.sink.append_copies.Goals as goal
 
 pub loop-i-preserved : goal.loop-i-preserved

@@ -1,5 +1,5 @@
 use Rattle.tabled_text.proofs.Names.{begin_text, encode_utf8, encode_utf8_all, replicate, subst, ◌-◌}
-use Rattle.tabled_text.proofs.WriteLemmas.{encodes-narrow, encodes-wide}
+use Rattle.tabled_text.proofs.Filling.{encodes-narrow, encodes-wide}
 use Rattle.tabled_text.proofs.wrap.append_char.Goals as goal
 
 pub returns-then-count-n-clause-text : goal.returns-then-count-n-clause-text

@@ -1,8 +1,7 @@
-use Rattle.tabled_text.proofs.Names.{IsUtf8-past_char, ap, append_all, append_text, append_used, arith, chars, encode_utf8_all, length}
-use Rattle.tabled_text.proofs.Names.{length-append, map, subst, sym, unit_of_char, used_after, ◌++◌, ◌+◌, ◌-◌, ◌∙◌, ◌∷◌, ◌≡◌, ◌≤◌}
-use Rattle.std.proofs.Common.{append-nil}
+use Rattle.tabled_text.proofs.Names.{IsUtf8-past_char, ap, append-nil, append_all, append_text, append_used, arith, chars, encode_utf8_all}
+use Rattle.tabled_text.proofs.Names.{length, length-append, map, subst, sym, unit_of_char, used_after, ◌++◌, ◌+◌, ◌-◌, ◌∙◌, ◌∷◌, ◌≡◌, ◌≤◌}
+use Rattle.tabled_text.proofs.Filling.{encodes-more}
 use Rattle.tabled_text.proofs.Pieces.{piece-used, piece-written}
-use Rattle.tabled_text.proofs.WriteLemmas.{encodes-more}
 use Rattle.tabled_text.proofs.wrap.append_chars.Goals as goal
 
 pub overflow_add-column : goal.overflow_add-column

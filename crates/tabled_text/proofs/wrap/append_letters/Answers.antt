@@ -1,15 +1,14 @@
 use Rattle.tabled_text.proofs.Names.{Bool, IsPiece, List, ap, arith, char_count, chars, chars-nil, encode_ascii, encode_utf8, eqb-false}
-use Rattle.tabled_text.proofs.Names.{eqb-true, false, length, length-append, lines_of, list_all, lit<, nil_from_length, subst, sym}
-use Rattle.tabled_text.proofs.Names.{text_columns, true, ℕ, ◌++◌, ◌+◌, ◌<◌, ◌==◌, ◌∙◌, ◌∷◌, ◌≡◌}
-use Rattle.tabled_text.specs.Letters.{is_letter_byte}
-use Rattle.tabled_text.specs.Walk.{written_line}
-use Rattle.tabled_text.proofs.JoinLemmas.{count_lines-feed, text_columns-feed}
+use Rattle.tabled_text.proofs.Names.{eqb-true, false, is_letter_byte, length, length-append, lines_of, list_all, lit<, nil_from_length}
+use Rattle.tabled_text.proofs.Names.{subst, sym, text_columns, true, written_line, ℕ, ◌++◌, ◌+◌, ◌<◌, ◌==◌, ◌∙◌, ◌∷◌, ◌≡◌}
+use Rattle.tabled_text.proofs.Bridge.{count_lines-feed, text_columns-feed}
+use Rattle.tabled_text.proofs.Filling.{not_empty}
 use Rattle.tabled_text.proofs.LetterPieces.{IsFirstPiece, first-piece, last-piece, piece-columns, piece-line, rest-letters}
-use Rattle.tabled_text.proofs.WriteLemmas.{not_empty}
 use Rattle.tabled_text.proofs.wrap.append_letters.Goals as goal
 
-first : (n columns : ℕ) (rest piece after : List ℕ) (b : Bool) → 1 < n → list_all is_letter_byte rest ≡ true → IsPiece n rest piece columns after
-    → ((c : ℕ) (cs : List ℕ) → chars after ≡ c ∷ cs → n < columns + char_count c) → b ≡ (length after == 0) → b ≡ false → IsFirstPiece n rest piece after
+first : (n columns : ℕ) (rest piece after : List ℕ) (b : Bool) → 1 < n → list_all is_letter_byte rest ≡ true
+    → IsPiece n rest piece columns after → ((c : ℕ) (cs : List ℕ) → chars after ≡ c ∷ cs → n < columns + char_count c)
+    → b ≡ (length after == 0) → b ≡ false → IsFirstPiece n rest piece after
 first n columns rest piece after b big h p most e f =
     first-piece n columns rest piece after h p big most (not_empty after p.rest_utf8 (λ z. eqb-false (length after) 0 (sym e ∙ f) z))
 

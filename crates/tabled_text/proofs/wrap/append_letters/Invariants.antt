@@ -1,6 +1,5 @@
-use Rattle.tabled_text.proofs.Names.{Utf8, false, length, lines_of, list_all, max, shadow, text_columns, true, ◌+◌, ◌≡◌, ◌≤◌}
-use Rattle.tabled_text.specs.Letters.{is_letter_byte}
-use Rattle.tabled_text.specs.Walk.{written_line}
+use Rattle.tabled_text.proofs.Names.{Utf8, false, is_letter_byte, length, lines_of, list_all, max, shadow, text_columns, true, written_line}
+use Rattle.tabled_text.proofs.Names.{◌+◌, ◌≡◌, ◌≤◌}
 use Rattle.tabled_text.proofs.wrap.append_letters.Given as goal
 
 abbrev pub invariant-lines : goal.invariant-lines

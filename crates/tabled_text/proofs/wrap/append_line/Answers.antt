@@ -1,5 +1,5 @@
 use Rattle.tabled_text.proofs.Names.{OnOk, arith, subst}
-use Rattle.tabled_text.proofs.WrapWhole.{written-short}
+use Rattle.tabled_text.proofs.WrapKept.{written-short}
 use Rattle.tabled_text.proofs.wrap.append_line.Goals as goal
 
 pub returns-then-line-n : goal.returns-then-line-n

@@ -1,9 +1,9 @@
 use Rattle.tabled_text.proofs.Names.{[], ap, append_all, chars, cond, encode_ascii, encode_utf8_all, false, lines_left, lit<, map, pending}
 use Rattle.tabled_text.proofs.Names.{subst, sym, true, units, ◌++◌, ◌∙◌, ◌∷◌}
 use Rattle.tabled_text.proofs.Bridge.{lines_of-chars}
-use Rattle.tabled_text.proofs.WriteLemmas.{encodes-pending}
+use Rattle.tabled_text.proofs.Filling.{encodes-pending}
 use Rattle.tabled_text.proofs.wrap.append_lines.Goals as goal
-use Rattle.tabled_text.proofs.wrap.append_lines.Goals.{then-begun+in_ok-append_char, else-begun}
+use Rattle.tabled_text.proofs.wrap.append_lines.Goals.{else-begun, then-begun+in_ok-append_char}
 
 pub loop-line-init : goal.loop-line-init
 loop-line-init g c = λ t h.

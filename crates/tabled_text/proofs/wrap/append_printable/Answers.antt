@@ -1,11 +1,11 @@
-use Rattle.tabled_text.proofs.Names.{IsCharBoundary-from_ascii, IsUtf8, IsUtf8-drop, ap, arith, drop, encode_ascii, encode_utf8, length}
-use Rattle.tabled_text.proofs.Names.{lines_of, lit<, subst, sym, take, text_columns, ◌++◌, ◌∙◌, ◌∷◌, ◌≡◌}
-use Rattle.tabled_text.specs.Walk.{written_line}
-use Rattle.tabled_text.proofs.Pieces.{is_printable, IsAscii-printable, parts-printable}
+use Rattle.tabled_text.proofs.Names.{IsCharBoundary-from_ascii, IsUtf8, IsUtf8-drop, ap, arith, drop, encode_ascii, encode_utf8}
+use Rattle.tabled_text.proofs.Names.{is_in_range, length, lines_of, lit<, subst, sym, take, text_columns, written_line, ◌++◌, ◌∙◌, ◌∷◌, ◌≡◌}
+use Rattle.tabled_text.proofs.Basics.{all-parts}
+use Rattle.tabled_text.proofs.Bridge.{count_lines-feed, text_columns-feed}
+use Rattle.tabled_text.proofs.Pieces.{IsAscii-printable, is_printable}
 use Rattle.tabled_text.proofs.PlainLines.{plain_line-lines, plain_line-printable, text_columns-plain_line}
-use Rattle.tabled_text.proofs.JoinLemmas.{count_lines-feed, text_columns-feed}
 use Rattle.tabled_text.proofs.WordBreaks.{written-more}
-use Rattle.tabled_text.proofs.WrapWhole.{written-short}
+use Rattle.tabled_text.proofs.WrapKept.{written-short}
 use Rattle.tabled_text.proofs.wrap.append_printable.Goals as goal
 
 pub split_at-requires : goal.split_at-requires
@@ -23,7 +23,7 @@ lines-preserved g c =
     let next = written_line n words (drop end rest) in
     let more = written-more n end words rest h c.line_end.ensures in
     let front = take end rest in
-    let own = plain_line-printable front (parts-printable end rest h).0 in
+    let own = plain_line-printable front (all-parts (is_in_range 0x20 0x7E) end rest h).0 in
     let joined : written_line n words rest ≡ front ++ 10 ∷ next = sym more ∙ ap (λ feed. front ++ (feed ++ next)) (encode_ascii 10 (lit< tt)) in
     let same : written_line n words c.split_at.result.1.now ≡ next = ap (written_line n words) back in
     let at = IsCharBoundary-from_ascii rest end (IsAscii-printable rest h) (omega (arith, c.line_end.ensures.end)) in
@@ -51,7 +51,7 @@ lines-preserved g c =
         c.lines.invariant.counted,
       );
       few = omega (arith, c.lines.invariant.few, c.split_at.ensures.back_len, c.line_end.ensures.some, c.line_end.ensures.end);
-      printable = ap is_printable back ∙ (parts-printable end rest h).1;
+      printable = ap is_printable back ∙ (all-parts (is_in_range 0x20 0x7E) end rest h).1;
       utf8 = subst IsUtf8 (sym back) (IsUtf8-drop rest end c.lines.invariant.utf8 at);
     }
 

@@ -1,5 +1,4 @@
-use Rattle.tabled_text.proofs.Names.{Utf8, length, lines_of, max, shadow, text_columns, true, ◌+◌, ◌≡◌, ◌≤◌}
-use Rattle.tabled_text.specs.Walk.{written_line}
+use Rattle.tabled_text.proofs.Names.{Utf8, length, lines_of, max, shadow, text_columns, true, written_line, ◌+◌, ◌≡◌, ◌≤◌}
 use Rattle.tabled_text.proofs.Pieces.{is_printable}
 use Rattle.tabled_text.proofs.wrap.append_printable.Given as goal
 

@@ -1,5 +1,5 @@
 use Rattle.tabled_text.proofs.Names.{IfOk, OnOk, ap, append_all, encode_utf8_all, subst, sym, used_after, ◌≡◌}
-use Rattle.tabled_text.proofs.WriteLemmas.{units_of_word-empty, units_of_word-short, append_all-one}
+use Rattle.tabled_text.proofs.Filling.{append_all-one, units_of_word-empty, units_of_word-short}
 use Rattle.tabled_text.proofs.wrap.append_unit.Goals as goal
 
 pub returns-then-is_empty-clause-used : goal.returns-then-is_empty-clause-used

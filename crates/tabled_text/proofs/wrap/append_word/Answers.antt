@@ -1,5 +1,5 @@
 use Rattle.tabled_text.proofs.Names.{begin_text, subst}
-use Rattle.tabled_text.proofs.WriteLemmas.{encodes-word}
+use Rattle.tabled_text.proofs.Filling.{encodes-word}
 use Rattle.tabled_text.proofs.wrap.append_word.Goals as goal
 
 pub returns-clause-text : goal.returns-clause-text

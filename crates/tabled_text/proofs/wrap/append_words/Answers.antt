@@ -1,7 +1,6 @@
-use Rattle.tabled_text.proofs.Names.{IfSome, [], ap, append_all, append_text, append_used, chars, encode_utf8_all, length, space, subst}
-use Rattle.tabled_text.proofs.Names.{sym, units_of_word, units_of_words, used_after, words_in, words_of, ◌++◌, ◌<◌, ◌∙◌, ◌∷◌, ◌≡◌}
-use Rattle.std.proofs.Common.{IsUtf8}
-use Rattle.tabled_text.proofs.WriteLemmas.{encodes-more, encodes-on, units_of_words-more, space-is, unit_of}
+use Rattle.tabled_text.proofs.Names.{IfSome, IsUtf8, [], ap, append_all, append_text, append_used, chars, encode_utf8_all, length, space}
+use Rattle.tabled_text.proofs.Names.{subst, sym, units_of_word, units_of_words, used_after, words_in, words_of, ◌++◌, ◌<◌, ◌∙◌, ◌∷◌, ◌≡◌}
+use Rattle.tabled_text.proofs.Filling.{encodes-more, encodes-on, space-is, unit_of, units_of_words-more}
 use Rattle.tabled_text.proofs.wrap.append_words.Goals as goal
 
 pub words-preserved : goal.words-preserved

@@ -1,7 +1,7 @@
 use Rattle.tabled_text.proofs.Names.{leb-true, length}
 use Rattle.tabled_text.proofs.CutOnce.{no_fill}
 use Rattle.tabled_text.proofs.CutWhole.{IsCut-short, IsParted-short}
-use Rattle.tabled_text.proofs.WrapWhole.{IsWrapped-short}
+use Rattle.tabled_text.proofs.WrapKept.{IsWrapped-short}
 use Rattle.tabled_text.proofs.wrap.fits_bytes.Goals as goal
 
 pub returns-clause-wrapped : goal.returns-clause-wrapped

@@ -1,6 +1,6 @@
-use Rattle.tabled_text.proofs.Names.{IfSome, List, None, Option, Some, ap, is_in_range, list_all, lit<, sym, true, ℕ, ◌∙◌, ◌≡◌}
+use Rattle.tabled_text.proofs.Names.{AreLetters, IfSome, List, None, Option, Some, ap, is_in_range, is_letter_byte, list_all, lit<, sym}
+use Rattle.tabled_text.proofs.Names.{true, ℕ, ◌∙◌, ◌≡◌}
 use Rattle.std.proofs.Common.{is_some}
-use Rattle.tabled_text.specs.Letters.{AreLetters, is_letter_byte}
 use Rattle.tabled_text.proofs.LetterPieces.{letters-run}
 use Rattle.tabled_text.proofs.wrap.is_letter_line.Goals as goal
 

@@ -1,7 +1,6 @@
-use Rattle.tabled_text.proofs.Names.{IsCharBoundary-from_ascii, IsSplitAt, ap, arith, get_or, subst, sym, ◌-◌, ◌∙◌}
+use Rattle.tabled_text.proofs.Names.{BreaksAt, IsCharBoundary-from_ascii, IsSplitAt, ap, arith, get_or, subst, sym, ◌-◌, ◌∙◌}
 use Rattle.tabled_text.proofs.Pieces.{IsAscii-printable}
 use Rattle.tabled_text.proofs.WordBreaks.{breaks-before, breaks-full, breaks-inside, breaks-one, breaks-word, passes, word-split}
-use Rattle.tabled_text.specs.Walk.{BreaksAt}
 use Rattle.tabled_text.proofs.wrap.line_end.Goals as goal
 
 pub split_at-requires : goal.split_at-requires

@@ -1,5 +1,4 @@
-use Rattle.tabled_text.proofs.Names.{Bor, IfSome, IsSplitAt, List, None, Option, Some, length, ℕ, ◌<◌}
-use Rattle.std.proofs.Common.{IsUtf8}
+use Rattle.tabled_text.proofs.Names.{Bor, IfSome, IsSplitAt, IsUtf8, List, None, Option, Some, length, ℕ, ◌<◌}
 use Rattle.tabled_text.proofs.Searched.{shorter-split, words-split}
 use Rattle.tabled_text.proofs.wrap.split_word.Goals as goal
 

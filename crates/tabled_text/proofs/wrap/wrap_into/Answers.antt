@@ -1,14 +1,14 @@
 use Rattle.tabled_text.proofs.Names.{IfOk, IsWrapped, List, OnOk, [], ap, arith, chars, encode_utf8_all, eqb-true, false, inl, inr, length}
-use Rattle.tabled_text.proofs.Names.{lines_of, nil_from_length, on_ok_weaker, pending, subst, sym, text_columns, ℕ, ◌++◌, ◌∙◌, ◌≡◌}
-use Rattle.std.proofs.Common.{Err, Ok, Result, string_bytes}
+use Rattle.tabled_text.proofs.Names.{lines_of, nil_from_length, on_ok_weaker, pending, string_bytes, subst, sym, text_columns, written_line}
+use Rattle.tabled_text.proofs.Names.{ℕ, ◌++◌, ◌∙◌, ◌≡◌}
+use Rattle.std.proofs.Common.{Err, Ok, Result}
 use Rattle.std.proofs.lemmas.Str.{IsUtf8-string_bytes}
-use Rattle.tabled_text.specs.Walk.{written_line}
-use Rattle.tabled_text.proofs.JoinLemmas.{text_columns-nil}
-use Rattle.tabled_text.proofs.Pieces.{pending-printable}
+use Rattle.tabled_text.proofs.Bridge.{text_columns-nil}
+use Rattle.tabled_text.proofs.Filling.{IsWrapped-nothing, IsWrapped-written}
 use Rattle.tabled_text.proofs.LetterPieces.{pending-letters, written-letters}
-use Rattle.tabled_text.proofs.WriteLemmas.{IsWrapped-written, IsWrapped-nothing}
+use Rattle.tabled_text.proofs.Pieces.{pending-printable}
 use Rattle.tabled_text.proofs.wrap.wrap_into.Goals as goal
-use Rattle.tabled_text.proofs.wrap.wrap_into.Goals.{then-n-eq0-via-then-n-eq0, then-n-eq0-via-else-n-eq0+then-is_empty}
+use Rattle.tabled_text.proofs.wrap.wrap_into.Goals.{then-n-eq0-via-else-n-eq0+then-is_empty, then-n-eq0-via-then-n-eq0}
 
 pub returns-then-n-eq0-clause-wrapped : goal.returns-then-n-eq0-clause-wrapped
 returns-then-n-eq0-clause-wrapped c =

@@ -1,6 +1,6 @@
+use Rattle.tabled_text.proofs.Names.{string_bytes}
 use Rattle.tabled_text.proofs.FewestLines.{fewest-wrapped}
 use Rattle.tabled_text.proofs.OwnBreaking.{least_breaking}
-use Rattle.std.proofs.Common.{string_bytes}
 use Rattle.tabled_text.proofs.wrap.wrap_text.Goals as goal
 
 pub returns-clause-fewest : goal.returns-clause-fewest
