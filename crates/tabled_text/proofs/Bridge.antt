@@ -92,8 +92,7 @@ Each-All q [] h = All-nil (λ l. list_all q l ≡ true)
 Each-All q (l ∷ ls) h = All-cons (λ x. list_all q x ≡ true) l ls h.0 (Each-All q ls h.1)
 
 -- what holds of each character but the line feeds holds of each in each line
-pub each_in_lines : (p : ℕ → Bool) (cs : List ℕ) → list_all (λ c. (c == 10) || p c) cs ≡ true
-    → All (λ l. list_all p l ≡ true) (lines_of cs)
+pub each_in_lines : (p : ℕ → Bool) (cs : List ℕ) → list_all (λ c. (c == 10) || p c) cs ≡ true → All (λ l. list_all p l ≡ true) (lines_of cs)
 each_in_lines p cs h =
     Each-All p (lines_of cs) (Each-split is_feed (λ c. is_feed c || p c) p (λ c a no. subst (λ t. (t || p c) ≡ true) no a) cs h)
 

@@ -67,9 +67,6 @@ reached-on n front (c ∷ rest) r le =
 pub IsReached-counted : (n : ℕ) (cs : List ℕ) → count_of cs ≤ n → IsReached n cs
 IsReached-counted n cs le = reached-on n [] cs (IsReached-nil n) (omega arith)
 
-pub IsReached-short : (n : ℕ) (text : List ℕ) → IsUtf8 text → length text ≤ n → IsReached n (chars text)
-IsReached-short n text u le = IsReached-counted n (chars text) (omega (arith, count_of-bytes text u))
-
 pub IsParted-counted : (n : ℕ) (text : List ℕ) → count_of (chars text) ≤ n → IsParted n (chars text) (chars text) 0 (chars [])
 IsParted-counted n text le = record {
   rest = [];
@@ -84,6 +81,3 @@ IsCut-counted n text u le = IsCut-filled u (IsParted-counted n text le) (sym (ap
 
 pub IsParted-short : (n : ℕ) (text : List ℕ) → IsUtf8 text → length text ≤ n → IsParted n (chars text) (chars text) 0 (chars [])
 IsParted-short n text u le = IsParted-counted n text (omega (arith, count_of-bytes text u))
-
-pub IsCut-short : (n : ℕ) (text : List ℕ) → IsUtf8 text → length text ≤ n → IsCut n text text
-IsCut-short n text u le = IsCut-counted n text u (omega (arith, count_of-bytes text u))

@@ -2,14 +2,14 @@
 -- beginning that does.
 use Rattle.tabled_text.proofs.Names.{All, All-cons, All-head, All-nil, IsAdditive, IsCut, IsExactLine, IsLongestCut, IsLongestReached}
 use Rattle.tabled_text.proofs.Names.{IsUtf8, List, Reading, State, [], ap, arith, char_count, chars, columns_of, count_of, drop, false}
-use Rattle.tabled_text.proofs.Names.{greatest, is_additive, is_no_feed, last_line, last_of, length, line_columns, lines_of, list_all, map}
-use Rattle.tabled_text.proofs.Names.{min, plain, read_before, refl, slice_index_or, step, str_width, subst, suc, sum_by-cons, sym, take}
+use Rattle.tabled_text.proofs.Names.{is_additive, is_no_feed, last_line, last_of, length, line_columns, lines_of, list_all, min, plain}
+use Rattle.tabled_text.proofs.Names.{read_before, refl, slice_index_or, step, str_width, subst, suc, sum_by-cons, sym, take}
 use Rattle.tabled_text.proofs.Names.{take-append-drop, take-append-le, take-take, take_all, text_columns, true, zero, ℕ, ◌++◌, ◌+◌, ◌-◌}
 use Rattle.tabled_text.proofs.Names.{◌<◌, ◌∙◌, ◌∷◌, ◌≡◌, ◌≤◌}
 use Rattle.std.proofs.Common.{length-take}
 use Rattle.tabled_text.specs.Longest.{IsLongestFitting}
 use Rattle.tabled_text.proofs.Basics.{all-parts}
-use Rattle.tabled_text.proofs.Bridge.{lines_of-feedless, lines_of-one}
+use Rattle.tabled_text.proofs.Bridge.{lines_of-feedless, lines_of-one, text_columns-one}
 use Rattle.tabled_text.proofs.CountBound.{Bounded-read_before, Bounded-step, credit, flag-true, slack}
 use Rattle.tabled_text.proofs.CutOnce.{cut-once}
 use Rattle.tabled_text.proofs.CutWhole.{IsCut-counted}
@@ -96,7 +96,7 @@ more-take (suc j) (suc k) (c ∷ cs) l r =
     let more = more-take j k cs (omega arith) (omega arith) in
     omega (arith, sum_by-cons char_count c (take k cs), sum_by-cons char_count c (take j cs))
 
-width-count : (cs : List ℕ) → list_all is_additive cs ≡ true → columns_of cs ≡ count_of cs
+pub width-count : (cs : List ℕ) → list_all is_additive cs ≡ true → columns_of cs ≡ count_of cs
 width-count cs h = line_columns-plain cs h ∙ sym (count_of-plain cs h)
 
 -- where each beginning is a line that takes the columns of its count, the longest that is reached is the longest that finds room
@@ -164,13 +164,6 @@ plain_exact text p h =
     let own = subst L first (plain.characters, text_columns-plain_line plain) in
     record { utf8 = p.utf8; one = h; counted = sym (width-count (chars text) own.0) ∙ sym own.1 }
 
--- the columns of its characters are those of the text
-exact-columns : (text : List ℕ) → IsExactLine text → columns_of (chars text) ≡ count_of (chars text)
-exact-columns text e =
-    let all : text_columns text ≡ greatest (line_columns text ∷ []) = ap (λ ls. greatest (map line_columns ls)) (lines_of-one text e.one) in
-    let counted = e.counted in
-    omega arith
-
 -- cut, such a line is its longest beginning that finds room, filled up
 pub exact-longest : (n : ℕ) (text answer : List ℕ) → IsExactLine text → IsCut n text answer → IsLongestCut n text answer
 exact-longest n text answer e cut =
@@ -181,6 +174,6 @@ exact-longest n text answer e cut =
       rest = cut.rest;
       parts = cut.longest.parts;
       longest = longest_counted n cs cut.front cut.rest (λ k. lines_of-feedless (take k cs) (all-parts is_no_feed k cs none).0)
-          (λ k. exact-take k cs (exact-columns text e)) cut.longest;
+          (λ k. exact-take k cs (sym (e.counted ∙ text_columns-one text e.one))) cut.longest;
       answered = cut.characters;
     }

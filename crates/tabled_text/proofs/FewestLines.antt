@@ -1,7 +1,7 @@
 -- The fullest breaking has the fewest groups and is the only one, and a wrapped text has a line for each.
 use Rattle.tabled_text.proofs.Names.{All, All-head, All-tail, AllZip, AreFullest, Bool, HasFewestLines, IsBreaking, IsCut, IsFullest}
 use Rattle.tabled_text.proofs.Names.{IsFullestText, IsGrouping, IsUtf8, IsWrapped, List, TextUnit, [], ap, append-nil, append_assoc, arith}
-use Rattle.tabled_text.proofs.Names.{cases_Bool, chars, cond, flat_map, inl, inr, is_no_feed, length, length-append, length-map, lines_of}
+use Rattle.tabled_text.proofs.Names.{chars, cond, false, flat_map, inl, inr, is_no_feed, length, length-append, length-map, lines_of}
 use Rattle.tabled_text.proofs.Names.{list_all, missing_columns, nat_le, nat_tests, needed, not, onto_first, refl, replicate, shown, subst}
 use Rattle.tabled_text.proofs.Names.{suc, sum_by, sum_by-append, sum_by-cons, sym, text_from, text_of_groups, text_of_lines, true, units}
 use Rattle.tabled_text.proofs.Names.{width_of, ℕ, ⊎_elim, ◌++◌, ◌+◌, ◌-◌, ◌<◌, ◌==◌, ◌∙◌, ◌∷◌, ◌≡◌, ◌≤◌, ◌⊎◌}
@@ -106,14 +106,13 @@ length-onto c (l ∷ ls) h = refl
 
 rows-append : (xs ys : List ℕ) → rows (xs ++ ys) + 1 ≡ rows xs + rows ys
 rows-append [] ys = let e : rows [] ≡ 1 = refl in omega arith
-rows-append (c ∷ xs) ys = let more = rows-append xs ys in ⊎_elim
-    (λ y. subst (λ b. length (cond b ([] ∷ lines_of (xs ++ ys)) (onto_first c (lines_of (xs ++ ys)))) + 1
-    ≡ length (cond b ([] ∷ lines_of xs) (onto_first c (lines_of xs))) + rows ys) (sym y) (omega arith))
-    (λ no. subst (λ b. length (cond b ([] ∷ lines_of (xs ++ ys)) (onto_first c (lines_of (xs ++ ys)))) + 1
-    ≡ length (cond b ([] ∷ lines_of xs) (onto_first c (lines_of xs))) + rows ys) (sym no)
-    (ap (λ k. k + 1) (length-onto c (lines_of (xs ++ ys)) (some_line (xs ++ ys))) ∙ more ∙ ap
-    (λ k. k + rows ys) (sym (length-onto c (lines_of xs) (some_line xs)))))
-    (cases_Bool (c == 10))
+rows-append (c ∷ xs) ys = by_test (c == 10) (rows-append xs ys)
+  where
+    by_test : (b : Bool) → rows (xs ++ ys) + 1 ≡ rows xs + rows ys
+        → length (cond b ([] ∷ lines_of (xs ++ ys)) (onto_first c (lines_of (xs ++ ys)))) + 1
+        ≡ length (cond b ([] ∷ lines_of xs) (onto_first c (lines_of xs))) + rows ys
+    by_test true h = omega arith
+    by_test false h = omega (arith, h, length-onto c (lines_of (xs ++ ys)) (some_line (xs ++ ys)), length-onto c (lines_of xs) (some_line xs))
 
 rows-line : (xs rest : List ℕ) → list_all is_no_feed xs ≡ true → rows (xs ++ rest) ≡ rows rest
 rows-line xs rest h = omega (arith, rows-append xs rest, ap length (lines_of-feedless xs h))

@@ -210,14 +210,6 @@ Within-lines n words pos [] _ p f = absurd f
 Within-lines n words pos _ [] p f = absurd f
 Within-lines n words pos _ _ p f = absurd f.1
 
-wrap_bound : (n : ℕ) (words : Bool) (text answer : List ℕ) → IsWrapped n words text answer → text_columns answer ≤ n
-wrap_bound n words text answer w =
-    text_columns-within n answer w.utf8 (⊎_elim
-    (λ none. subst (λ t. Within n (lines_of t)) (sym (ap chars none.1 ∙ chars-nil)) (Within-nothing n))
-    (λ full. subst (λ t. Within n (lines_of t)) (sym full.1.answered)
-    (Within-lines n words full.0 (lines_of (chars text)) full.1.broken (feedless-lines (chars text)) full.1.fullest))
-    (wrapped-cases n words text answer w))
-
 -- ---- cut texts
 
 -- lines that count at most n, of which the last is filled up
@@ -262,7 +254,13 @@ fits-suffix n w text answer suffix p le c =
     fits-followed n w text answer suffix (omega arith) c p.utf8 (λ k l. stays-suffix w k suffix p (omega arith))
 
 pub fits-wrapped : (n : ℕ) (words : Bool) (text answer : List ℕ) → IsWrapped n words text answer → FitsIn n answer
-fits-wrapped n words text answer w = record { utf8 = w.utf8; columns = wrap_bound n words text answer w }
+fits-wrapped n words text answer w =
+    let within : Within n (lines_of (chars answer)) = ⊎_elim
+    (λ none. subst (λ t. Within n (lines_of t)) (sym (ap chars none.1 ∙ chars-nil)) (Within-nothing n))
+    (λ full. subst (λ t. Within n (lines_of t)) (sym full.1.answered)
+    (Within-lines n words full.0 (lines_of (chars text)) full.1.broken (feedless-lines (chars text)) full.1.fullest))
+    (wrapped-cases n words text answer w) in
+    record { utf8 = w.utf8; columns = text_columns-within n answer w.utf8 within }
 
 utf8-join : (n : ℕ) (texts : List (List ℕ)) → All (FitsIn n) texts → IsUtf8 (join_with_byte 10 texts)
 utf8-join n [] h = IsUtf8-nil

@@ -4,14 +4,13 @@ use Rattle.tabled_text.proofs.Names.{Range, [], alone, and_from, ap, arith, case
 use Rattle.tabled_text.proofs.Names.{chars_past_char, cond, drop, drop_at, encode_ascii, encode_utf8_all, encodes-chars, eqb-true, false}
 use Rattle.tabled_text.proofs.Names.{get_or, in_ranges, inl, inr, is_in_range, is_inner_byte, is_narrow_lead, is_simple, is_simple_kind}
 use Rattle.tabled_text.proofs.Names.{is_wide_lead, kind, kind_stepped, lead_byte, len_utf8, len_utf8_bounds, length, length-append}
-use Rattle.tabled_text.proofs.Names.{length-encode, lit<, lt-ltb, max, nat_lt, nat_tests, not, of_kind, of_ranges, or_left, or_right, refl}
+use Rattle.tabled_text.proofs.Names.{length-encode, lit<, lt-ltb, nat_lt, nat_tests, not, of_kind, of_ranges, or_left, or_right, refl}
 use Rattle.tabled_text.proofs.Names.{subst, sym, tables, true, zip_stepped, ℕ, ◌&&◌, ◌*◌, ◌++◌, ◌+◌, ◌-◌, ◌/◌, ◌<◌, ◌==◌, ◌||◌, ◌∙◌, ◌∷◌}
 use Rattle.tabled_text.proofs.Names.{◌≡◌, ◌≤◌}
 use Rattle.std.specs.Char.{encode_utf8}
 use Rattle.std.proofs.lemmas.Str.{len_utf8_ascii}
 use Rattle.ucd_table.proofs.Facts.{Stepped-always}
 use Rattle.unicode_width.specs.declared.kind.Kind.TheVariants.{Ambiguous, Narrow, Wide}
-use Rattle.tabled_text.specs.Letters.{is_narrow_letter, is_wide_letter}
 
 -- a kind of characters that take n columns and end no special sequence
 is_letter_kind : ℕ → Kind → Bool
@@ -181,6 +180,14 @@ letter-high n c high some few h =
     let is = letter-kind n c (kind c) h in
     record { simple = simple-high c high is.1; columns = columns-high c high ∙ is.0; some = some; few = few }
 
+-- a character from U+00C0 to U+02FF or from U+0380 to U+047F, which takes one column
+abbrev is_narrow_letter : ℕ → Bool
+is_narrow_letter c = is_in_range 0xC0 0x2FF c || is_in_range 0x380 0x47F c
+
+-- a character from U+4000 to U+9FFF, which takes two
+abbrev is_wide_letter : ℕ → Bool
+is_wide_letter c = is_in_range 0x4000 0x9FFF c
+
 -- the letters of the ranges
 narrow-high : (c : ℕ) → is_narrow_letter c ≡ true → IsLetter c 1
 unfolding in_ranges
@@ -195,13 +202,6 @@ wide-high c h =
     let inside : in_ranges wide_ranges c ≡ true = grind (arith, nat_tests) in
     let ends : (0xA0 < c) × (c ≤ 0x10_FFFF) = grind (arith, nat_tests) in
     letter-high 2 c ends.0 (lit< tt) (lit< tt) (passed (in_ranges wide_ranges c) (is_letter_kind 2 (kind c)) (are-wide c ends.1) inside)
-
--- and what they count
-pub narrow-count : (c : ℕ) → is_narrow_letter c ≡ true → char_count c ≡ 1
-narrow-count c h = ap (max 1) (narrow-high c h).columns
-
-pub wide-count : (c : ℕ) → is_wide_letter c ≡ true → char_count c ≡ 2
-wide-count c h = ap (max 1) (wide-high c h).columns
 
 -- the same by their first bytes
 narrow-led : (c : ℕ) → is_narrow_lead (lead_byte c) ≡ true → 128 ≤ lead_byte c → (is_narrow_letter c ≡ true) × (c < 2048)

@@ -1,17 +1,20 @@
 -- Letters at the front of a text, and letters broken between characters: each line is a piece, and takes what it counts.
-use Rattle.tabled_text.proofs.Names.{All, All-cons, All-nil, AreLetters, Bool, IsPiece, IsUtf8, List, [], and_from, and_parts, ap}
-use Rattle.tabled_text.proofs.Names.{append-nil, append_all, arith, cases_lt, char_count, chars, chars-append, chars-nil, columns_of}
-use Rattle.tabled_text.proofs.Names.{count_of, encode_ascii, encode_utf8_all, encodes-append, encodes-chars, eqb, eqb-true, false, inl, inr}
-use Rattle.tabled_text.proofs.Names.{is_in_range, is_letter_byte, is_letter_or_break, last_line, last_of, leb-true, length, lines_of}
-use Rattle.tabled_text.proofs.Names.{list_all, lit<, map, nat_le, ne_eqb, needed, nil_from_length, or_cases, pending, refl}
-use Rattle.tabled_text.proofs.Names.{slice_split_none, sym, text_columns, true, unit_of_char, units, units_of_words, used_after, words_of}
-use Rattle.tabled_text.proofs.Names.{written_line, ℕ, ⊎_elim, ◌++◌, ◌+◌, ◌<◌, ◌==◌, ◌||◌, ◌∙◌, ◌∷◌, ◌≡◌, ◌≤◌}
+use Rattle.tabled_text.proofs.Names.{All, All-cons, All-nil, AreLetters, BeginsBy, Bool, IsLetterLine, IsPiece, IsUtf8, IsUtf8-encode}
+use Rattle.tabled_text.proofs.Names.{IsUtf8-nil, IsUtf8-past_char, List, TextUnit, [], and_from, and_parts, ap, append-nil, append_all}
+use Rattle.tabled_text.proofs.Names.{append_text, append_used, arith, cases_lt, char_count, chars, chars-append, chars-nil, columns_of}
+use Rattle.tabled_text.proofs.Names.{cond, count_of, encode_ascii, encode_utf8_all, encodes-append, encodes-chars, eqb, eqb-true, false}
+use Rattle.tabled_text.proofs.Names.{inl, inr, is_in_range, is_letter_byte, is_letter_or_break, last_line, last_of, le-leb, leb-true}
+use Rattle.tabled_text.proofs.Names.{length, length-append, lines_of, list_all, lit<, lt-leb, map, nat_le, ne_eqb, needed, nil_from_length}
+use Rattle.tabled_text.proofs.Names.{or_cases, pending, refl, replicate, shown, slice_split_none, subst, sum_by-cons, sym, text_columns}
+use Rattle.tabled_text.proofs.Names.{true, unicode_width, unit_of_char, units, units_of_words, used_after, words_of, written_line, ℕ}
+use Rattle.tabled_text.proofs.Names.{⊎_elim, ◌++◌, ◌+◌, ◌-◌, ◌<◌, ◌==◌, ◌||◌, ◌∙◌, ◌∷◌, ◌≡◌, ◌≤◌}
 use Rattle.std.specs.Char.{encode_utf8}
-use Rattle.tabled_text.proofs.Basics.{all-halves}
-use Rattle.tabled_text.proofs.Bridge.{lines_of-chars, lines_of-feedless, lines_of-one, text_columns-one}
-use Rattle.tabled_text.proofs.CutLemmas.{Walked}
+use Rattle.tabled_text.proofs.Basics.{all-halves, cond-cases}
+use Rattle.tabled_text.proofs.Bridge.{lines_of-chars, lines_of-feedless, lines_of-one, text_columns-nil, text_columns-one}
+use Rattle.tabled_text.proofs.CountBound.{count-some}
+use Rattle.tabled_text.proofs.CutLemmas.{IsScalar-first, Walked, chars-push}
 use Rattle.tabled_text.proofs.CutWhole.{IsReached-counted}
-use Rattle.tabled_text.proofs.Filling.{append_all-append, append_all-breaks}
+use Rattle.tabled_text.proofs.Filling.{append_all-append, append_all-breaks, append_text-fits, needed-le-line, not_empty}
 use Rattle.tabled_text.proofs.LetterBytes.{letter-encoded, letters-counted, letters-exact, letters-line}
 use Rattle.tabled_text.proofs.Pieces.{Taken, fitted, map-append, piece-written}
 use Rattle.tabled_text.proofs.Searched.{all-chars}
@@ -54,59 +57,163 @@ filled n front cs c some le wide =
     ∙ ap (λ k. front ++ append_all n k us) fit.used_is
     ∙ ap (λ l. front ++ l) (append_all-breaks n (0 + count_of front) (unit_of_char c) (map unit_of_char cs) some (omega arith))
 
--- a piece with more after it
-pub record IsFirstPiece (n : ℕ) (text piece rest : List ℕ) : Type 0 where
-  pub some : 0 < length piece
-  pub written : written_line n false text ≡ piece ++ 10 ∷ written_line n false rest
+-- what is written where the first line has the characters fs
+line-more : (n : ℕ) (text front rest fs : List ℕ)
+    → append_all n 0 (map unit_of_char (chars text)) ≡ fs ++ 10 ∷ append_all n 0 (map unit_of_char (chars rest))
+    → encode_utf8_all fs ≡ front → written_line n false text ≡ front ++ 10 ∷ written_line n false rest
+line-more n text front rest fs whole e =
+    let more = append_all n 0 (map unit_of_char (chars rest)) in
+    ap encode_utf8_all whole ∙ encodes-append fs (10 ∷ more) ∙ ap (λ l. l ++ (encode_utf8 10 ++ encode_utf8_all more)) e
+    ∙ ap (λ feed. front ++ (feed ++ encode_utf8_all more)) (encode_ascii 10 (lit< tt))
 
-module _ (n columns : ℕ) (text piece rest : List ℕ) (h : list_all is_letter_byte text ≡ true) (p : IsPiece n text piece columns rest) where
+-- a piece with more after it
+record IsFirstPiece (n : ℕ) (text piece rest : List ℕ) : Type 0 where
+  some : 0 < length piece
+  written : written_line n false text ≡ piece ++ 10 ∷ written_line n false rest
+
+module _ (n columns : ℕ) (text piece rest : List ℕ) (h : list_all is_letter_byte text ≡ true) (p : IsPiece n text piece columns rest)
+    (big : 1 < n) (most : (c : ℕ) (cs : List ℕ) → chars rest ≡ c ∷ cs → n < columns + char_count c) where
   both : (list_all is_letter_byte piece ≡ true) × (list_all is_letter_byte rest ≡ true)
   both = all-halves is_letter_byte piece rest (ap (list_all is_letter_byte) (sym p.parts) ∙ h)
 
-  pub rest-letters : list_all is_letter_byte rest ≡ true
-  rest-letters = both.1
-
-  pub piece-line : length (lines_of piece) ≡ 1
-  piece-line = (letters-exact piece p.utf8 both.0).one
-
-  pub piece-columns : text_columns piece ≡ columns
-  piece-columns = sym (letters-exact piece p.utf8 both.0).counted ∙ sym p.counted
-
-  pub last-piece : chars rest ≡ [] → piece ≡ written_line n false text
+  last-piece : chars rest ≡ [] → written_line n false text ≡ piece
   last-piece e =
-      sym (append-nil piece) ∙ ap (λ l. piece ++ encode_utf8_all (append_all n (0 + columns) (map unit_of_char l))) (sym e)
-      ∙ piece-written n n 0 columns text piece rest p (omega arith)
+      sym (sym (append-nil piece) ∙ ap (λ l. piece ++ encode_utf8_all (append_all n (0 + columns) (map unit_of_char l))) (sym e)
+      ∙ piece-written n n 0 columns text piece rest p (omega arith))
 
-  first-at : 1 < n → (c : ℕ) (cs : List ℕ) → chars rest ≡ c ∷ cs → n < columns + char_count c → IsFirstPiece n text piece rest
-  first-at big c cs e wide =
-      let more = append_all n 0 (map unit_of_char (c ∷ cs)) in
+  first-piece : (cs : List ℕ) → chars rest ≡ cs → (cs ≡ [] → ⊥) → IsFirstPiece n text piece rest
+  first-piece [] e ne = absurd (ne refl)
+  first-piece (c ∷ cs) e ne =
       let counted = p.counted in
       let fits = p.fits in
+      let wide = most c cs e in
       let bytes : rest ≡ encode_utf8 c ++ encode_utf8_all cs = sym (encodes-chars rest p.rest_utf8) ∙ ap encode_utf8_all e in
       let own = letter-encoded c (all-halves is_letter_byte (encode_utf8 c) (encode_utf8_all cs) (ap (list_all is_letter_byte) (sym bytes) ∙ both.1)).0 in
       let few : char_count c ≤ 2 = let columns_are = own.columns in let narrow = own.few in omega arith in
       let need = needed-narrow n (unit_of_char c) (omega arith) in
-      let whole : append_all n 0 (map unit_of_char (chars text)) ≡ chars piece ++ 10 ∷ more =
+      let whole : append_all n 0 (map unit_of_char (chars text)) ≡ chars piece ++ 10 ∷ append_all n 0 (map unit_of_char (chars rest)) =
       ap (λ l. append_all n 0 (map unit_of_char l)) (ap chars p.parts ∙ chars-append piece rest p.utf8 ∙ ap (λ l. chars piece ++ l) e)
-      ∙ filled n (chars piece) cs c (omega arith) (omega arith) (omega (arith, need)) in
+      ∙ filled n (chars piece) cs c (omega arith) (omega arith) (omega (arith, need))
+      ∙ ap (λ l. chars piece ++ 10 ∷ append_all n 0 (map unit_of_char l)) (sym e) in
       record {
         some = elim (cases_lt 0 (length piece)) [
           | inl some ↦ some
-          | inr none ↦ absurd (let nothing : count_of (chars piece) ≡ 0 = ap (λ l. count_of (chars l)) (nil_from_length piece (omega arith)) ∙ ap count_of chars-nil in omega arith)
+          | inr none ↦
+              let nothing : count_of (chars piece) ≡ 0 = ap (λ l. count_of (chars l)) (nil_from_length piece (omega arith)) ∙ ap count_of chars-nil in
+              absurd (omega arith)
         ];
-        written = ap encode_utf8_all whole ∙ encodes-append (chars piece) (10 ∷ more)
-            ∙ ap (λ l. l ++ (encode_utf8 10 ++ encode_utf8_all more)) (encodes-chars piece p.utf8)
-            ∙ ap (λ feed. piece ++ (feed ++ encode_utf8_all more)) (encode_ascii 10 (lit< tt))
-            ∙ ap (λ l. piece ++ 10 ∷ encode_utf8_all (append_all n 0 (map unit_of_char l))) (sym e);
+        written = line-more n text piece rest (chars piece) whole (encodes-chars piece p.utf8);
       }
 
-  pub first-piece : 1 < n → ((c : ℕ) (cs : List ℕ) → chars rest ≡ c ∷ cs → n < columns + char_count c) → (chars rest ≡ [] → ⊥)
-      → IsFirstPiece n text piece rest
-  first-piece big most ne = by_rest (chars rest) refl
+  pub letter-piece : IsLetterLine n text piece columns rest
+  letter-piece =
+      let exact = letters-exact piece p.utf8 both.0 in
+      let first : 0 < length rest → IsFirstPiece n text piece rest =
+      λ some. first-piece (chars rest) refl (not_empty rest p.rest_utf8 (λ z. omega arith)) in
+      record {
+        takes = sym exact.counted ∙ sym p.counted;
+        one = exact.one;
+        last = λ z. last-piece (ap chars (nil_from_length rest z) ∙ chars-nil);
+        more = λ some. (first some).written;
+        shorter = λ some. omega (arith, ap length p.parts, length-append piece rest, (first some).some);
+        letters = both.1;
+        utf8 = p.rest_utf8;
+      }
+
+-- ---- lines of one column, each of which has one letter or U+FFFD in its place
+
+single : (c : ℕ) → (append_text 1 0 (unit_of_char c) ≡ shown 1 0 (unit_of_char c)) × (append_used 1 0 (unit_of_char c) ≡ 0 + char_count c)
+single c =
+    let few = needed-le-line 1 (unit_of_char c) (lit< tt) in
+    append_text-fits 1 0 (unit_of_char c) (le-leb (0 + needed 1 (unit_of_char c)) 1 (omega arith))
+
+single-more : (c d : ℕ) (us : List TextUnit)
+    → append_all 1 0 (unit_of_char c ∷ unit_of_char d ∷ us) ≡ shown 1 0 (unit_of_char c) ++ 10 ∷ append_all 1 0 (unit_of_char d ∷ us)
+single-more c d us =
+    let rest = unit_of_char d ∷ us in
+    let used = (single c).1 in
+    let need : 1 ≤ needed 1 (unit_of_char d) =
+    cond-cases (λ k. 1 ≤ k) (nat_le (char_count d) 1) (char_count d) 1 (λ _. count-some d) (λ _. omega arith) in
+    ap (λ l. l ++ append_all 1 (append_used 1 0 (unit_of_char c)) rest) (single c).0
+    ∙ ap (λ l. shown 1 0 (unit_of_char c) ++ l)
+    (append_all-breaks 1 (append_used 1 0 (unit_of_char c)) (unit_of_char d) us (lit< tt) (omega (arith, used, count-some c, need)))
+
+-- nothing is one empty line
+pub letter-none : (n : ℕ) (text : List ℕ) → IsUtf8 text → chars text ≡ [] → IsLetterLine n text text 0 text
+letter-none n text u e =
+    let none : text ≡ [] = sym (encodes-chars text u) ∙ ap encode_utf8_all e in
+    subst (λ t. IsLetterLine n t t 0 t) (sym none) record {
+      takes = text_columns-nil;
+      one = refl;
+      last = λ _. ap (λ cs. encode_utf8_all (append_all n 0 (map unit_of_char cs))) chars-nil;
+      more = λ some. absurd (omega arith);
+      shorter = λ some. absurd (omega arith);
+      letters = refl;
+      utf8 = IsUtf8-nil;
+    }
+
+record IsReplacement (bytes : List ℕ) : Type 0 where
+  is : encode_utf8_all (replicate (1 - 0) 0xFFFD) ≡ bytes
+  takes : text_columns bytes ≡ 1
+  one : length (lines_of bytes) ≡ 1
+
+replaced : IsReplacement (0xEF ∷ 0xBF ∷ 0xBD ∷ [])
+unfolding unicode_width
+replaced = record { is = refl; takes = refl; one = refl }
+
+module _ (count : ℕ) (text after : List ℕ) (u : IsUtf8 text) (h : list_all is_letter_byte text ≡ true)
+    (b : BeginsBy (λ c. count ≡ char_count c) text after) where
+  halves : (list_all is_letter_byte (encode_utf8 b.first) ≡ true) × (list_all is_letter_byte after ≡ true)
+  halves = all-halves is_letter_byte (encode_utf8 b.first) after (ap (list_all is_letter_byte) (sym b.parts) ∙ h)
+
+  line-single : (front : List ℕ) → encode_utf8_all (shown 1 0 (unit_of_char b.first)) ≡ front → text_columns front ≡ 1
+      → length (lines_of front) ≡ 1 → IsLetterLine 1 text front 1 after
+  line-single front e takes one =
+      let c = b.first in
+      let utf8 = IsUtf8-past_char text after c u b.parts in
+      record {
+        takes = takes;
+        one = one;
+        last = λ z. ap (λ cs. encode_utf8_all (append_all 1 0 (map unit_of_char cs)))
+            (b.characters ∙ ap (λ l. c ∷ l) (ap chars (nil_from_length after z) ∙ chars-nil))
+            ∙ ap encode_utf8_all (append-nil (append_text 1 0 (unit_of_char c)) ∙ (single c).0) ∙ e;
+        more = λ some. by_after (chars after) refl (not_empty after utf8 (λ z. omega arith));
+        shorter = λ _. b.shorter;
+        letters = halves.1;
+        utf8 = utf8;
+      }
     where
-      by_rest : (cs : List ℕ) → chars rest ≡ cs → IsFirstPiece n text piece rest
-      by_rest [] e = absurd (ne e)
-      by_rest (c ∷ cs) e = first-at big c cs e (most c cs e)
+      by_after : (cs : List ℕ) → chars after ≡ cs → (cs ≡ [] → ⊥) → written_line 1 false text ≡ front ++ 10 ∷ written_line 1 false after
+      by_after [] q ne = absurd (ne refl)
+      by_after (d ∷ ds) q ne =
+          line-more 1 text front after (shown 1 0 (unit_of_char b.first))
+          (ap (λ l. append_all 1 0 (map unit_of_char l)) (b.characters ∙ ap (λ l. b.first ∷ l) q)
+          ∙ single-more b.first d (map unit_of_char ds)
+          ∙ ap (λ l. shown 1 0 (unit_of_char b.first) ++ 10 ∷ append_all 1 0 (map unit_of_char l)) (sym q)) e
+
+  -- a letter of one column
+  pub letter-alone : (front : List ℕ) → front ≡ encode_utf8 b.first → count ≤ 1 → IsLetterLine 1 text front 1 after
+  letter-alone front f le =
+      let c = b.first in
+      let is = b.is in
+      let some = count-some c in
+      let scalar = IsScalar-first text c (chars after) u b.characters in
+      let utf8 = subst IsUtf8 (sym f) (IsUtf8-encode c scalar) in
+      let exact = letters-exact front utf8 (ap (list_all is_letter_byte) f ∙ halves.0) in
+      let one : chars front ≡ c ∷ [] = ap chars f ∙ chars-push [] c IsUtf8-nil scalar ∙ ap (λ l. l ++ c ∷ []) chars-nil in
+      line-single front
+      (ap (λ t. encode_utf8_all (cond t (c ∷ []) (replicate (1 - 0) 0xFFFD))) (le-leb (char_count c) 1 (omega arith))
+      ∙ append-nil (encode_utf8 c) ∙ sym f)
+      (omega (arith, exact.counted, ap count_of one, sum_by-cons char_count c [])) exact.one
+
+  -- U+FFFD for a wider one
+  pub letter-replaced : 1 < count → IsLetterLine 1 text (0xEF ∷ 0xBF ∷ 0xBD ∷ []) 1 after
+  letter-replaced wide =
+      let c = b.first in
+      let is = b.is in
+      line-single (0xEF ∷ 0xBF ∷ 0xBD ∷ [])
+      (ap (λ t. encode_utf8_all (cond t (c ∷ []) (replicate (1 - 0) 0xFFFD))) (lt-leb (char_count c) 1 (omega arith)) ∙ replaced.is)
+      replaced.takes replaced.one
 
 -- ---- whole texts
 

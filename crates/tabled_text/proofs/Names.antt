@@ -32,8 +32,8 @@ pub use Rattle.std.specs.Str.{IsCharBoundary, IsUtf8}
 pub use Rattle.tabled_text.specs.Breaking.{EachUnitFits, HasFewestLines, IsBreaking, IsGrouping, IsLeastBreaking, TextUnit, space, text_of}
 pub use Rattle.tabled_text.specs.Breaking.{unit_of_char, units, units_of_word, units_of_words, width_of, words_of}
 pub use Rattle.tabled_text.specs.Cut.{IsCut, IsLongestReached, IsParted, IsReached, last_line, last_of, missing_columns}
-pub use Rattle.tabled_text.specs.Walk.{BreaksAt, Expects, IsPiece, append_all, append_text, append_used, begin_text, fits_line, fits_word}
-pub use Rattle.tabled_text.specs.Walk.{pending, used_after, words_in, written_line}
+pub use Rattle.tabled_text.specs.Walk.{BreaksAt, Expects, IsLetterLine, IsPiece, append_all, append_text, append_used, begin_text}
+pub use Rattle.tabled_text.specs.Walk.{fits_line, fits_word, pending, used_after, words_in, written_line}
 pub use Rattle.tabled_text.specs.FramedLines.{EndsApart, IsFrame, IsLine, IsSeparatorColumn, begins_apart, begins_with_selector}
 pub use Rattle.tabled_text.specs.FramedLines.{ends_before, is_keycap_base, is_no_feed, is_separator, meet, stands_before}
 pub use Rattle.tabled_text.specs.Letters.{AreLetters, BeginsBy, IsLetter, byte_columns, is_inner_byte, is_letter_byte, is_letter_or_break}

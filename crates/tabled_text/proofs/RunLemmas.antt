@@ -1,11 +1,10 @@
 -- Runs of bytes that pass a test, and blocks of bytes that are tested at once.
-use Rattle.tabled_text.proofs.Names.{Bool, List, [], agree_below_at, and_from, and_le_r, and_parts, ap, append_assoc, arith, bit_and}
-use Rattle.tabled_text.proofs.Names.{cases_lt, chunk, cond, drop, drop-drop, drop_at, eqb, eqb-true, false, get_or, get_or-drop, get_or-map}
-use Rattle.tabled_text.proofs.Names.{get_or-take, inl, inr, is_in_range, length, length-append, length-chunk, length-drop, length-map}
-use Rattle.tabled_text.proofs.Names.{length-take-le, list_all, list_all-append, ltb, map, map-map, mask_l, mask_l-mod, nat_tests, ne_eqb}
-use Rattle.tabled_text.proofs.Names.{not, refl, replicate, subst, suc, sum_by, sum_by-cons, sum_l, sym, take, take-add, take-append-drop}
-use Rattle.tabled_text.proofs.Names.{take-take, take_at, true, w8, zero, zip2_splat, ℕ, ◌%◌, ◌&&◌, ◌*◌, ◌++◌, ◌+◌, ◌-◌, ◌/◌, ◌<◌, ◌==◌, ◌^◌}
-use Rattle.tabled_text.proofs.Names.{◌||◌, ◌∙◌, ◌∷◌, ◌≡◌, ◌≤◌}
+use Rattle.tabled_text.proofs.Names.{Bool, List, [], agree_below_at, and_from, and_le_r, and_parts, ap, arith, bit_and, cases_lt, chunk}
+use Rattle.tabled_text.proofs.Names.{cond, drop, drop-drop, eqb, eqb-true, false, get_or, get_or-drop, get_or-map, get_or-take, inl, inr}
+use Rattle.tabled_text.proofs.Names.{is_in_range, length, length-append, length-chunk, length-drop, length-map, length-take-le, list_all}
+use Rattle.tabled_text.proofs.Names.{list_all-append, ltb, map, map-map, mask_l, mask_l-mod, nat_tests, ne_eqb, not, refl, replicate, subst}
+use Rattle.tabled_text.proofs.Names.{suc, sum_by, sum_by-cons, sum_l, sym, take, take-add, take-append-drop, take-take, true, w8, zero}
+use Rattle.tabled_text.proofs.Names.{zip2_splat, ℕ, ◌%◌, ◌&&◌, ◌*◌, ◌++◌, ◌+◌, ◌-◌, ◌/◌, ◌<◌, ◌==◌, ◌^◌, ◌||◌, ◌∙◌, ◌∷◌, ◌≡◌, ◌≤◌}
 use Rattle.std.proofs.lemmas.List.Folds.{list_all_at}
 use Rattle.std.specs.List.{prefix_len}
 use Rattle.std.specs.Simd.Lanes.{Each1, sel_l, top, zip2}
@@ -14,7 +13,9 @@ use Rattle.std.proofs.lemmas.Simd.{Each1-all, Each1-get_or, Each1-weaker, Each1-
 use Rattle.std.proofs.lemmas.Simd.{get_or-swz_l_below, length-replicate, length-swz_l, length-zip2, swz_l, trailing_mask_l}
 use Rattle.std.proofs.Common.{Fits, ap₂}
 use Rattle.std.proofs.lemmas.Bool.{agree_below}
-use Rattle.std.proofs.lemmas.List.{ext_get_or, replicate-append-replicate}
+use Rattle.std.proofs.lemmas.List.{ext_get_or}
+use Rattle.std.specs.Str.{bytes_eq}
+use Rattle.std.proofs.lemmas.Slice.Eq.{bytes_eq-Decides}
 use Rattle.tabled_text.proofs.Basics.{all-parts}
 
 all-of : (test : ℕ → Bool) (xs : List ℕ) → ((k : ℕ) → k < length xs → test (get_or xs k 0) ≡ true) → list_all test xs ≡ true
@@ -183,26 +184,18 @@ filled-front (suc k) m [] e = absurd (omega (arith, e))
 filled-front (suc k) m (x ∷ xs) e = ap (λ l. 0x80 ∷ l) (filled-front k m xs (omega (arith, e)))
 
 -- a block of the bytes that fill
-window : (k m : ℕ) → k + m ≡ 16 → chunk {A = ℕ} m 16 (replicate 16 0x80 ++ replicate 16 0) ≡ replicate k 0x80 ++ replicate m 0
-window k m e =
-    let total : m + k ≡ 16 = omega (arith, e) in
-    let both : replicate {A = ℕ} 16 0x80 ≡ replicate m 0x80 ++ replicate k 0x80 =
-    sym (replicate-append-replicate {A = ℕ} m k 0x80 ∙ ap (λ (n : ℕ). replicate {A = ℕ} n 0x80) total) in
-    let zeros : replicate {A = ℕ} 16 0 ≡ replicate m 0 ++ replicate k 0 =
-    sym (replicate-append-replicate {A = ℕ} m k 0 ∙ ap (λ (n : ℕ). replicate {A = ℕ} n 0) total) in
-    let behind : drop m (replicate 16 0x80 ++ replicate 16 0) ≡ replicate k 0x80 ++ replicate 16 0 =
-    ap (λ l. drop m (l ++ replicate 16 0)) both ∙ ap (drop m) (append_assoc {A = ℕ} (replicate m 0x80) (replicate k 0x80) (replicate 16 0))
-    ∙ drop_at {A = ℕ} (replicate m 0x80) (replicate k 0x80 ++ replicate 16 0) m (length-replicate {A = ℕ} m 0x80) in
-    ap (take 16) (behind ∙ ap (λ l. replicate k 0x80 ++ l) zeros ∙ sym (append_assoc {A = ℕ} (replicate k 0x80) (replicate m 0) (replicate k 0)))
-    ∙ take_at {A = ℕ} (replicate k 0x80 ++ replicate m 0) (replicate k 0) 16
-    (omega (arith, e, length-append {A = ℕ} (replicate k 0x80) (replicate m 0), length-replicate {A = ℕ} k 0x80, length-replicate {A = ℕ} m 0))
+window : (k : ℕ) → k < 17 → chunk {A = ℕ} (16 - k) 16 (replicate 16 0x80 ++ replicate 16 0) ≡ replicate k 0x80 ++ replicate (16 - k) 0
+window k h =
+    let block : ℕ → List ℕ = λ n. chunk {A = ℕ} (16 - n) 16 (replicate 16 0x80 ++ replicate 16 0) in
+    let parts : ℕ → List ℕ = λ n. replicate n 0x80 ++ replicate (16 - n) 0 in
+    (bytes_eq-Decides (block k) (parts k)).0 (agree_below_at (λ n. bytes_eq (block n) (parts n)) (λ _. true) 17 k refl h)
 
 pub filled-block : (k : ℕ) (xs fill : List ℕ) → k ≤ 16 → length xs ≡ 16
     → fill ≡ chunk {A = ℕ} (16 - k) 16 (replicate 16 0x80 ++ replicate 16 0)
     → sel_l (map (top 7) (zip2 (λ a b. cond (eqb a b) 255 0) fill (replicate 16 0))) xs fill ≡ replicate k 0x80 ++ drop k xs
 filled-block k xs fill o long e =
     let m = 16 - k in
-    let is : fill ≡ replicate k 0x80 ++ replicate m 0 = e ∙ window k m (omega arith) in
+    let is : fill ≡ replicate k 0x80 ++ replicate m 0 = e ∙ window k (omega arith) in
     let size : length fill ≡ 16 =
     omega (arith, ap length is, length-append {A = ℕ} (replicate k 0x80) (replicate m 0), length-replicate {A = ℕ} k 0x80, length-replicate {A = ℕ} m 0) in
     ap (λ l. sel_l l xs fill) (ap (map (top 7)) (zip2_splat (λ a b. cond (eqb a b) 255 0) fill 16 0 size) ∙ map-map (top 7) (λ x. cond (eqb x 0) 255 0) fill)

@@ -90,12 +90,6 @@ stays-cut_before n w le text answer tail plain cut h =
     (stays-text w 0 front (filled ++ tail) (Lines-more n w 0 (lines_of front) le lines)
     (stays-line w (last_used 0 (lines_of front)) filled tail fill.0 (h (last_used 0 (lines_of front) + sum_by char_columns filled) (omega arith)))))
 
--- a cut plain text stays in its columns
-pub stays-cut : (n : ℕ) (text answer : List ℕ) → is_additive_text (chars text) ≡ true → IsCut n text answer
-    → stays n 0 (chars answer) ≡ true
-stays-cut n text answer plain cut =
-    subst (λ t. stays n 0 t ≡ true) (append-nil (chars answer)) (stays-cut_before n n (omega arith) text answer [] plain cut (stays-nothing n))
-
 -- a plain text stays from a column on if there is room for the columns of all its lines
 pub stays-whole : (w k : ℕ) (s tail : List ℕ) → is_additive_text s ≡ true → k + sum_by columns_of (lines_of s) ≤ w
     → ((j : ℕ) → j ≤ w → stays w j tail ≡ true) → stays w k (s ++ tail) ≡ true
@@ -138,7 +132,9 @@ StaysWithin-wrapped {n} {words} {text} {answer} p w = record { utf8 = w.utf8; st
 
 -- a cut plain text stays in its columns
 pub StaysWithin-cut : {n : ℕ} {text answer : List ℕ} → IsAdditive text → IsCut n text answer → StaysWithin n answer
-StaysWithin-cut {n} {text} {answer} p c = record { utf8 = c.utf8; stays = stays-cut n text answer p.characters c }
+StaysWithin-cut {n} {text} {answer} p c =
+    let before = stays-cut_before n n (omega arith) text answer [] p.characters c (stays-nothing n) in
+    record { utf8 = c.utf8; stays = subst (λ t. stays n 0 t ≡ true) (append-nil (chars answer)) before }
 
 -- so does a cut plain text with what follows it, if that does from each column on at which it may begin
 pub StaysWithin-cut_before : {n w : ℕ} {text answer tail : List ℕ} → n ≤ w → IsAdditive text → IsCut n text answer → IsUtf8 tail

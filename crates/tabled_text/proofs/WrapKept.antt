@@ -8,12 +8,12 @@ use Rattle.tabled_text.proofs.Names.{units_of_word, units_of_words, width_of, wo
 use Rattle.tabled_text.proofs.Basics.{cond-cases}
 use Rattle.tabled_text.proofs.Bridge.{begins, some_line, text_columns-chars}
 use Rattle.tabled_text.proofs.CountBound.{columns-count, count-some}
-use Rattle.tabled_text.proofs.CutWhole.{IsReached-short, count_of-bytes}
+use Rattle.tabled_text.proofs.CutWhole.{IsReached-counted, count_of-bytes}
 use Rattle.tabled_text.proofs.Filling.{IsWrapped-written, append_all-fits, full_text}
-use Rattle.tabled_text.proofs.FitLemmas.{EachUnit, text_of_lines-is}
+use Rattle.tabled_text.proofs.FitLemmas.{EachUnit, EachUnit-units, text_of_lines-is}
 use Rattle.tabled_text.proofs.OwnBreaking.{text_from-narrow, text_of-units, unit-le}
 use Rattle.tabled_text.proofs.PlainLemmas.{count_of-plain, line_columns-plain}
-use Rattle.tabled_text.proofs.WrapRoom.{EachGood-units, EachPlain, EachPlain-lines, Good}
+use Rattle.tabled_text.proofs.WrapRoom.{EachPlain, EachPlain-lines, Good, good-made}
 
 -- ---- additive texts
 
@@ -42,7 +42,7 @@ pub line_kept-before : (n : ℕ) (words : Bool) (line : List ℕ) (rest : List T
     → columns_of line ≤ n → append_all n 0 (units n words line ++ rest) ≡ line ++ append_all n (columns_of line) rest
 line_kept-before n words line rest plain room =
     let us : List TextUnit = units n words line in
-    let width = width-good us (EachGood-units n words line plain) in
+    let width = width-good us (EachUnit-units is_additive Good good-made n words line plain) in
     let columns : 0 + width_of us ≡ columns_of line =
     omega (arith, width, ap (sum_by char_columns) (text_of-units n words line), line_columns-plain line plain) in
     kept-before n words line rest (omega arith) ∙ ap (λ k. line ++ append_all n k rest) columns
@@ -112,7 +112,7 @@ pending-short n words cs all =
 
 pub IsWrapped-short : (n : ℕ) (words : Bool) (text : List ℕ) → IsUtf8 text → 0 < n → length text ≤ n → IsWrapped n words text text
 IsWrapped-short n words text u some le =
-    let same = pending-short n words (chars text) (IsReached-short n text u le).fits in
+    let same = pending-short n words (chars text) (IsReached-counted n (chars text) (omega (arith, count_of-bytes text u))).fits in
     IsWrapped-written n words text text (λ z. omega arith) u (sym (ap encode_utf8_all same ∙ encodes-chars text u))
 
 -- an additive text of at most n columns

@@ -3,13 +3,12 @@ use Rattle.tabled_text.proofs.Names.{AllZip, Bool, IsFullest, IsPlainColumn, IsW
 use Rattle.tabled_text.proofs.Names.{append-nil, append_all, append_assoc, append_text, append_used, arith, cases_Bool, char_columns}
 use Rattle.tabled_text.proofs.Names.{char_count, chars, chars-nil, columns_of, cond, false, greatest, has_plain_width, is_additive}
 use Rattle.tabled_text.proofs.Names.{is_additive_or_feed, is_additive_text, is_listed_or_drawn, le-leb, leb-false, leb-true, lines_of}
-use Rattle.tabled_text.proofs.Names.{list_all, map, min, nat_le, nat_tests, ne_eqb, needed, onto_first, or_left, or_right, refl, replicate}
-use Rattle.tabled_text.proofs.Names.{shown, space, stays, subst, suc, sum_by, sum_by-cons, sym, text_of_groups, text_of_lines, true}
-use Rattle.tabled_text.proofs.Names.{unicode_width, unit_of_char, units, zero, ℕ, ⊎_elim, ⊤, ◌&&◌, ◌++◌, ◌+◌, ◌-◌, ◌<◌, ◌==◌, ◌||◌, ◌∙◌}
-use Rattle.tabled_text.proofs.Names.{◌∷◌, ◌≡◌, ◌≤◌}
+use Rattle.tabled_text.proofs.Names.{list_all, map, min, nat_le, ne_eqb, needed, onto_first, or_left, or_right, refl, replicate, shown}
+use Rattle.tabled_text.proofs.Names.{space, stays, subst, suc, sum_by, sum_by-cons, sym, text_of_groups, text_of_lines, true, unicode_width}
+use Rattle.tabled_text.proofs.Names.{unit_of_char, units, zero, ℕ, ⊎_elim, ⊤, ◌&&◌, ◌++◌, ◌+◌, ◌-◌, ◌<◌, ◌==◌, ◌||◌, ◌∙◌, ◌∷◌, ◌≡◌, ◌≤◌}
 use Rattle.tabled_text.proofs.Basics.{cond-both, list_all-copies}
 use Rattle.tabled_text.proofs.Bridge.{Each}
-use Rattle.tabled_text.proofs.Filling.{append_text-breaks, append_text-fits, text_is, wrapped-cases}
+use Rattle.tabled_text.proofs.Filling.{append_text-breaks, append_text-fits, needed-le-line, text_is, wrapped-cases}
 use Rattle.tabled_text.proofs.FitLemmas.{Each-lines, EachUnit, EachUnit-units, IsMade}
 use Rattle.tabled_text.proofs.PlainLemmas.{char_count-plain, line_columns-plain}
 
@@ -128,9 +127,6 @@ Good-char c h =
           (let z : char_columns c ≡ sum_by char_columns (c ∷ []) = omega (arith, sum_by-cons char_columns c []) in z),
     )
 
-Good-space : Good space
-Good-space = let p = plain_space in (and_from (is_additive 32) true p.0 refl, (let e = p.1 in omega (arith, sum_by-cons char_columns 32 [])))
-
 abbrev pub EachPlain : List (List ℕ) → Type 0
 EachPlain ls = Each is_additive ls
 
@@ -138,10 +134,11 @@ pub EachPlain-lines : (cs : List ℕ) → is_additive_text cs ≡ true → EachP
 EachPlain-lines cs h = Each-lines is_additive is_additive_or_feed (λ c a b. subst (λ x. (x || is_additive c) ≡ true) b a) cs h
 
 pub good-made : IsMade is_additive Good
-good-made = record { char = Good-char; word = λ cs h. (h, line_columns-plain cs h); space = Good-space }
-
-pub EachGood-units : (n : ℕ) (words : Bool) (line : List ℕ) → list_all is_additive line ≡ true → EachUnit Good (units n words line)
-EachGood-units n words line h = EachUnit-units is_additive Good good-made n words line h
+good-made = record {
+  char = Good-char;
+  word = λ cs h. (h, line_columns-plain cs h);
+  space = (and_from (is_additive 32) true plain_space.0 refl, (let e = plain_space.1 in omega (arith, sum_by-cons char_columns 32 [])));
+}
 
 -- ---- a unit that is shown stays in the line
 shown-wide : (n used : ℕ) (p : TextUnit) (rest : List ℕ) → Good p → used + needed n p ≤ n
@@ -161,9 +158,6 @@ shown-wide n used p rest g fits s =
     let w = r.1 in
     let e : min (used + p.width) n ≡ used + sum_by char_columns (replicate (n - used) 0xFFFD) = omega arith in
     stays-line n used (replicate (n - used) 0xFFFD) rest r.0 (subst (λ k. stays n k rest ≡ true) e s)) fits
-
-needed-fits : (n : ℕ) (p : TextUnit) → 0 < n → 0 + needed n p ≤ n
-needed-fits n p h = grind (arith, nat_tests)
 
 -- adding unit to unit, where what follows stays from every column on
 pub stays-append_all : (n used : ℕ) (ps : List TextUnit) (rest : List ℕ) → 0 < n → EachUnit Good ps
@@ -185,7 +179,7 @@ stays-append_all n used (p ∷ ps) rest pos g h =
     let put = append_text-breaks n used p no in
     subst (λ l. stays n (min used n) (l ++ tail) ≡ true) (sym put.0)
     (stays-break n (min used n) (shown n 0 p ++ tail) (omega arith)
-    (shown-wide n 0 p tail g.0 (needed-fits n p pos)
+    (shown-wide n 0 p tail g.0 (let l = needed-le-line n p pos in omega arith)
     (subst (λ k. stays n (min k n) tail ≡ true) (put.1 ∙ (let e : p.width ≡ 0 + p.width = omega arith in e)) more))))
     (cases_Bool (nat_le (used + needed n p) n)))
 
@@ -197,7 +191,7 @@ stays-broken : (n : ℕ) (words : Bool) → 0 < n → (line : List ℕ) (groups 
     → list_all is_additive line ≡ true → IsFullest n (units n words line) groups
     → ((k : ℕ) → k ≤ n → stays n k rest ≡ true) → stays n 0 (text_of_groups n groups ++ rest) ≡ true
 stays-broken n words pos line groups rest plain f h =
-    let all = stays-append_all n 0 (units n words line) rest pos (EachGood-units n words line plain) h in
+    let all = stays-append_all n 0 (units n words line) rest pos (EachUnit-units is_additive Good good-made n words line plain) h in
     subst (λ l. stays n 0 (l ++ rest) ≡ true) (sym (text_is n pos (units n words line) groups f))
     (subst (λ k. stays n k (append_all n 0 (units n words line) ++ rest) ≡ true) (let e : min 0 n ≡ 0 = omega arith in e) all)
 

@@ -33,14 +33,6 @@ pub record BeginsBy (P : ℕ → Type 0) (text after : List ℕ) : Type 0 where
   pub shorter : length after < length text
   pub characters : chars text ≡ first ∷ chars after
 
--- a character from U+00C0 to U+02FF or from U+0380 to U+047F, which takes one column
-abbrev pub is_narrow_letter : ℕ → Bool
-is_narrow_letter c = is_in_range 0xC0 0x2FF c || is_in_range 0x380 0x47F c
-
--- a character from U+4000 to U+9FFF, which takes two
-abbrev pub is_wide_letter : ℕ → Bool
-is_wide_letter c = is_in_range 0x4000 0x9FFF c
-
 -- ---- letters by their bytes
 
 -- a byte within a character, which continues it

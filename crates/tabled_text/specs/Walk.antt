@@ -4,7 +4,8 @@ use Rattle.std.specs.Prelude.{◌≡◌, ℕ, ◌+◌, ◌<◌, ◌≤◌, Bool,
 use Rattle.std.specs.Borrow.{Bor}
 use Rattle.std.specs.List.{list_all}
 use Rattle.std.specs.Str.{IsUtf8}
-use Rattle.tabled_text.specs.Measure.{columns_of, count_of}
+use Rattle.tabled_text.specs.Letters.{is_letter_byte}
+use Rattle.tabled_text.specs.Measure.{columns_of, count_of, lines_of, text_columns}
 use Rattle.tabled_text.specs.OldText.{all_chars_fit}
 use Rattle.tabled_text.specs.Breaking.{TextUnit, units, words_of}
 use Rattle.tabled_text.specs.Wrapping.{needed, shown}
@@ -69,6 +70,17 @@ pub record IsPiece (n : ℕ) (text piece : List ℕ) (columns : ℕ) (rest : Lis
   pub rest_utf8 : IsUtf8 rest
   pub counted : columns ≡ count_of (chars piece)
   pub fits : columns ≤ n
+
+-- `front` is the first line of letters that are broken to n columns and takes `columns`, and `rest`
+-- follows it
+pub record IsLetterLine (n : ℕ) (text front : List ℕ) (columns : ℕ) (rest : List ℕ) : Type 0 where
+  pub takes : text_columns front ≡ columns
+  pub one : length (lines_of front) ≡ 1
+  pub last : length rest ≡ 0 → written_line n false text ≡ front
+  pub more : 0 < length rest → written_line n false text ≡ front ++ 10 ∷ written_line n false rest
+  pub shorter : 0 < length rest → length rest < length text
+  pub letters : list_all is_letter_byte rest ≡ true
+  pub utf8 : IsUtf8 rest
 
 -- `x` was matched: z is expected afterwards exactly if x and then z were expected before
 abbrev pub Expects : Option (List ℕ) → List ℕ → Option (List ℕ) → Type 0

@@ -2,7 +2,7 @@
 ghost use Rattle.std.specs.Prelude.{◌≡◌, ◌<◌, ◌≤◌, ◌∷◌, [], ◌++◌, ◌+◌, chars, encode_utf8, length};
 ghost use Rattle.std.specs.Prelude.{List, MatchOption, ◌↔◌, IfSome, ℕ, IsTrue};
 ghost use Rattle.tabled_text.specs.Letters.{BeginsBy, IsLetter, is_narrow_lead, is_wide_lead};
-ghost use Rattle.tabled_text.specs.Letters.{is_narrow_letter, is_wide_letter, lead_byte};
+ghost use Rattle.tabled_text.specs.Letters.{lead_byte};
 ghost use Rattle.tabled_text.specs.Measure.{char_count};
 ghost use Rattle.tabled_text.specs.Walk.{IsPiece};
 ghost use Rattle.std.specs.List.{list_all};
@@ -15,32 +15,12 @@ ghost use Rattle.tabled_text.specs.FramedLines.{IsSeparatorColumn};
 use crate::letters::split_letters;
 use unicode_width::UnicodeWidthChar;
 
-/// Whether a character is from U+00C0 to U+02FF or from U+0380 to U+047F. Each takes one column.
-fn is_narrow_letter(c: char) -> bool
-    ensures { result ≡ is_narrow_letter c }
-{
-    matches!(c, '\u{C0}'..='\u{2FF}' | '\u{380}'..='\u{47F}')
-}
-
-/// Whether a character is from U+4000 to U+9FFF. Each takes two columns.
-fn is_wide_letter(c: char) -> bool
-    ensures { result ≡ is_wide_letter c }
-{
-    matches!(c, '\u{4000}'..='\u{9FFF}')
-}
-
 /// Returns what a character counts in cutting and wrapping: its columns, at least 1.
 pub(crate) fn char_count(c: char) -> usize
     ensures value { result ≡ char_count c }
     ensures low { 1 ≤ result }
     ensures high { result ≤ 3 }
 {
-    if is_narrow_letter(c) {
-        return 1;
-    }
-    if is_wide_letter(c) {
-        return 2;
-    }
     c.width().unwrap_or(0).max(1)
 }
 

@@ -44,8 +44,7 @@ pub fn exact_lines()
     ensures longest { (n : ℕ) (line answer : List ℕ) → IsExactLine line → IsCut n line answer
         → IsLongestCut n line answer }
     ensures kept { (n : ℕ) (line answer : List ℕ) → IsExactLine line → text_columns line ≤ n
-        → IsCut n line answer
-        → answer ≡ line }
+        → IsCut n line answer → answer ≡ line }
 {}
 
 /// The columns of lines that `meet` add up. So do those of a line between frames, and those of
@@ -58,8 +57,7 @@ pub fn lines_of_any_text()
     ensures joined { (front back : List ℕ) (m n : ℕ) → IsLine front m → IsLine back n
         → meet (chars front) (chars back) ≡ true → IsLine (front ++ back) (m + n) }
     ensures framed { (left line right : List ℕ) (k n l : ℕ) → IsFrame left k → IsLine line n
-        → IsFrame right l
-        → IsLine (left ++ (line ++ right)) (k + (n + l)) }
+        → IsFrame right l → IsLine (left ++ (line ++ right)) (k + (n + l)) }
     ensures pieces { (first : List ℕ) (m : ℕ) (pieces : List (List ℕ)) → IsLine first m
         → All (λ p. IsLine p (line_columns p)) pieces → All (λ p. begins_apart (chars p)
         ≡ true) pieces

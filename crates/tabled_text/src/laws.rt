@@ -116,8 +116,7 @@ pub fn cut_texts()
     ensures longest { (n : ℕ) (line answer : List ℕ) → list_all is_additive (chars line) ≡ true
         → IsCut n line answer → IsLongestCut n line answer }
     ensures kept { (n m : ℕ) (line answer : List ℕ) → IsAdditiveLine line m → m ≤ n
-        → IsCut n line answer
-        → answer ≡ line }
+        → IsCut n line answer → answer ≡ line }
 {}
 
 /// A text can be broken to n ≥ 1 columns exactly if each of its units fits, for example if no
@@ -138,17 +137,14 @@ pub fn breakings()
 /// breaking: the old text with line feeds inserted.
 pub fn wrapped_texts()
     ensures room { (n : ℕ) (words : Bool) (text answer : List ℕ) → IsAdditive text
-        → IsWrapped n words text answer
-        → StaysWithin n answer }
+        → IsWrapped n words text answer → StaysWithin n answer }
     ensures fewest { (n : ℕ) (words : Bool) (text answer : List ℕ) → IsWrapped n words text answer
         → HasFewestLines n words text answer }
     ensures least { (n : ℕ) (words : Bool) (text answer : List ℕ) → 0 < n
         → EachUnitFits n words text
         → IsWrapped n words text answer → IsLeastBreaking n words text answer }
     ensures whole { (n : ℕ) (words : Bool) (text answer : List ℕ) → 0 < n
-        → EachUnitFits n words text
-        → IsWrapped n words text answer → HasOldText text answer }
+        → EachUnitFits n words text → IsWrapped n words text answer → HasOldText text answer }
     ensures kept { (n : ℕ) (words : Bool) (text answer : List ℕ) → 0 < n → IsAdditive text
-        → text_columns text ≤ n
-        → IsWrapped n words text answer → answer ≡ text }
+        → text_columns text ≤ n → IsWrapped n words text answer → answer ≡ text }
 {}

@@ -13,9 +13,9 @@ ghost use Rattle.tabled_text.specs.Breaking.{IsLeastBreaking};
 ghost use Rattle.tabled_text.specs.Wrapping.{IsWrapped};
 ghost use Rattle.tabled_text.specs.Walk.{BreaksAt, words_in, begin_at, begin_text, append_text};
 ghost use Rattle.tabled_text.specs.Walk.{append_used, append_all, used_after, pending};
-ghost use Rattle.tabled_text.specs.Walk.{written_line};
+ghost use Rattle.tabled_text.specs.Walk.{written_line, IsLetterLine};
 
-use crate::character::{char_count, split_first, split_piece};
+use crate::character::{char_count, split_count, split_first, split_piece};
 use crate::letters::{HALF_BLOCK, is_letter_text, whole_columns};
 use crate::measure::{is_printable, line_width, lines, text_measures};
 use crate::runs::{is_run, split_at_byte};
@@ -46,8 +46,7 @@ fn append_word<S: Sink>(
     requires { width ≤ n }
     ensures used { IfOk result (λ column.
         column ≡ append_used n used (record { text = chars word.now; width = width })) }
-    ensures text { OnOk result (S.adds out.old
-        (encode_utf8_all (append_text n used
+    ensures text { OnOk result (S.adds out.old (encode_utf8_all (append_text n used
         (record { text = chars word.now; width = width }))) out.new) }
 {
     let column = begin(out, used, n, width)?;
@@ -224,10 +223,31 @@ fn append_printable<S: Sink>(
     Ok((widest.max(rest.len()), count))
 }
 
+/// Splits the first line off letters that are broken to n columns. Returns the line, its columns
+/// and the rest. The line of a letter that is wider than n columns is U+FFFD.
+#[inline(always)]
+fn split_letter_line(text: &str, n: usize) -> (&str, usize, &str)
+    requires some { 0 < n }
+    requires letters { list_all is_letter_byte text.now ≡ true }
+    ensures { IsLetterLine n text.now result.0.now result.1 result.2.now }
+{
+    if n > 1 {
+        return split_piece(text, n);
+    }
+    let Some((count, after)) = split_count(text) else {
+        return (text, 0, text);
+    };
+    if count > 1 {
+        return ("\u{FFFD}", 1, after);
+    }
+    let (front, _) = text.split_at(text.len() - after.len());
+    (front, 1, after)
+}
+
 /// Writes a line of letters, broken between characters. Returns the columns and the number of lines
 /// of what it wrote.
 fn append_letters<S: Sink>(out: &mut S, n: usize, line: &str) -> Result<(usize, usize), S::Error>
-    requires some { 1 < n }
+    requires some { 0 < n }
     requires letters { list_all is_letter_byte line.now ≡ true }
     ensures columns { IfOk result (λ answer.
         answer.0 ≡ text_columns (written_line n false line.now)) }
@@ -239,7 +259,7 @@ fn append_letters<S: Sink>(out: &mut S, n: usize, line: &str) -> Result<(usize, 
     let mut count: usize = 1;
     let mut rest = line;
     'lines: loop {
-        let (piece, columns, after) = split_piece(rest, n);
+        let (piece, columns, after) = split_letter_line(rest, n);
         out.append_str(piece)?;
         widest = widest.max(columns);
         if after.is_empty() {
@@ -321,10 +341,7 @@ fn is_letter_line(text: &str) -> bool
     if bytes.len() >= HALF_BLOCK {
         return whole_columns(bytes).is_some();
     }
-    if is_run(bytes, 0, b' ', u8::MAX) {
-        return is_letter_text(text);
-    }
-    false
+    is_run(bytes, 0, b' ', u8::MAX) && is_letter_text(text)
 }
 
 /// Whether a text is a line of letters, and one word if words are kept.
@@ -335,10 +352,7 @@ fn breaks_letters(text: &str, words: bool) -> bool
     if !words {
         return is_letter_line(text);
     }
-    if is_run(text.as_bytes(), 0, b'!', u8::MAX) {
-        return is_letter_line(text);
-    }
-    false
+    is_run(text.as_bytes(), 0, b'!', u8::MAX) && is_letter_line(text)
 }
 
 /// Replaces `out` by a text wrapped to lines of at most n columns, as `wrap_text` returns it.
@@ -366,7 +380,7 @@ pub fn wrap_into(
     if is_printable(text) {
         return append_printable(out, n, words, text);
     }
-    if n > 1 && breaks_letters(text, words) {
+    if breaks_letters(text, words) {
         return append_letters(out, n, text);
     }
     append_lines(out, n, words, text)?;
