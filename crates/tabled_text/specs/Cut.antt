@@ -41,6 +41,12 @@ pub record IsCut (n : ℕ) (text answer : List ℕ) : Type 0 where
   pub utf8 : IsUtf8 answer
   pub characters : chars answer ≡ front ++ replicate (missing_columns n front rest) 0xFFFD
 
+-- the cut text was appended
+pub record AddsCut (n : ℕ) (text old new : List ℕ) : Type 0 where
+  pub piece : List ℕ
+  pub cut : IsCut n text piece
+  pub added : new ≡ old ++ piece
+
 -- the cut text, and the rest after the cut
 pub record IsSplit (n : ℕ) (text answer after : List ℕ) : Type 0 where
   pub cut : IsCut n text answer

@@ -1,9 +1,10 @@
 //! Cuts texts to n columns.
 ghost use Rattle.std.specs.Prelude.{◌≡◌, ◌++◌, ◌<◌, chars, length, replicate, take};
-ghost use Rattle.std.specs.Prelude.{encode_utf8_all, IfNone, IfOk, IfSome, OnErr, IsUtf8};
+ghost use Rattle.std.specs.Prelude.{encode_utf8_all, IfNone, IfOk, IfSome, IsUtf8, OnErr, OnOk};
+ghost use Rattle.std.specs.Prelude.{string_bytes};
 ghost use Rattle.std.specs.Str.{IsCharBoundary};
 ghost use Rattle.std.specs.Cow.{cow_str_bytes, IsOwnedStr};
-ghost use Rattle.tabled_text.specs.Cut.{IsCut, IsSplit, IsParted, NeedsFill};
+ghost use Rattle.tabled_text.specs.Cut.{AddsCut, IsCut, IsSplit, IsParted, NeedsFill};
 
 use crate::character::split_count;
 use crate::letters::split_letters;
@@ -78,6 +79,15 @@ fn fill(alloc: Global, front: &str, missing: usize) -> Result<CowStr<'_, Global>
     let mut answer = String::from_str(alloc, front)?;
     append_copies(&mut answer, '\u{FFFD}', missing)?;
     Ok(CowStr::Owned(answer))
+}
+
+/// Appends a text as `cut_str` cuts it. Error: an allocation failed.
+pub fn append_cut(out: &mut String, text: &str, n: usize) -> Result<(), AllocError>
+    ensures { OnOk result (AddsCut n text.now (string_bytes out.old) (string_bytes out.new)) }
+{
+    let (front, missing, _) = part(text, n);
+    out.push_str(front)?;
+    append_copies(out, '\u{FFFD}', missing)
 }
 
 /// Cuts a text as soon as one of its lines is n columns wide, even before a line feed. Each

@@ -39,7 +39,7 @@ mod wrap;
 pub use character::{
     is_additive, is_additive_column, is_plain, is_plain_column, is_separator_column,
 };
-pub use cut::{cut_length, cut_str, split_str};
+pub use cut::{append_cut, cut_length, cut_str, split_str};
 pub use fewest_lines::is_fullest;
 pub use letters::is_letter_text;
 pub use measure::{
