@@ -4,7 +4,7 @@ use Rattle.tabled_records.proofs.Names.{HoldsAlong, IsFinite, IsFiniteIterable, 
 use Rattle.tabled_records.proofs.Names.{Some, Yields, [], ap, append-nil, arith, cells_ahead, false, length, refl, subst, sym, true, ◌++◌}
 use Rattle.tabled_records.proofs.Names.{◌∙◌, ◌∷◌, ◌≡◌}
 use Rattle.std.specs.Prelude.{MatchOption, ⊤}
-use Rattle.std.specs.Vec.Iter.{into_iter_items, into_iter_len, into_iter_steps}
+use Rattle.std.specs.Vec.Iter.{into_iter_items, into_iter_len}
 use Rattle.std.specs.declared.vec.Vec.{Vec}
 use Rattle.std.specs.declared.vec.IntoIter.{IntoIter}
 use Rattle.std.specs.declared.alloc.Global.{Global}
@@ -66,38 +66,21 @@ module _ {T A : Type 0} (steps : T → Option A → T → Type 0) where
   abbrev CellSteps : BufCells A T → Option A → BufCells A T → Type 0
   CellSteps = buf_cell_steps steps
 
-  kept_step : (c : IntoIter A Global) (x : A) (j : BufCells A T) → CellSteps (Kept c) (Some x) j
-      → (d : IntoIter A Global) × (j ≡ Kept d) × into_iter_steps c (Some x) d
-  kept_step c x (Kept d) h = (d, refl, h)
-  kept_step c x (Later d) h = absurd h
-
-  kept_end : (c : IntoIter A Global) (u : BufCells A T) → CellSteps (Kept c) None u → into_iter_len c ≡ 0
-  kept_end c (Kept d) h = h.0
-  kept_end c (Later d) h = absurd h
-
-  later_step : (c : T) (x : A) (j : BufCells A T) → CellSteps (Later c) (Some x) j → (d : T) × (j ≡ Later d) × steps c (Some x) d
-  later_step c x (Kept d) h = absurd h
-  later_step c x (Later d) h = (d, refl, h)
-
-  later_end : (c : T) (u : BufCells A T) → CellSteps (Later c) None u → (d : T) × steps c None d
-  later_end c (Kept d) h = absurd h
-  later_end c (Later d) h = (d, h)
-
   kept_run : (c : IntoIter A Global) (t u : BufCells A T) (items : List A) → into_iter_len c ≡ length (into_iter_items c)
       → Yields CellSteps (Kept c) items t → CellSteps t None u → items ≡ into_iter_items c
-  kept_run c t u [] n y e =
-      let none = kept_end c u (subst (λ k. CellSteps k None u) (sym y) e) in sym (nil_from_length (into_iter_items c) (omega (arith, n, none)))
-  kept_run c t u (x ∷ xs) n y e =
-      let one = kept_step c x y.0 y.1 in
-      let more = kept_run one.0 t u xs (omega (arith, n, one.2.1, ap length one.2.0)) (subst (λ k. Yields CellSteps k xs t) one.1 y.2) e in
-      ap (λ l. x ∷ l) more ∙ sym one.2.0
+  kept_run c t (Kept d) [] n y e =
+      let none = (subst (λ k. CellSteps k None (Kept d)) (sym y) e).0 in sym (nil_from_length (into_iter_items c) (omega (arith, n, none)))
+  kept_run c t (Later d) [] n y e = absurd (subst (λ k. CellSteps k None (Later d)) (sym y) e)
+  kept_run c t u (x ∷ xs) n (Kept d, h, y) e =
+      let more = kept_run d t u xs (omega (arith, n, h.1, ap length h.0)) y e in ap (λ l. x ∷ l) more ∙ sym h.0
+  kept_run c t u (x ∷ xs) n (Later d, h, y) e = absurd h
 
   later_run : (c : T) (t u : BufCells A T) (items : List A) → Yields CellSteps (Later c) items t → CellSteps t None u → Drains steps c items
-  later_run c t u [] y e = let last = later_end c u (subst (λ k. CellSteps k None u) (sym y) e) in (last.0, (c, refl, last.1))
-  later_run c t u (x ∷ xs) y e =
-      let one = later_step c x y.0 y.1 in
-      let more = later_run one.0 t u xs (subst (λ k. Yields CellSteps k xs t) one.1 y.2) e in
-      (more.0, (more.1.0, (one.0, one.2, more.1.1), more.1.2))
+  later_run c t (Kept d) [] y e = absurd (subst (λ k. CellSteps k None (Kept d)) (sym y) e)
+  later_run c t (Later d) [] y e = (d, (c, refl, subst (λ k. CellSteps k None (Later d)) (sym y) e))
+  later_run c t u (x ∷ xs) (Kept d, h, y) e = absurd h
+  later_run c t u (x ∷ xs) (Later d, h, y) e =
+      let more = later_run d t u xs y e in (more.0, (more.1.0, (d, h, more.1.1), more.1.2))
 
 -- ---- the rows
 

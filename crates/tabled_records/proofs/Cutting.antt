@@ -1,6 +1,6 @@
 -- What holds while a text is cut into cells and rows.
-use Rattle.tabled_records.proofs.Names.{All, All-nil, AreKept, AreRanges, HasNo, IsCharBoundary, IsCharBoundary-after_ascii, IsPrintable}
-use Rattle.tabled_records.proofs.Names.{IsUtf8, List, [], ap, append_assoc, arith, behind, cases_lt, drop, drop-append-le, false, get_or}
+use Rattle.tabled_records.proofs.Names.{All, All-nil, AreKept, AreRanges, Bool, HasNo, IsCharBoundary, IsCharBoundary-after_ascii, IsUtf8}
+use Rattle.tabled_records.proofs.Names.{List, [], ap, append_assoc, arith, behind, cases_lt, drop, drop-append-le, false, get_or}
 use Rattle.tabled_records.proofs.Names.{get_or-drop, get_or-take, is_in_range, length, length-append, length-drop, length-take, map-append}
 use Rattle.tabled_records.proofs.Names.{part, parts, refl, slice_range, subst, sym, take, take-length, texts_from, true, ℕ, ◌++◌, ◌+◌, ◌-◌}
 use Rattle.tabled_records.proofs.Names.{◌<◌, ◌==◌, ◌∙◌, ◌∷◌, ◌≡◌, ◌≤◌}
@@ -11,7 +11,7 @@ use Rattle.std.proofs.lemmas.Str.{IsCharBoundary-start}
 use Rattle.std.proofs.lemmas.List.Folds.{drop_split}
 use Rattle.std.proofs.lemmas.List.Elements.{All-from_get_or}
 use Rattle.std.proofs.lemmas.List.Sums.{list_all-from_AllPass}
-use Rattle.tabled_records.specs.LentRows.{IsLent}
+use Rattle.tabled_records.specs.Joined.{IsLent, IsPrintable}
 use Rattle.tabled_records.proofs.Joining.{behind-next, kept-next, length-texts, texts-next}
 use Rattle.tabled_records.proofs.Rows.{part-last, parts-append, ranges-grown, ranges-next}
 use Rattle.tabled_records.proofs.RowsLeft.{prepended, prepended-more, prepended-none, rows-end, rows-feed, rows-tab, rows_of}
@@ -215,3 +215,24 @@ pub printable-run : (text : List ℕ) (start end : ℕ) → end ≤ length text
     → ((k : ℕ) → start ≤ k → k < end → is_in_range 0x20 0x7E (get_or text k 0) ≡ true) → IsPrintable (slice_range text start end)
 printable-run text start end l run =
     list_all-from_AllPass (is_in_range 0x20 0x7E) (slice_range text start end) (all-range (λ b. is_in_range 0x20 0x7E b ≡ true) text start end l run)
+
+-- the cells and rows so far, and the byte of the next cell that was reached
+pub record IsSplit (text : List ℕ) (cells ranges : List (ℕ × ℕ)) (start first at : ℕ) (plain : Bool) : Type 0 where
+  pub inside : at ≤ length text
+  pub cut : IsCut text cells ranges start first
+  pub within : IsWithin text start at
+  pub printable : plain ≡ true → IsPrintable (slice_range text start at)
+
+-- a run of printable bytes is all of a cell so far
+pub split-begun : (text bytes : List ℕ) (cells ranges : List (ℕ × ℕ)) (start first at : ℕ) (plain : Bool) → bytes ≡ text
+    → IsCut text cells ranges start first → start ≤ at → at ≤ length bytes
+    → ((k : ℕ) → start ≤ k → k < at → is_in_range 0x20 0x7E (get_or bytes k 0) ≡ true) → IsSplit text cells ranges start first at plain
+split-begun text bytes cells ranges start first at plain same cut from ends run =
+    let inside : at ≤ length text = omega (arith, ends, ap length same) in
+    let own = subst (λ t. (k : ℕ) → start ≤ k → k < at → is_in_range 0x20 0x7E (get_or t k 0) ≡ true) same run in
+    record {
+      inside = inside;
+      cut = cut;
+      within = within-run text start start at 0x7E from own (within-none text start);
+      printable = λ _. printable-run text start at inside own;
+    }

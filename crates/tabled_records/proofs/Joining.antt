@@ -1,13 +1,13 @@
 -- Texts that stand one behind another in one text, to which more is added.
-use Rattle.tabled_records.proofs.Names.{AreKept, AreLines, IsCharBoundary-at_seam, IsJoined, List, [], ap, arith, begin, behind, cases_lt}
-use Rattle.tabled_records.proofs.Names.{drop, drop-append-le, drop-append_seam, get_or, get_or-take, get_or_append_left, inl, inr, length}
-use Rattle.tabled_records.proofs.Names.{length-append, length-drop, lines_of, max, refl, slice_range, subst, suc, sym, take, take-append-le}
-use Rattle.tabled_records.proofs.Names.{text_columns, texts_from, zero, ℕ, ◌++◌, ◌+◌, ◌-◌, ◌<◌, ◌∙◌, ◌∷◌, ◌≡◌, ◌≤◌}
+use Rattle.tabled_records.proofs.Names.{AreKept, AreLines, IsCharBoundary, IsCharBoundary-at_seam, IsJoined, IsUtf8, List, [], ap, arith}
+use Rattle.tabled_records.proofs.Names.{begin, behind, cases_lt, drop, drop-append-le, drop-append_seam, get_or, get_or-take}
+use Rattle.tabled_records.proofs.Names.{get_or_append_left, inl, inr, length, length-append, length-drop, lines_of, max, refl, slice_range}
+use Rattle.tabled_records.proofs.Names.{subst, suc, sym, take, take-append-le, text_columns, texts_from, zero, ℕ, ◌++◌, ◌+◌, ◌-◌, ◌<◌, ◌∙◌}
+use Rattle.tabled_records.proofs.Names.{◌∷◌, ◌≡◌, ◌≤◌}
 use Rattle.std.proofs.Common.{Result, Ok, Err, OnErr, OnOk}
 use Rattle.std.proofs.lemmas.List.{take_all, get_or-append-add}
 use Rattle.std.proofs.Math.ListN.{get_or-append}
 use Rattle.std.proofs.lemmas.Str.{IsCharBoundary-end}
-use Rattle.std.specs.Prelude.{IsCharBoundary, IsUtf8}
 use Rattle.tabled_text.proofs.PlainLines.{plain_line-nil}
 use Rattle.tabled_records.specs.Joined.{AreFilled, AreJoined, AreMeasures}
 

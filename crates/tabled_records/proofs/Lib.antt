@@ -1,16 +1,12 @@
 pub mod BufferedRuns
-pub mod CutRuns
 pub mod Cutting
 pub mod EmptyRuns
-pub mod FirstRuns
 pub mod Joining
-pub mod LaterRuns
-pub mod LimitedRuns
 pub mod Names
-pub mod PassRuns
 pub mod Rows
 pub mod RowsLeft
 pub mod RowsRead
 pub mod Runs
 pub mod Splitting
 pub mod TextCells
+pub mod ViewRuns

@@ -1,16 +1,16 @@
 -- Rows whose texts stand in one list.
-use Rattle.tabled_records.proofs.Names.{All-append, All-cons, All-head, All-nil, All-tail, AreRanges, List, [], ap, arith, cell_at}
-use Rattle.tabled_records.proofs.Names.{cells_of, columns, drop, drop-append-le, drop-append_seam, get_or, get_or-drop, get_or-take}
-use Rattle.tabled_records.proofs.Names.{get_or_append_left, greatest, length, length-append, length-drop, length-lengthened, length-map}
-use Rattle.tabled_records.proofs.Names.{length-take, lengthened, lengthened_rows, longest_range, map, map-append, max, most_cells, part}
-use Rattle.tabled_records.proofs.Names.{parts, refl, replicate, rows_in, suc, sym, take, take-append-le, take-length, with_record, zero, ℕ}
-use Rattle.tabled_records.proofs.Names.{◌++◌, ◌+◌, ◌-◌, ◌<◌, ◌∙◌, ◌∷◌, ◌≡◌, ◌≤◌}
+use Rattle.tabled_records.proofs.Names.{All-append, All-cons, All-head, All-nil, All-tail, AreRanges, IsRectangular, List, [], ap, arith}
+use Rattle.tabled_records.proofs.Names.{cell_at, cells_of, columns, drop, drop-append-le, drop-append_seam, get_or, get_or-drop}
+use Rattle.tabled_records.proofs.Names.{get_or-take, get_or_append_left, greatest, length, length-append, length-drop, length-lengthened}
+use Rattle.tabled_records.proofs.Names.{length-map, length-take, lengthened, lengthened_rows, longest_range, map, map-append, max}
+use Rattle.tabled_records.proofs.Names.{most_cells, part, parts, refl, replicate, rows_in, suc, sym, take, take-append-le, take-length}
+use Rattle.tabled_records.proofs.Names.{with_record, zero, ℕ, ◌++◌, ◌+◌, ◌-◌, ◌<◌, ◌∙◌, ◌∷◌, ◌≡◌, ◌≤◌}
 use Rattle.std.proofs.lemmas.List.{get_or-append_right, get_or-map}
 use Rattle.std.proofs.lemmas.Simd.{map-map}
 use Rattle.tabled_base.proofs.Lengthening.{lengthened-rectangular}
 use Rattle.tabled_base.proofs.LengthenedRows.{lengthened_rows-more, rectangular-longest}
-use Rattle.tabled_base.specs.Cells.{IsRectangular, longest}
-use Rattle.tabled_records.specs.Written.{AreWritten, Written, with_text, written_in}
+use Rattle.tabled_base.specs.Cells.{longest}
+use Rattle.tabled_records.specs.Joined.{AreWritten, Written, with_text, written_in}
 
 length-part : {A : Type 0} (texts : List A) (range : ℕ × ℕ) → range.0 + range.1 ≤ length texts → length (part texts range) ≡ range.1
 length-part texts range h = omega (arith, length-take range.1 (drop range.0 texts), length-drop range.0 texts)

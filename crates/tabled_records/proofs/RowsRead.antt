@@ -1,8 +1,7 @@
 -- Rows that are read of an iterator.
-use Rattle.tabled_records.proofs.Names.{All-head, All-tail, Count, Given, IsFinite, IsFiniteIterable, List, MayGive, Reads, ReadsTo}
-use Rattle.tabled_records.proofs.Names.{RowsBegin, Yields-both, [], arith, false, length, length-append, refl, true, ℕ, ◌++◌, ◌<◌, ◌∷◌}
-use Rattle.std.specs.declared.option.Option.{Option}
-use Rattle.std.specs.declared.option.Option.TheVariants.{Some, None}
+use Rattle.tabled_records.proofs.Names.{All-head, All-tail, Count, Given, IsFinite, IsFiniteIterable, List, MayGive, None, Option, Reads}
+use Rattle.tabled_records.proofs.Names.{ReadsTo, RowsBegin, Some, Yields-both, [], arith, false, length, length-append, refl, true, ℕ, ◌++◌}
+use Rattle.tabled_records.proofs.Names.{◌<◌, ◌∷◌}
 use Rattle.tabled_records.proofs.Runs.{zip_append}
 use Rattle.tabled_records.specs.Reading.{ReadsSome}
 

@@ -2,7 +2,7 @@
 use Rattle.tabled_records.proofs.Names.{All, All-cons, All-head, All-nil, All-tail, AllZip, AreChanged, Bool, Count, Given, IsFinite}
 use Rattle.tabled_records.proofs.Names.{IsFiniteIterable, List, Option, RowsBegin, RowsEnd, RowsGiven, Yields, [], ap, map, refl, subst}
 use Rattle.tabled_records.proofs.Names.{sym, true, ◌++◌, ◌∙◌, ◌∷◌, ◌≡◌}
-use Rattle.tabled_records.specs.RowByRow.{RowOfRow}
+use Rattle.tabled_records.specs.Views.{RowOfRow}
 
 -- lists that go together, with others behind them
 pub zip_append : {X Y : Type 0} (R : X → Y → Type 0) (xs us : List X) (ys vs : List Y) → AllZip R xs ys → AllZip R us vs → AllZip R (xs ++ us) (ys ++ vs)

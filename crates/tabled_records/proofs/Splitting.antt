@@ -1,7 +1,6 @@
 -- The rows of a text.
-use Rattle.tabled_records.proofs.Names.{All-cons, All-map, All-nil, IsRectangular, List, [], arith, cells_of, get_or, length}
+use Rattle.tabled_records.proofs.Names.{All, All-cons, All-map, All-nil, IsRectangular, List, [], arith, cells_of, get_or, length}
 use Rattle.tabled_records.proofs.Names.{length-lengthened, lengthened, map, most_cells, ℕ, ◌∷◌, ◌≡◌, ◌≤◌}
-use Rattle.std.proofs.Common.{All}
 use Rattle.tabled_base.proofs.Lengthening.{rectangular-from_length}
 
 -- no line has more cells than the longest

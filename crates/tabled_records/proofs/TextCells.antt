@@ -1,9 +1,8 @@
 -- The cells of a text are texts.
-use Rattle.tabled_records.proofs.Names.{All-append, All-cons, All-map, All-nil, Bool, IsCharBoundary-after_ascii, IsUtf8, List, [], arith}
-use Rattle.tabled_records.proofs.Names.{cases_lt, cells_of, cond, drop, get_or, inl, inr, length, length-drop, lengthened, lines_of}
+use Rattle.tabled_records.proofs.Names.{All, All-append, All-cons, All-map, All-nil, Bool, IsCharBoundary-after_ascii, IsUtf8, List, []}
+use Rattle.tabled_records.proofs.Names.{arith, cases_lt, cells_of, cond, drop, get_or, inl, inr, length, length-drop, lengthened, lines_of}
 use Rattle.tabled_records.proofs.Names.{most_cells, replicate, slice_split_none, subst, suc, sym, take, zero, ℕ, ◌+◌, ◌-◌, ◌<◌, ◌==◌, ◌≡◌}
 use Rattle.tabled_records.proofs.Names.{◌≤◌}
-use Rattle.std.proofs.Common.{All}
 use Rattle.std.specs.List.{position_or_len, slice_index, slice_split}
 use Rattle.std.proofs.lemmas.Bool.{cases_Bool, eqb-true}
 use Rattle.std.proofs.lemmas.List.Elements.{All-replicate}

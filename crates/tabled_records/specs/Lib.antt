@@ -1,13 +1,6 @@
 pub mod Buffered
-pub mod CutRows
 pub mod Empty
-pub mod FirstCells
 pub mod Joined
-pub mod JoinedRows
-pub mod LaterRows
-pub mod LentRows
-pub mod Limited
 pub mod Reading
-pub mod RowByRow
 pub mod TextRows
-pub mod Written
+pub mod Views

@@ -21,7 +21,7 @@ pub struct FlatRows<C> {
 
 impl<C> Model for FlatRows<C> {
     ghost use Rattle.std.specs.Prelude.{List, length};
-    ghost use Rattle.tabled_records.specs.JoinedRows.{AreRanges, parts};
+    ghost use Rattle.tabled_records.specs.Joined.{AreRanges, parts};
 
     ghost Value = { List (List C) };
 

@@ -2,23 +2,22 @@
 //! are appended.
 ghost use Rattle.std.specs.Iterator.{IsFiniteIterable};
 ghost use Rattle.std.specs.List.{slice_index_or, slice_range};
-ghost use Rattle.std.specs.Prelude.{IfErr, IfOk, IfSome, List, OnErr, OnOk, [], drop, length, map};
+ghost use Rattle.std.specs.Prelude.{IfErr, IfOk, List, OnErr, OnOk, [], length, map};
 ghost use Rattle.std.specs.Prelude.{true, ℕ, ◌++◌, ◌+◌, ◌<◌, ◌∷◌, ◌≡◌, ◌≤◌};
 ghost use Rattle.std.specs.Str.{IsCharBoundary};
 ghost use Rattle.tabled_base.specs.Cells.{IsInside, cell_at, lengthened, with_record};
 ghost use Rattle.tabled_base.specs.Given.{Given};
 ghost use Rattle.tabled_base.specs.declared.error.TableError.TheVariants.{Memory};
-ghost use Rattle.tabled_records.specs.Joined.{AreKept, AreMeasures, measures_of, texts_from};
-ghost use Rattle.tabled_records.specs.JoinedRows.{AreRanges, rows_in};
-ghost use Rattle.tabled_records.specs.LentRows.{HasNo, IsLent, IsPrintable};
 ghost use Rattle.tabled_records.specs.TextRows.{cells_of, most_cells, text_rows};
-ghost use Rattle.tabled_text.specs.Measure.{lines_of};
+ghost use Rattle.tabled_text.specs.Measure.{lines_of, text_columns};
+ghost use Rattle.tabled_records.specs.Joined.{AreKept, AreMeasures, AreRanges, HasNo, IsLent};
+ghost use Rattle.tabled_records.specs.Joined.{IsPrintable, rows_in, texts_from};
 
 use crate::row_ranges::{Pairs, RowRanges};
 use std::alloc::{AllocError, Global};
 use std::marker::Model;
 use tabled_base::{CellText, ExactRecords, PeekableRecords, Position, TableError};
-use tabled_text::{columns_between, run_end, tail_measures};
+use tabled_text::{columns_between, run_end, text_measures};
 
 /// Rows whose cells borrow one text. Rows shorter than the longest end with empty cells.
 #[derive(Debug, Drop)]
@@ -186,20 +185,6 @@ fn lines_at(lines: &[usize], place: usize) -> usize
     lines.get(place).copied().unwrap_or(1)
 }
 
-/// Returns the columns and the lines of a text from byte `start` on, and measures them unless they
-/// are known.
-#[inline(always)]
-fn tail_measures_or(text: &str, start: usize, known: Option<(usize, usize)>) -> (usize, usize)
-    requires begins { IsCharBoundary text.now start }
-    requires known { IfSome known (λ known. known ≡ measures_of (drop start text.now)) }
-    ensures { result ≡ measures_of (drop start text.now) }
-{
-    match known {
-        Some(measures) => measures,
-        None => tail_measures(text, start),
-    }
-}
-
 /// Stores the end, the columns and the lines of a text. If it fails, those of the texts before it
 /// are unchanged.
 #[inline(always)]
@@ -239,17 +224,6 @@ impl JoinedTexts {
         }
     }
 
-    /// Makes an empty list that `count` texts fit, their bytes aside.
-    pub fn with_capacity(alloc: Global, count: usize) -> Result<JoinedTexts, AllocError>
-        ensures { IfOk result (λ texts. texts ≡ []) }
-    {
-        Ok(JoinedTexts {
-            whole: String::new(alloc),
-            ends: Pairs::with_capacity(alloc, count)?,
-            lines: Vec::new(alloc),
-        })
-    }
-
     /// Returns the number of texts.
     pub fn len(&self) -> usize
         ensures { result ≡ length self.now }
@@ -272,18 +246,17 @@ impl JoinedTexts {
         }
     }
 
-    /// Adds a text. `known` are its columns and lines, if they are known. If it fails, the texts
-    /// are unchanged.
+    /// Adds a text with its columns and lines. If it fails, the texts are unchanged.
     #[inline(always)]
-    pub fn push(&mut self, text: &str, known: Option<(usize, usize)>) -> Result<(), AllocError>
-        requires { IfSome known (λ known. known ≡ measures_of text.now) }
+    pub fn push(&mut self, text: &str, columns: usize, lines: usize) -> Result<(), AllocError>
+        requires columns { columns ≡ text_columns text.now }
+        requires lines { lines ≡ length (lines_of text.now) }
         ensures ok { OnOk result (self.new ≡ self.old ++ text.now ∷ []) }
         ensures err { OnErr result (self.new ≡ self.old) }
     {
         let start = self.whole.as_str().len();
         self.whole.push_str(text)?;
         let end = self.whole.as_str().len();
-        let (columns, lines) = tail_measures_or(self.whole.as_str(), start, known);
         let count = self.ends.len();
         match push_ends(&mut self.ends, &mut self.lines, (end, columns), lines) {
             Ok(()) => Ok(()),
@@ -305,7 +278,7 @@ pub struct JoinedRecords {
 
 impl Model for JoinedRecords {
     ghost use Rattle.std.specs.Prelude.{ℕ, List, length};
-    ghost use Rattle.tabled_records.specs.JoinedRows.{AreRanges, rows_in};
+    ghost use Rattle.tabled_records.specs.Joined.{AreRanges, rows_in};
 
     ghost Value = { List (List (List ℕ)) };
 
@@ -326,7 +299,9 @@ where
 {
     let cells = cells.into_iter();
     for cell in cells {
-        texts.push(cell.text(), None)?;
+        let text = cell.text();
+        let (columns, lines) = text_measures(text);
+        texts.push(text, columns, lines)?;
     }
     Ok(())
 }

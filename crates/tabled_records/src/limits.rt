@@ -1,11 +1,9 @@
 //! Views of a part of records: the first rows, the rows after them, the first cells of each row.
 ghost use Rattle.std.specs.Prelude.{◌≡◌, true, drop, ◌<◌, map, take};
-ghost use Rattle.tabled_records.specs.Limited.{IsLimited};
-ghost use Rattle.tabled_records.specs.RowByRow.{AreChanged, RowOfRow, changed_of};
 ghost use Rattle.tabled_records.specs.Reading.{MayGive};
-ghost use Rattle.tabled_records.specs.LaterRows.{SkipsRows};
 ghost use Rattle.std.specs.Iterator.{IsFinite};
-ghost use Rattle.tabled_records.specs.FirstCells.{first_cells_steps};
+ghost use Rattle.tabled_records.specs.Views.{AreChanged, IsLimited, RowOfRow, SkipsRows};
+ghost use Rattle.tabled_records.specs.Views.{changed_of, first_cells_steps};
 
 use crate::reading::walk_rest;
 use std::iter::Take;

@@ -1,9 +1,9 @@
 //! Records that are written text by text.
-ghost use Rattle.std.specs.Prelude.{IfErr, IfOk, OnErr, OnOk, [], length, ◌≡◌};
+ghost use Rattle.std.specs.Prelude.{IfErr, OnErr, OnOk, [], length, ◌≡◌};
 ghost use Rattle.tabled_base.specs.Cells.{lengthened_rows};
 ghost use Rattle.tabled_base.specs.declared.error.TableError.TheVariants.{Memory};
-ghost use Rattle.tabled_records.specs.Written.{with_row_ended, with_text};
 ghost use Rattle.tabled_text.specs.Measure.{lines_of, text_columns};
+ghost use Rattle.tabled_records.specs.Joined.{with_row_ended, with_text};
 
 use crate::joined_records::{JoinedRecords, JoinedTexts};
 use crate::row_ranges::RowRanges;
@@ -29,7 +29,7 @@ pub struct RecordsWriter {
 }
 
 impl Model for RecordsWriter {
-    ghost use Rattle.tabled_records.specs.Written.{AreWritten, Written, written_in};
+    ghost use Rattle.tabled_records.specs.Joined.{AreWritten, Written, written_in};
 
     ghost Value = { Written };
 
@@ -50,26 +50,6 @@ impl RecordsWriter {
         }
     }
 
-    /// Makes a writer with no rows, and allocates for `rows` rows of `columns` texts what they take
-    /// beside their bytes. Error: `Memory`.
-    pub fn with_capacity(
-        alloc: Global,
-        rows: usize,
-        columns: usize,
-    ) -> Result<RecordsWriter, TableError>
-        ensures ok { IfOk result (λ writer. writer ≡ record { rows = []; begun = [] }) }
-        ensures only { IfErr result (λ e. e ≡ Memory) }
-    {
-        let Some(count) = rows.checked_mul(columns) else {
-            return Err(TableError::Memory);
-        };
-        Ok(RecordsWriter {
-            texts: JoinedTexts::with_capacity(alloc, count)?,
-            rows: RowRanges::with_capacity(alloc, rows)?,
-            ended: 0,
-        })
-    }
-
     /// Adds a text to the row that is begun. `columns` and `lines` are those of the text. Error:
     /// `Memory`; the writer is unchanged then.
     #[inline(always)]
@@ -80,7 +60,7 @@ impl RecordsWriter {
         ensures err { OnErr result (self.new ≡ self.old) }
         ensures only { IfErr result (λ e. e ≡ Memory) }
     {
-        self.texts.push(text, Some((columns, lines)))?;
+        self.texts.push(text, columns, lines)?;
         Ok(())
     }
 

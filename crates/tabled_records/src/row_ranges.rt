@@ -1,11 +1,11 @@
 //! Rows as ranges of a list of texts, and pairs of numbers in half the memory.
-ghost use Rattle.std.specs.Prelude.{◌≡◌, ◌<◌, ◌++◌, [], ◌∷◌, IfErr, IfOk, IfSome, OnErr, OnOk};
+ghost use Rattle.std.specs.Prelude.{◌≡◌, ◌<◌, ◌++◌, [], ◌∷◌, IfErr, IfSome, OnErr, OnOk};
 ghost use Rattle.std.specs.Prelude.{◌^◌, List, MatchOption, length, ℕ};
 ghost use Rattle.std.specs.List.{slice_index_or};
 ghost use Rattle.tabled_base.specs.declared.error.TableError.TheVariants.{Memory};
 ghost use Rattle.tabled_base.specs.Cells.{IsInside, cell_at};
-ghost use Rattle.tabled_records.specs.Joined.{AreJoined, begin, texts_from};
-ghost use Rattle.tabled_records.specs.JoinedRows.{AreRanges, IsCell, longest_range, rows_in};
+ghost use Rattle.tabled_records.specs.Joined.{AreJoined, AreRanges, IsCell, begin, longest_range};
+ghost use Rattle.tabled_records.specs.Joined.{rows_in, texts_from};
 
 use std::alloc::{AllocError, Global};
 use std::marker::Model;
@@ -61,16 +61,6 @@ impl Pairs {
         }
     }
 
-    /// Makes an empty list that `count` small pairs fit.
-    pub fn with_capacity(alloc: Global, count: usize) -> Result<Pairs, AllocError>
-        ensures { IfOk result (λ pairs. pairs ≡ []) }
-    {
-        Ok(Pairs {
-            small: Vec::with_capacity(alloc, count)?,
-            great: Vec::new(alloc),
-        })
-    }
-
     /// Returns the number of pairs.
     #[inline(always)]
     pub fn len(&self) -> usize
@@ -115,7 +105,7 @@ pub(crate) struct RowRanges {
 
 impl Model for RowRanges {
     ghost use Rattle.std.specs.Prelude.{◌≡◌, ℕ, List};
-    ghost use Rattle.tabled_records.specs.JoinedRows.{longest_range};
+    ghost use Rattle.tabled_records.specs.Joined.{longest_range};
 
     ghost Value = { List (ℕ × ℕ) };
 
@@ -136,13 +126,7 @@ fn bounds_of(ends: &Pairs, gap: usize, place: usize) -> (usize, (usize, usize))
     if place == 0 {
         return (0, ends.at(place));
     }
-    let before = place - 1;
-    // The pair before a small one is small.
-    if place < ends.small.len() {
-        let small = ends.small.as_slice();
-        return (wide(small, before).0 + gap, wide(small, place));
-    }
-    (ends.at(before).0 + gap, ends.at(place))
+    (ends.at(place - 1).0 + gap, ends.at(place))
 }
 
 impl RowRanges {
@@ -152,14 +136,6 @@ impl RowRanges {
     {
         let ranges = Pairs::new(alloc);
         RowRanges { ranges, columns: 0 }
-    }
-
-    /// Makes an empty list that `count` rows fit.
-    pub fn with_capacity(alloc: Global, count: usize) -> Result<RowRanges, AllocError>
-        ensures { IfOk result (λ rows. rows ≡ []) }
-    {
-        let ranges = Pairs::with_capacity(alloc, count)?;
-        Ok(RowRanges { ranges, columns: 0 })
     }
 
     /// Returns the number of rows.

@@ -2,8 +2,8 @@
 ghost use Rattle.std.specs.Prelude.{◌≡◌, map, IfErr, IfOk, OnErr};
 ghost use Rattle.std.specs.Cow.{cow_str_bytes, IsOwnedStr};
 ghost use Rattle.tabled_base.specs.declared.error.TableError.TheVariants.{Memory};
-ghost use Rattle.tabled_records.specs.RowByRow.{AreChanged, RowOfRow, changed_of};
-ghost use Rattle.tabled_records.specs.CutRows.{IsShown, WantsFill, cut_cells_steps, with_widths};
+ghost use Rattle.tabled_records.specs.Views.{AreChanged, IsShown, RowOfRow, WantsFill, changed_of};
+ghost use Rattle.tabled_records.specs.Views.{cut_cells_steps, with_widths};
 
 use std::alloc::Global;
 use std::borrow::CowStr;

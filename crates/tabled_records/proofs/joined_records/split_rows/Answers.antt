@@ -1,29 +1,16 @@
-use Rattle.tabled_records.proofs.Names.{AreRanges, List, [], ap, arith, false, get_or, is_in_range, length, length-append, lengthened_rows}
+use Rattle.tabled_records.proofs.Names.{AreRanges, [], ap, arith, false, get_or, is_in_range, length, length-append, lengthened_rows}
 use Rattle.tabled_records.proofs.Names.{lines_of, rows_in, subst, sym, texts_from, true, ℕ, ◌++◌, ◌+◌, ◌-◌, ◌<◌, ◌∙◌, ◌∷◌, ◌≡◌, ◌≤◌}
-use Rattle.tabled_records.proofs.Cutting.{IsWithin, cut-feed, cut-tab, cut-start, lent-next, no-feed, placed-next, printable-run, rows-cut}
-use Rattle.tabled_records.proofs.Cutting.{within-end, within-more, within-none, within-run}
+use Rattle.tabled_records.proofs.Cutting.{split-begun, IsWithin, cut-feed, cut-tab, cut-start, lent-next, no-feed, placed-next, rows-cut}
+use Rattle.tabled_records.proofs.Cutting.{within-end, within-more, within-run}
 use Rattle.tabled_records.proofs.Rows.{rows-lines}
 use Rattle.tabled_records.proofs.joined_records.split_rows.Goals as goal
 
--- a run of the text's bytes
-run-of : (bytes text : List ℕ) (from end high : ℕ) → bytes ≡ text → ((k : ℕ) → from ≤ k → k < end → is_in_range 0x20 high (get_or bytes k 0) ≡ true)
-    → (k : ℕ) → from ≤ k → k < end → is_in_range 0x20 high (get_or text k 0) ≡ true
-run-of bytes text from end high e run = subst (λ t. (k : ℕ) → from ≤ k → k < end → is_in_range 0x20 high (get_or t k 0) ≡ true) e run
-
 pub bytes-init : goal.bytes-init
 bytes-init c =
-    let text = c.args.text.now in
-    let same = c.as_bytes-bytes.ensures.value in
-    let at = c.run_end-at.result in
-    let ends : at ≤ length text = omega (arith, c.run_end-at.ensures.end, ap length same) in
-    let run = run-of c.as_bytes-bytes.result.now text 0 at 0x7E same c.run_end-at.ensures.passed in
+    let at = c.run_end-at in
     rw (c.new-cells.ensures, c.new-rows.ensures)
-    (record {
-      inside = ends;
-      cut = cut-start text c.utf8.text;
-      within = within-run text 0 0 at 0x7E (omega arith) run (within-none text 0);
-      printable = λ _. printable-run text 0 at ends run;
-    })
+    (split-begun c.args.text.now c.as_bytes-bytes.result.now [] [] 0 0 at.result true c.as_bytes-bytes.ensures.value
+    (cut-start c.args.text.now c.utf8.text) (omega arith) at.ensures.end at.ensures.passed)
 
 pub bytes-preserved-then-byte-ne10 : goal.bytes-preserved-then-byte-ne10
 bytes-preserved-then-byte-ne10 c =
@@ -33,7 +20,8 @@ bytes-preserved-then-byte-ne10 c =
     let at = c.run_end-at-then-byte-ne10.result in
     let inside : c.bytes.at < length text = subst (λ t. c.bytes.at < length t) same c.bytes-test.true in
     let ends : at ≤ length text = omega (arith, c.run_end-at-then-byte-ne10.ensures.end, ap length same) in
-    let run = run-of c.as_bytes-bytes.result.now text (c.bytes.at + 1) at 0xFF same c.run_end-at-then-byte-ne10.ensures.passed in
+    let run = subst (λ t. (k : ℕ) → c.bytes.at + 1 ≤ k → k < at → is_in_range 0x20 0xFF (get_or t k 0) ≡ true) same
+    c.run_end-at-then-byte-ne10.ensures.passed in
     let first = within-more text c.bytes.start c.bytes.at was.within
     (subst (λ t. get_or t c.bytes.at 0 ≡ 9 → ⊥) same c.if-byte-ne9.true) (subst (λ t. get_or t c.bytes.at 0 ≡ 10 → ⊥) same c.if-byte-ne10.true) in
     record {
@@ -74,18 +62,12 @@ bytes-preserved-then-byte-eq9 c =
     let same = c.as_bytes-bytes.ensures.value in
     let inside : c.bytes.at < length text = subst (λ t. c.bytes.at < length t) same c.bytes-test.true in
     let tab : get_or text c.bytes.at 0 ≡ 9 = subst (λ t. get_or t c.bytes.at 0 ≡ 9) same c.if-byte-eq9.true in
-    let at = c.run_end-at-in-bytes.result in
-    let ends : at ≤ length text = omega (arith, c.run_end-at-in-bytes.ensures.end, ap length same) in
-    let run = run-of c.as_bytes-bytes.result.now text (c.bytes.at + 1) at 0x7E same c.run_end-at-in-bytes.ensures.passed in
-    record {
-      inside = ends;
-      cut =
-          rw c.in_ok-push.ensures.ok
-          (cut-tab text c.bytes.cells c.bytes.rows c.bytes.start c.bytes.first c.bytes.at c.cell_columns-columns.result c.utf8.text was.cut
-          was.within inside tab c.cell_columns-columns.ensures);
-      within = within-run text (c.bytes.at + 1) (c.bytes.at + 1) at 0x7E c.run_end-at-in-bytes.ensures.from run (within-none text (c.bytes.at + 1));
-      printable = λ _. printable-run text (c.bytes.at + 1) at ends run;
-    }
+    let at = c.run_end-at-in-bytes in
+    let cut = cut-tab text c.bytes.cells c.bytes.rows c.bytes.start c.bytes.first c.bytes.at c.cell_columns-columns.result c.utf8.text was.cut
+    was.within inside tab c.cell_columns-columns.ensures in
+    rw c.in_ok-push.ensures.ok
+    (split-begun text c.as_bytes-bytes.result.now _ c.bytes.rows (c.bytes.at + 1) c.bytes.first at.result true same cut at.ensures.from
+    at.ensures.end at.ensures.passed)
 
 pub overflow_sub-count : goal.overflow_sub-count
 overflow_sub-count c =
@@ -105,18 +87,13 @@ bytes-preserved c =
     let last : c.len-first.result ≡ length cells = c.len-first.ensures ∙ ap length pushed in
     let reached = was.cut.reached in
     let more = length-append c.bytes.cells ((c.bytes.at, c.cell_columns-columns.result) ∷ []) in
-    let at = c.run_end-at-in-bytes.result in
-    let ends : at ≤ length text = omega (arith, c.run_end-at-in-bytes.ensures.end, ap length same) in
-    let run = run-of c.as_bytes-bytes.result.now text (c.bytes.at + 1) at 0x7E same c.run_end-at-in-bytes.ensures.passed in
-    record {
-      inside = ends;
-      cut =
-          rw (pushed, c.in_ok-push-2.ensures.ok, last)
-          (cut-feed text c.bytes.cells c.bytes.rows c.bytes.start c.bytes.first c.bytes.at c.cell_columns-columns.result (c.len.result - c.bytes.first)
-          c.utf8.text was.cut was.within inside feed c.cell_columns-columns.ensures (omega (arith, reached, c.len.ensures, ap length pushed, more)));
-      within = within-run text (c.bytes.at + 1) (c.bytes.at + 1) at 0x7E c.run_end-at-in-bytes.ensures.from run (within-none text (c.bytes.at + 1));
-      printable = λ _. printable-run text (c.bytes.at + 1) at ends run;
-    }
+    let at = c.run_end-at-in-bytes in
+    let cut = cut-feed text c.bytes.cells c.bytes.rows c.bytes.start c.bytes.first c.bytes.at c.cell_columns-columns.result
+    (c.len.result - c.bytes.first) c.utf8.text was.cut was.within inside feed c.cell_columns-columns.ensures
+    (omega (arith, reached, c.len.ensures, ap length pushed, more)) in
+    rw (pushed, c.in_ok-push-2.ensures.ok, last)
+    (split-begun text c.as_bytes-bytes.result.now cells _ (c.bytes.at + 1) (length cells) at.result true same cut at.ensures.from
+    at.ensures.end at.ensures.passed)
 
 pub overflow_sub-count-2 : goal.overflow_sub-count-2
 overflow_sub-count-2 c =

@@ -1,4 +1,4 @@
-use Rattle.tabled_records.proofs.PassRuns.{walked_given}
+use Rattle.tabled_records.proofs.ViewRuns.{walked_given}
 use Rattle.tabled_records.proofs.reading.append_row.Goals as goal
 
 pub returns-in-Err-clause-err : goal.returns-in-Err-clause-err

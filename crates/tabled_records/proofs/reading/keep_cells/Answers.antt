@@ -1,7 +1,7 @@
 use Rattle.tabled_records.proofs.Names.{[], ap, append-nil, append_assoc, refl, sym, ◌++◌, ◌∙◌, ◌∷◌}
-use Rattle.tabled_records.proofs.PassRuns.{walked_more}
-use Rattle.tabled_records.proofs.reading.keep_cells.Goals as goal
+use Rattle.tabled_records.proofs.ViewRuns.{walked_more}
 use Rattle.tabled_records.proofs.Joining.{on-err}
+use Rattle.tabled_records.proofs.reading.keep_cells.Goals as goal
 
 pub cells-init : goal.cells-init
 cells-init g c = record {

@@ -1,4 +1,4 @@
-use Rattle.tabled_records.proofs.PassRuns.{walked_more}
+use Rattle.tabled_records.proofs.ViewRuns.{walked_more}
 use Rattle.tabled_records.proofs.reading.walk_rest.Goals as goal
 
 pub loop-cell-preserved : goal.loop-cell-preserved

@@ -1,4 +1,4 @@
-use Rattle.tabled_records.proofs.Names.{List, ap, arith, begin, get_or, length, suc, ℕ, ◌++◌, ◌+◌, ◌-◌, ◌<◌, ◌∙◌, ◌≡◌}
+use Rattle.tabled_records.proofs.Names.{List, ap, arith, begin, get_or, length, suc, ℕ, ◌+◌, ◌-◌, ◌<◌, ◌∙◌, ◌≡◌}
 use Rattle.tabled_records.proofs.Joining.{begin-behind, begin-first}
 use Rattle.tabled_records.proofs.row_ranges.bounds_of.Goals as goal
 
@@ -11,32 +11,13 @@ behind-pair gap ends place before pair is inside e =
 pub returns-then-place-eq0-clause-begin : goal.returns-then-place-eq0-clause-begin
 returns-then-place-eq0-clause-begin c = begin-first c.args.gap 0 c.args.ends.now c.args.place c.if-place-eq0.true
 
-pub returns-then-place-len-clause-begin : goal.returns-then-place-len-clause-begin
-returns-then-place-len-clause-begin c =
-    let is = c.if-place-eq0.false in
-    let pair = c.wide.result in
-    let great = c.ends.inside.great.items in
-    behind-pair c.args.gap c.args.ends.now c.args.place (c.args.place - 1) pair (omega (arith, is)) c.requires.inside
-    (c.wide.ensures great ∙ ap (λ small. get_or (small ++ great) (c.args.place - 1) pair) c.as_slice-small.ensures.value
-    ∙ ap (λ pairs. get_or pairs (c.args.place - 1) pair) c.ends.view_is)
-
-pub overflow_add-result : goal.overflow_add-result
-overflow_add-result c =
-    let is = c.if-place-eq0.false in
-    let pair = c.wide.result in
-    let great = c.ends.inside.great.items in
-    let begins = behind-pair c.args.gap c.args.ends.now c.args.place (c.args.place - 1) pair (omega (arith, is)) c.requires.inside
-    (c.wide.ensures great ∙ ap (λ small. get_or (small ++ great) (c.args.place - 1) pair) c.as_slice-small.ensures.value
-    ∙ ap (λ pairs. get_or pairs (c.args.place - 1) pair) c.ends.view_is) in
-    omega (arith, begins, c.requires.fits)
-
 pub returns-clause-begin : goal.returns-clause-begin
 returns-clause-begin c =
     let is = c.if-place-eq0.false in
     behind-pair c.args.gap c.args.ends.now c.args.place (c.args.place - 1) c.at-2.result (omega (arith, is)) c.requires.inside c.at-2.ensures
 
-pub overflow_add-result-2 : goal.overflow_add-result-2
-overflow_add-result-2 c =
+pub overflow_add-result : goal.overflow_add-result
+overflow_add-result c =
     let is = c.if-place-eq0.false in
     let begins = behind-pair c.args.gap c.args.ends.now c.args.place (c.args.place - 1) c.at-2.result (omega (arith, is)) c.requires.inside
     c.at-2.ensures in

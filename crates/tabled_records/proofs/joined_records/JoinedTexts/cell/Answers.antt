@@ -1,6 +1,6 @@
 use Rattle.tabled_records.proofs.Names.{AreLines, [], ap, arith, cell_at, get_or, length, lines_of, rows_in, string_bytes, subst, sym}
 use Rattle.tabled_records.proofs.Names.{texts_from, ◌∙◌, ◌≡◌}
-use Rattle.tabled_records.specs.JoinedRows.{IsCell}
+use Rattle.tabled_records.specs.Joined.{IsCell}
 use Rattle.tabled_records.proofs.Joining.{length-texts, told_empty}
 use Rattle.tabled_records.proofs.Rows.{ranges-grown}
 use Rattle.tabled_records.proofs.joined_records.JoinedTexts.cell.Goals as goal

@@ -1,5 +1,5 @@
 use Rattle.tabled_records.proofs.Names.{arith, ◌-◌}
-use Rattle.tabled_records.proofs.PassRuns.{may_more, none_passed, one_passed, passed_goes}
+use Rattle.tabled_records.proofs.ViewRuns.{may_more, none_passed, one_passed, passed_goes}
 use Rattle.tabled_records.proofs.limits.LaterRowsIterator.next.Goals as goal
 
 pub loop-self-init : goal.loop-self-init

@@ -1,4 +1,4 @@
-use Rattle.tabled_records.proofs.PassRuns.{Passing}
+use Rattle.tabled_records.proofs.ViewRuns.{Passing}
 use Rattle.tabled_records.proofs.limits.LaterRowsIterator.next.Given as goal
 
 abbrev pub invariant-loop-self : goal.invariant-loop-self

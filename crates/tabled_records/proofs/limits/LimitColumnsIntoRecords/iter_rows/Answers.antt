@@ -1,5 +1,5 @@
 use Rattle.tabled_records.proofs.Names.{Drains, IsFinite, ap, changed_of, first_cells_steps, subst, sym, take, true, ◌∙◌, ◌≡◌}
-use Rattle.tabled_records.proofs.FirstRuns.{first_drained}
+use Rattle.tabled_records.proofs.ViewRuns.{first_drained}
 use Rattle.tabled_records.proofs.Runs.{given_whole, made_begin, made_end}
 use Rattle.tabled_records.proofs.limits.LimitColumnsIntoRecords.iter_rows.Goals as goal
 

@@ -1,5 +1,5 @@
 use Rattle.tabled_records.proofs.Names.{subst, sym, true}
-use Rattle.tabled_records.proofs.LimitedRuns.{limited_begin, limited_end}
+use Rattle.tabled_records.proofs.ViewRuns.{limited_begin, limited_end}
 use Rattle.tabled_records.proofs.Runs.{given_whole}
 use Rattle.tabled_records.proofs.limits.LimitRowsIntoRecords.iter_rows.Goals as goal
 

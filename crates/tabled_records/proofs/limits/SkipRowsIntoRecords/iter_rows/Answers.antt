@@ -1,5 +1,5 @@
 use Rattle.tabled_records.proofs.Names.{changed_of, true}
-use Rattle.tabled_records.proofs.LaterRuns.{later_end, later_rows}
+use Rattle.tabled_records.proofs.ViewRuns.{later_end, later_rows}
 use Rattle.tabled_records.proofs.Runs.{given_whole}
 use Rattle.tabled_records.proofs.limits.SkipRowsIntoRecords.iter_rows.Goals as goal
 

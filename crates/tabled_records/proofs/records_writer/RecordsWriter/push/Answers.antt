@@ -1,6 +1,6 @@
 use Rattle.tabled_records.proofs.Names.{ap, ◌∙◌}
 use Rattle.tabled_records.proofs.Rows.{text-written}
-use Rattle.tabled_records.specs.Written.{with_text}
+use Rattle.tabled_records.specs.Joined.{with_text}
 use Rattle.tabled_records.proofs.records_writer.RecordsWriter.push.Goals as goal
 
 pub returns-clause-ok : goal.returns-clause-ok

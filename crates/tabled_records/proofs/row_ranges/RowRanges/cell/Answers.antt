@@ -1,9 +1,9 @@
-use Rattle.tabled_records.proofs.Names.{AreRanges, IsJoined, [], ap, arith, begin, get_or, length, slice_range, subst, sym}
-use Rattle.tabled_records.proofs.Names.{text_columns, texts_from, ◌+◌, ◌<◌, ◌∙◌, ◌≤◌}
+use Rattle.tabled_records.proofs.Names.{AreRanges, IsJoined, [], ap, arith, begin, get_or, length, slice_range, subst, sym, text_columns}
+use Rattle.tabled_records.proofs.Names.{texts_from, ◌+◌, ◌<◌, ◌∙◌, ◌≤◌}
 use Rattle.tabled_records.proofs.Joining.{joined-at, length-texts, text-at}
 use Rattle.tabled_records.proofs.Rows.{cell-behind, cell-there, length-rows}
-use Rattle.tabled_records.proofs.row_ranges.RowRanges.cell.Goals as goal
 use Rattle.tabled_records.proofs.row_ranges.RowRanges.cell.Goals.{After-bounds_of-first, After-len-count}
+use Rattle.tabled_records.proofs.row_ranges.RowRanges.cell.Goals as goal
 
 pub at-start-requires : goal.at-start-requires
 at-start-requires c =

@@ -1,5 +1,5 @@
 use Rattle.tabled_records.proofs.Names.{Drains, IsFinite, ap, changed_of, cut_cells_steps, subst, sym, true, with_widths, ◌∙◌, ◌≡◌}
-use Rattle.tabled_records.proofs.CutRuns.{cut_drained}
+use Rattle.tabled_records.proofs.ViewRuns.{cut_drained}
 use Rattle.tabled_records.proofs.Runs.{given_whole, made_begin, made_end}
 use Rattle.tabled_records.proofs.truncate.TruncateContentIntoRecords.iter_rows.Goals as goal
 
