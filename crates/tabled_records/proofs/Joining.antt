@@ -1,9 +1,8 @@
 -- Texts that stand one behind another in one text, to which more is added.
 use Rattle.tabled_records.proofs.Names.{AreKept, AreLines, IsCharBoundary, IsCharBoundary-at_seam, IsJoined, IsUtf8, List, [], ap, arith}
-use Rattle.tabled_records.proofs.Names.{begin, behind, cases_lt, drop, drop-append-le, drop-append_seam, get_or, get_or-take}
-use Rattle.tabled_records.proofs.Names.{get_or_append_left, inl, inr, length, length-append, length-drop, lines_of, max, refl, slice_range}
-use Rattle.tabled_records.proofs.Names.{subst, suc, sym, take, take-append-le, text_columns, texts_from, zero, ℕ, ◌++◌, ◌+◌, ◌-◌, ◌<◌, ◌∙◌}
-use Rattle.tabled_records.proofs.Names.{◌∷◌, ◌≡◌, ◌≤◌}
+use Rattle.tabled_records.proofs.Names.{begin, behind, cases_lt, drop, drop-append-le, drop-append_seam, get_or, get_or_append_left, inl}
+use Rattle.tabled_records.proofs.Names.{inr, length, length-append, length-drop, lines_of, max, refl, slice_range, subst, suc, sym, take}
+use Rattle.tabled_records.proofs.Names.{take-append-le, text_columns, texts_from, zero, ℕ, ◌++◌, ◌+◌, ◌-◌, ◌<◌, ◌∙◌, ◌∷◌, ◌≡◌, ◌≤◌}
 use Rattle.std.proofs.Common.{Result, Ok, Err, OnErr, OnOk}
 use Rattle.std.proofs.lemmas.List.{take_all, get_or-append-add}
 use Rattle.std.proofs.Math.ListN.{get_or-append}
@@ -138,9 +137,6 @@ filled-next whole more places old new columns u h wide same last few =
       few = omega (arith, few, length-append places (place ∷ []));
     }
 
-pub taken : (lines : List ℕ) (n k : ℕ) → k < n → get_or (take n lines) k 1 ≡ get_or lines k 1
-taken lines n k l = get_or-take n lines k 1 l
-
 -- where a text begins
 begin-after : (gap start : ℕ) (places : List (ℕ × ℕ)) (i : ℕ) (d : ℕ × ℕ) → i < length places → begin gap start places (suc i) ≡ (get_or places i d).0 + gap
 unfolding begin
@@ -154,9 +150,10 @@ begin-first gap start [] zero h = refl
 begin-first gap start (place ∷ places) zero h = refl
 begin-first gap start places (suc i) h = absurd (omega (arith, h))
 
-pub begin-behind : (gap start : ℕ) (places : List (ℕ × ℕ)) (i before : ℕ) (d : ℕ × ℕ) → i ≡ suc before → before < length places
-    → (get_or places before d).0 + gap ≡ begin gap start places i
-begin-behind gap start places i before d e h = sym (begin-after gap start places before d h) ∙ ap (begin gap start places) (sym e)
+pub begin-behind : (gap start : ℕ) (places : List (ℕ × ℕ)) (i before : ℕ) (pair : ℕ × ℕ) → i ≡ suc before → i < length places
+    → pair ≡ get_or places before pair → pair.0 + gap ≡ begin gap start places i
+begin-behind gap start places i before pair e h is =
+    ap (λ p. p.0 + gap) is ∙ sym (begin-after gap start places before pair (omega (arith, e, h))) ∙ ap (begin gap start places) (sym e)
 
 -- the text at a place
 pub joined-at : (gap : ℕ) (whole : List ℕ) (start : ℕ) (places : List (ℕ × ℕ)) (i : ℕ) (d : ℕ × ℕ) → AreJoined gap whole start places

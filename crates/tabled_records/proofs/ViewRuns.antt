@@ -143,14 +143,6 @@ module _ {S W T A : Type 0} (can_row : S → Type 0) (steps : S → Option W →
         fewer = omega (arith, more.2, p.fewer);
       }
 
-  -- a row came behind those, or no more came
-  pub passed : {s t : LaterRows S} {u : S} (r : Option W) → t.left ≡ 0 → Passing s t → steps t.rows r u
-      → SkipsRows steps cells_become cell_steps s r (record { rows = u; left = t.left })
-  passed {s = s} {t = t} {u = u} None e p step =
-      record { lists = p.lists; cells = p.cells; yielded = (t.rows, p.yielded, step); each = p.each; count = p.count; done = tt }
-  passed {s = s} {t = t} {u = u} (Some x) e p step =
-      record { lists = p.lists; cells = p.cells; yielded = (t.rows, p.yielded, step); each = p.each; count = p.count; done = e }
-
   pub passed_goes : {s t : LaterRows S} {u : S} (n : ℕ) (r : Option W) → Passing s t → steps t.rows r u → MakesProgress can_row rows_left t.rows r u
       → MakesProgress (λ v. May v.rows) (λ v. rows_left v.rows) s r (record { rows = u; left = n })
   passed_goes n None p step goes = record { on = λ _. tt; keeps = tt; rests = λ _. goes.rests p.may.ends }

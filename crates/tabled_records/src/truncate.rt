@@ -39,10 +39,7 @@ impl<C: CellText> CutCell<C> {
 }
 
 /// Records whose cells are cut to the widths of their columns. Cells of columns after the list of
-/// widths aren't cut.
-///
-/// No table prints this view, since its cells are no `CellText`. Call `text(alloc)` on each cell,
-/// and print a table of these texts.
+/// widths aren't cut. A table prints the texts that `text(alloc)` returns for the cells, not these.
 #[derive(Clone, Copy, Debug, Drop)]
 pub struct TruncateContent<'a, R> {
     records: R,
