@@ -1,11 +1,12 @@
 -- Cells that are changed one after another.
-use Rattle.tabled_set.proofs.Names.{AreChanged, AreChangedBefore, Bool, ByColumn, ByRow, IsInside, List, MatchBool, MatchBool-at_false}
-use Rattle.tabled_set.proofs.Names.{MatchBool-at_true, WalkOrder, [], ap, arith, cases_Bool, cell_at, columns, covers, false, length}
-use Rattle.tabled_set.proofs.Names.{nat_lt, on_line, precedes, refl, slice_index_or, subst, sym, true, ℕ, ⊎_elim, ◌&&◌, ◌+◌, ◌<◌, ◌==◌}
-use Rattle.tabled_set.proofs.Names.{◌||◌, ◌∙◌, ◌∷◌, ◌≡◌, ◌≤◌}
-use Rattle.std.proofs.lemmas.Bool.{and_parts, eqb-true}
+use Rattle.tabled_set.proofs.Names.{AreChanged, AreChangedBefore, Bool, ByColumn, ByRow, Err, IfErr, IsInside, List, MatchBool}
+use Rattle.tabled_set.proofs.Names.{MatchBool-at_true, Memory, Ok, Result, TableError, WalkOrder, [], ap, arith, cases_Bool, cell_at}
+use Rattle.tabled_set.proofs.Names.{columns, covers, false, inr, length, nat_lt, on_line, precedes, refl, slice_index_or, subst, sym, true}
+use Rattle.tabled_set.proofs.Names.{ℕ, ⊎_elim, ◌&&◌, ◌+◌, ◌<◌, ◌==◌, ◌||◌, ◌∙◌, ◌∷◌, ◌≡◌, ◌≤◌}
+use Rattle.std.proofs.lemmas.Bool.{and_parts, eqb-true, MatchBool-at_false}
 use Rattle.tabled_set.specs.Common.{Cell}
-use Rattle.tabled_set.specs.CellChanges.{line_of, place_of, is_within, lines_in, places_in}
+use Rattle.std.proofs.Common.{OnErr}
+use Rattle.tabled_set.specs.CellChanges.{StopsChanging, line_of, place_of, is_within, lines_in, places_in}
 use Rattle.std.specs.declared.ops.Range.{Range as Band}
 
 pub match-true : {b : Bool} (P Q : Type 0) → b ≡ true → P → MatchBool b P Q
@@ -13,6 +14,26 @@ match-true P Q e p = subst (λ x. MatchBool x P Q) (sym e) p
 
 pub match-false : {b : Bool} (P Q : Type 0) → b ≡ false → Q → MatchBool b P Q
 match-false P Q e q = subst (λ x. MatchBool x P Q) (sym e) q
+
+-- what follows in either case, and in both of two
+pub match-both : (b : Bool) {P Q R : Type 0} → MatchBool b P Q → (b ≡ true → P → R) → (b ≡ false → Q → R) → R
+match-both true h f g = f refl h
+match-both false h f g = g refl h
+
+pub match-map : (b : Bool) {P Q R S : Type 0} → MatchBool b P Q → (b ≡ true → P → R) → (b ≡ false → Q → S) → MatchBool b R S
+match-map true h f g = f refl h
+match-map false h f g = g refl h
+
+pub match-two : (b : Bool) {P Q R S T : Type 0} → MatchBool b P Q → MatchBool b R S → (P → R → T) → (Q → S → T) → T
+match-two true h k f g = f h k
+match-two false h k f g = g h k
+
+-- the last of three cases
+pub match-last : {a b : Bool} (P Q : Type 0) {R : Type 0} → a ≡ false → b ≡ false → R → MatchBool a P (MatchBool b Q R)
+match-last {a} {b} P Q {R} e f r = match-false P (MatchBool b Q R) e (match-false Q R f r)
+
+pub at-last : (a b : Bool) (P Q : Type 0) {R : Type 0} → MatchBool a P (MatchBool b Q R) → a ≡ false → b ≡ false → R
+at-last a b P Q {R} h e f = MatchBool-at_false Q R f (MatchBool-at_false P (MatchBool b Q R) e h)
 
 pub columns-first : (cells : List (List (List ℕ))) → columns cells ≡ length (slice_index_or cells 0 [])
 columns-first [] = refl
@@ -63,13 +84,7 @@ AreChanged-as {chosen} {first} {second} {old} {new} h so =
     record {
       rows = h.rows;
       row_lengths = h.row_lengths;
-      cells = λ row column inside.
-          let changed = second row column (cell_at old row column) (cell_at new row column) in
-          let stays = cell_at new row column ≡ cell_at old row column in
-          ⊎_elim
-          (λ yes. match-true changed stays yes (so row column inside yes (at-chosen row column h inside yes)))
-          (λ no. match-false changed stays no (at-other row column h inside no))
-          (cases_Bool (chosen row column));
+      cells = λ row column inside. match-map (chosen row column) (h.cells row column inside) (so row column inside) (λ _ same. same);
     }
 
 -- a place is chosen where one of two tests chooses it, and not both do
@@ -87,22 +102,17 @@ AreChanged-both {chosen} {first} {second} {change} {old} {between} {new} a b eit
           let before = cell_at old row column in
           let after = cell_at new row column in
           let changed = change row column before after in
-          let stays = after ≡ before in
           let within : IsInside between row column = IsInside-changed a inside in
           let one = either row column inside in
-          ⊎_elim
-          (λ yes.
-          let is : chosen row column ≡ true = one.either ∙ ap (λ x. x || second row column) yes in
+          match-both (first row column) (a.cells row column inside)
+          (λ yes made.
           let after_is : after ≡ cell_at between row column = at-other row column b within (one.apart yes) in
-          match-true changed stays is (subst (change row column before) (sym after_is) (at-chosen row column a inside yes)))
-          (λ no.
-          let before_is : cell_at between row column ≡ before = at-other row column a inside no in
-          let is : chosen row column ≡ second row column = one.either ∙ ap (λ x. x || second row column) no in
-          ⊎_elim
-          (λ yes. match-true changed stays (is ∙ yes) (subst (λ t. change row column t after) before_is (at-chosen row column b within yes)))
-          (λ neither. match-false changed stays (is ∙ neither) (at-other row column b within neither ∙ before_is))
-          (cases_Bool (second row column)))
-          (cases_Bool (first row column));
+          match-true changed (after ≡ before) (one.either ∙ ap (λ x. x || second row column) yes)
+          (subst (change row column before) (sym after_is) made))
+          (λ no before_is.
+          subst (λ c. MatchBool c changed (after ≡ before)) (sym (one.either ∙ ap (λ x. x || second row column) no))
+          (match-map (second row column) (b.cells row column within)
+          (λ _ made. subst (λ t. change row column t after) before_is made) (λ _ same. same ∙ before_is)));
     }
 
 -- the place of one cell is chosen, and no other
@@ -112,10 +122,11 @@ covers-cell row column r c e =
     (sym (eqb-true row r both.0), sym (eqb-true column c both.1))
 
 -- some places, and then one more
-pub AreChanged-next : {chosen next : ℕ → ℕ → Bool} {change one : ℕ → ℕ → List ℕ → List ℕ → Type 0} {old between new : List (List (List ℕ))} (row column : ℕ) → AreChanged chosen change old between → AreChanged (covers (Cell row column)) one between new → chosen row column ≡ false → ((before after : List ℕ) → one row column before after → change row column before after) → ((r c : ℕ) → next r c ≡ (chosen r c || covers (Cell row column) r c)) → AreChanged next change old new
-AreChanged-next {chosen} {next} {change} {one} {old} {between} {new} row column a b free so next_is =
-    AreChanged-both a
-    (AreChanged-as b (λ r c inside yes h. let here = covers-cell row column r c yes in rw (here.0, here.1) (so (cell_at between row column) (cell_at new row column) (rw (here.0, here.1) at h))))
+pub AreChanged-next : {chosen next : ℕ → ℕ → Bool} {change : ℕ → ℕ → List ℕ → List ℕ → Type 0} {old between new : List (List (List ℕ))}
+    (row column : ℕ) → AreChanged chosen change old between → AreChanged (covers (Cell row column)) change between new → chosen row column ≡ false
+    → ((r c : ℕ) → next r c ≡ (chosen r c || covers (Cell row column) r c)) → AreChanged next change old new
+AreChanged-next {chosen} row column a b free next_is =
+    AreChanged-both a b
     (λ r c inside.
     record {
       apart = λ yes.
@@ -147,21 +158,18 @@ on_line-next ByColumn row column line place r c band a b from to = grind arith
 abbrev before : ℕ → ℕ → ℕ → ℕ → Bool
 before line place x y = nat_lt x line || (x == line && nat_lt y place)
 
-some_of : (covered : Bool) (lines band : Band ℕ) (line place x y : ℕ) → covered ≡ (is_within lines x && is_within band y) → lines.start ≤ line → line < lines.end → IsEither (covered && before line place x y) (covered && before line 0 x y) ((x == line && is_within band y) && before line place x y)
+-- the cells of earlier lines, and some first ones of this line
+some_of : (covered : Bool) (lines band : Band ℕ) (line place x y : ℕ) → covered ≡ (is_within lines x && is_within band y)
+    → lines.start ≤ line → line < lines.end
+    → IsEither (covered && before line place x y) (covered && before line 0 x y) ((x == line && is_within band y) && before line place x y)
 some_of covered lines band line place x y is from to =
     record { apart = λ yes. grind arith; either = grind arith }
 
-all_of : (covered : Bool) (lines band : Band ℕ) (line x y : ℕ) → covered ≡ (is_within lines x && is_within band y) → lines.start ≤ line → line < lines.end → IsEither (covered && before (line + 1) 0 x y) (covered && before line 0 x y) (x == line && is_within band y)
+-- and all of this line
+pub all_of : (covered : Bool) (lines band : Band ℕ) (line x y : ℕ) → covered ≡ (is_within lines x && is_within band y) → lines.start ≤ line
+    → line < lines.end → IsEither (covered && before (line + 1) 0 x y) (covered && before line 0 x y) (x == line && is_within band y)
 all_of covered lines band line x y is from to =
     record { apart = λ yes. grind arith; either = grind arith }
-
--- the cells of earlier lines, and some first ones of this line
-lines-some : (order : WalkOrder) (covered : Bool) (lines band : Band ℕ) (line place r c : ℕ) → covered ≡ (is_within lines (line_of order r c) && is_within band (place_of order r c)) → lines.start ≤ line → line < lines.end → IsEither (covered && precedes order line place r c) (covered && precedes order line 0 r c) (on_line order line band r c && precedes order line place r c)
-lines-some order covered lines band line place r c is from to = some_of covered lines band line place (line_of order r c) (place_of order r c) is from to
-
--- and all of this line
-pub lines-more : (order : WalkOrder) (covered : Bool) (lines band : Band ℕ) (line r c : ℕ) → covered ≡ (is_within lines (line_of order r c) && is_within band (place_of order r c)) → lines.start ≤ line → line < lines.end → IsEither (covered && precedes order (line + 1) 0 r c) (covered && precedes order line 0 r c) (on_line order line band r c)
-lines-more order covered lines band line r c is from to = all_of covered lines band line (line_of order r c) (place_of order r c) is from to
 
 -- ---- where a walk stops
 
@@ -226,5 +234,12 @@ module _ (order : WalkOrder) (band : Band ℕ) {wants : ℕ → ℕ → List ℕ
             AreChanged-both h s.changed
             (λ r c i.
             subst (λ l. IsEither (covers r c && precedes order l y r c) (covers r c && precedes order line 0 r c) (on_line order line band r c && precedes order l y r c)) (sym here)
-            (lines-some order (covers r c) lines band line y r c (is r c i) from to));
+            (some_of (covers r c) lines band line y (line_of order r c) (place_of order r c) (is r c i) from to));
       }
+
+-- with `Memory` the cells before some cell are changed
+pub stops-before : {T : Type 0} (order : WalkOrder) (chosen : ℕ → ℕ → Bool) (needs : ℕ → ℕ → List ℕ → Type 0)
+    (change : ℕ → ℕ → List ℕ → List ℕ → Type 0) (old new : List (List (List ℕ))) (r : Result T TableError) → OnErr r (AreChangedBefore order chosen needs change old new)
+    → IfErr r (λ e. e ≡ Memory) → IfErr r (λ e. StopsChanging order chosen needs change e old new)
+stops-before order chosen needs change old new (Ok x) h only = tt
+stops-before order chosen needs change old new (Err e) h only = inr (only, h)

@@ -1,24 +1,34 @@
--- A narrowed table has its total and holds its cells.
-use Rattle.tabled_set.proofs.Names.{AreChanged, AreTexts, Bool, CompleteDimension, FitsIn, HasExactTotal, IsAdditive, IsFilledIn}
-use Rattle.tabled_set.proofs.Names.{IsNarrowed, IsRectangular, IsSized, IsTakenFrom, IsUtf8, List, MatchBool-at_false, Narrows, None, Sheet}
-use Rattle.tabled_set.proofs.Names.{Shrinks, Some, SpannedConfig, TakesFrom, TakesGreatest, [], ap, arith, at, cases_Bool, cell_at, columns}
-use Rattle.tabled_set.proofs.Names.{cond, effective, effective_sizes, emptied, estimated, estimated_heights, estimated_widths, false}
-use Rattle.tabled_set.proofs.Names.{filled_width, for_content_size, frame_width, get_or_default, heights_length, heights_of, if_sized}
-use Rattle.tabled_set.proofs.Names.{if◌then◌else◌, inner_width, is_empty, le-leb, length, lt-leb, lt-ltb, max, minimums, nat_le, nat_lt}
-use Rattle.tabled_set.proofs.Names.{needed_width, side_padding, subst, sum, sym, take, take-length, total_width, true, widths_length}
-use Rattle.tabled_set.proofs.Names.{widths_of, ℕ, ⊎_elim, ◌+◌, ◌-◌, ◌<◌, ◌==◌, ◌||◌, ◌∙◌, ◌≡◌, ◌≤◌}
+-- Narrowed tables: they have their total and hold their cells, and what else is promised of them.
+use Rattle.tabled_set.proofs.Names.{AreChanged, AreCleared, Bool, CompleteDimension, FitsIn, IsAdditive, IsInside, IsRectangular, IsSized}
+use Rattle.tabled_set.proofs.Names.{IsTakenFrom, IsTruncated, IsUtf8, List, MatchBool-at_true, Narrows, None, Option, Sheet, Shrinks, Some}
+use Rattle.tabled_set.proofs.Names.{SpannedConfig, SuffixLimit, [], ap, arith, at, cases_Bool, cell_at, columns, cond, effective}
+use Rattle.tabled_set.proofs.Names.{effective_sizes, emptied, estimated, estimated_heights, estimated_widths, false, filled_width}
+use Rattle.tabled_set.proofs.Names.{for_content_size, frame_width, get_or_default, heights_length, heights_of, if_sized, if_wider}
+use Rattle.tabled_set.proofs.Names.{if◌then◌else◌, is_empty, le-leb, length, lt-leb, max, minimums, nat_le, nat_lt, needed_width, refl}
+use Rattle.tabled_set.proofs.Names.{side_padding, slice_index_or, subst, sum, sym, take, take-length, text_columns, total_width, true}
+use Rattle.tabled_set.proofs.Names.{truncating, widths_length, widths_of, ℕ, ⊎_elim, ◌+◌, ◌-◌, ◌<◌, ◌==◌, ◌||◌, ◌∙◌, ◌≡◌, ◌≤◌}
 use Rattle.std.proofs.Common.{le_of_eq}
-use Rattle.std.specs.Prelude.{MatchBool}
-use Rattle.std.specs.List.{slice_index_or, All}
-use Rattle.std.proofs.lemmas.Bool.{and_from}
-use Rattle.tabled_set.specs.Common.{AreAdditive, Holds}
+use Rattle.std.specs.List.{All}
+use Rattle.std.proofs.lemmas.Bool.{and_from, lt-ltb}
+use Rattle.tabled_set.specs.Common.{AreAdditive, Holds, Entity, Row, AreTexts}
 use Rattle.tabled_priority.specs.Least.{HasLeastGreatest}
 use Rattle.tabled_priority.proofs.Optimal.{HasLeastGreatest-from_level, IsLevel-from_max}
 use Rattle.tabled_size.proofs.ShrunkTotals.{above_minimum, narrowed_total}
-use Rattle.tabled_set.proofs.ChangingCells.{columns-changed}
+use Rattle.tabled_set.proofs.ChangingCells.{at-last, columns-changed, match-both}
 use Rattle.tabled_set.proofs.Totals.{full_total}
-use Rattle.tabled_set.specs.ExactTotal.{empty_width}
+use Rattle.tabled_set.specs.ExactTotal.{empty_width, HasExactTotal}
 use Rattle.tabled_set.proofs.Emptied.{emptied-columns, emptied-empty, minimums-le, minimums-length, side_padding-le}
+use Rattle.tabled_text.proofs.FewestLines.{fewest-wrapped}
+use Rattle.tabled_text.proofs.OwnBreaking.{old_text}
+use Rattle.tabled_text.proofs.StayLemmas.{IsAdditive-stays, StaysWithin-wrapped}
+use Rattle.tabled_text.proofs.FittingLaws.{fits-wrapped}
+use Rattle.tabled_size.specs.Entries.{clears_heights, clears_widths, unless_cleared}
+use Rattle.tabled_set.specs.BestNarrowing.{HasLeastWidth, IsBestCut, inner_width}
+use Rattle.tabled_set.specs.CellChanges.{wrapping}
+use Rattle.tabled_set.specs.Promised.{IsWiderThan, TruncatesAsPromised, WrapsAsPromised}
+use Rattle.tabled_set.proofs.TruncatedTexts.{longest_lines, longest_truncated, StaysWithin-truncated, fits-if_wider}
+use Rattle.tabled_set.specs.Narrowed.{IsNarrowed}
+use Rattle.tabled_set.specs.Priorities.{TakesFrom, TakesGreatest}
 
 -- a text that is changed for a content size fits in it
 abbrev pub CharsFit : (ℕ → List ℕ → List ℕ → Type 0) → Type 0
@@ -29,10 +39,6 @@ abbrev pub KeepsPlain : (ℕ → List ℕ → List ℕ → Type 0) → Type 0
 KeepsPlain change = (content_size : ℕ) (before after : List ℕ) → IsAdditive before → change content_size before after → IsAdditive after
 
 -- ---- cells that are changed
--- the columns of equally long rows are the cells of each
-row_length : (cells : List (List (List ℕ))) (row : ℕ) → IsRectangular cells → row < length cells → length (slice_index_or cells row []) ≡ columns cells
-row_length cells row h l = h row [] l
-
 pub changed_empty : (chosen : ℕ → ℕ → Bool) (change : ℕ → ℕ → List ℕ → List ℕ → Type 0) (old new : List (List (List ℕ))) → AreChanged chosen change old new → is_empty new ≡ is_empty old
 changed_empty chosen change old new h =
     ap (λ n. (n == 0) || (columns new == 0)) h.rows ∙ ap (λ n. (length old == 0) || (n == 0)) (columns-changed h)
@@ -40,7 +46,7 @@ changed_empty chosen change old new h =
 -- a property of each cell, by its place
 cell_of : (P : List ℕ → Type 0) (cells : List (List (List ℕ))) (row column : ℕ) → IsRectangular cells → All (All P) cells → row < length cells
     → column < columns cells → P (cell_at cells row column)
-cell_of P cells row column rectangular each r c = each row [] r column [] (let e = row_length cells row rectangular r in omega arith)
+cell_of P cells row column rectangular each r c = each row [] r column [] (let e = rectangular row [] r in omega arith)
 
 cells_of : (P : List ℕ → Type 0) (cells : List (List (List ℕ)))
     → ((row column : ℕ) → row < length cells → column < length (slice_index_or cells row []) → P (cell_at cells row column)) → All (All P) cells
@@ -62,10 +68,7 @@ pub IsNarrowed-wider : {P : Type 0} (shrinks : Shrinks P) (s : P) (change : ℕ 
     (cells' : List (List (List ℕ))) (sizes' : CompleteDimension) → n < total_width (effective cells config sizes) → Narrows shrinks s change n cells config sizes cells' sizes' → IsNarrowed shrinks s change n (effective cells config sizes) cells' sizes'
 IsNarrowed-wider shrinks s change n cells config sizes cells' sizes' wider h =
     let t = effective cells config sizes in
-    let narrowed = IsNarrowed shrinks s change n t cells' sizes' in
-    let filled = (cells' ≡ cells) × IsFilledIn sizes cells config sizes' in
-    let some = MatchBool-at_false ((cells' ≡ cells) × (sizes' ≡ sizes)) (MatchBool (nat_le (total_width t) n) filled narrowed) (full_wider t n wider) h in
-    MatchBool-at_false filled narrowed (lt-leb (total_width t) n wider) some
+    at-last (is_empty cells) (nat_le (total_width t) n) _ _ h (full_wider t n wider) (lt-leb (total_width t) n wider)
 
 module _ {P : Type 0} (shrinks : Shrinks P) (s : P) (change : ℕ → List ℕ → List ℕ → Type 0) (n : ℕ)
     (cells : List (List (List ℕ))) (config : SpannedConfig) (sizes : CompleteDimension) (new : List (List (List ℕ))) (stored last : CompleteDimension)
@@ -126,8 +129,8 @@ module _ {P : Type 0} (shrinks : Shrinks P) (s : P) (change : ℕ → List ℕ �
       (HasLeastGreatest-from_level t.widths mins h.widths (IsLevel-from_max right t.widths mins by h.widths shrunk_so))
 
   -- every cell is changed for the content size that its column leaves now
-  pub changed_for_room : (row column : ℕ) → row < length cells → column < columns cells → change (inner_width (effective new config last) row column) (cell_at cells row column) (cell_at new row column)
-  changed_for_room row column r c =
+  pub changed_to_fit : (row column : ℕ) → row < length cells → column < columns cells → change (inner_width (effective new config last) row column) (cell_at cells row column) (cell_at new row column)
+  changed_to_fit row column r c =
       subst (λ ws. change (at ws column - side_padding config row column) (cell_at cells row column) (cell_at new row column)) (sym new_widths) (changed_cell row column r c)
 
   -- where changed texts fit in their content sizes
@@ -156,7 +159,7 @@ module _ {P : Type 0} (shrinks : Shrinks P) (s : P) (change : ℕ → List ℕ �
     -- a column of a new row is one of the table
     old_column : (row column : ℕ) → row < length cells → column < length (slice_index_or new row []) → column < columns cells
     old_column row column r c =
-        let e : length (slice_index_or new row []) ≡ columns cells = h.changed.row_lengths row ∙ row_length cells row rectangular r in
+        let e : length (slice_index_or new row []) ≡ columns cells = h.changed.row_lengths row ∙ rectangular row [] r in
         subst (λ k. column < k) e c
 
     new_texts : AreTexts new
@@ -205,4 +208,100 @@ module _ {P : Type 0} (shrinks : Shrinks P) (s : P) (change : ℕ → List ℕ �
           holds = new_holds;
           texts = new_texts;
           additive = new_plain;
+        }
+
+-- ---- a table that was narrowed, once what is hinted was forgotten, the widths never
+cleared_none : (b : Bool) → unless_cleared b None ≡ None
+cleared_none true = refl
+cleared_none false = refl
+
+module _ {P : Type 0} (shrinks : Shrinks P) (s : P) (change : ℕ → List ℕ → List ℕ → Type 0) (n : ℕ)
+    (cells : List (List (List ℕ))) (config : SpannedConfig) (sizes : CompleteDimension) (new : List (List (List ℕ))) (stored last : CompleteDimension)
+    (hint : Option Entity) (hinted : clears_widths hint ≡ false) (narrows : Narrows shrinks s change n cells config sizes new stored) (cleared : AreCleared hint stored last)
+    (takes : TakesFrom shrinks s) (wide : IsWiderThan n (effective cells config sizes)) where
+  narrowed : IsNarrowed shrinks s change n (effective cells config sizes) new stored
+  narrowed = IsNarrowed-wider shrinks s change n cells config sizes new stored wide.wider narrows
+
+  widths_stay : widths_of last ≡ widths_of stored
+  widths_stay = cleared.widths ∙ ap (λ b. unless_cleared b (widths_of stored)) hinted
+
+  heights_clear : heights_of last ≡ None
+  heights_clear = cleared.heights ∙ ap (unless_cleared (clears_heights hint)) narrowed.cleared ∙ cleared_none (clears_heights hint)
+
+  exact_of : CharsFit change → KeepsPlain change → IsRectangular cells → AreTexts cells → HasExactTotal n (effective cells config sizes) (effective new config last)
+  exact_of content_sizes keeps rectangular texts =
+      exact_total shrinks s change n cells config sizes new stored last takes wide.estimates narrowed widths_stay content_sizes keeps rectangular texts wide.wider heights_clear
+
+  cell_kept : (row column : ℕ) → IsInside cells row column → change (inner_width (effective new config last) row column) (cell_at cells row column) (cell_at new row column)
+  cell_kept row column inside =
+      changed_to_fit shrinks s change n cells config sizes new stored last takes wide.estimates narrowed widths_stay row column inside.row_in inside.column_in
+
+  least_of : TakesGreatest shrinks s → HasLeastWidth (effective cells config sizes) (effective new config last)
+  least_of greatest = leveled shrinks s change n cells config sizes new stored last takes wide.estimates narrowed widths_stay greatest
+
+-- ---- what is promised
+module _ {P : Type 0} (shrinks : Shrinks P) (s : P) (n : ℕ)
+    (cells : List (List (List ℕ))) (config : SpannedConfig) (sizes : CompleteDimension) (new : List (List (List ℕ))) (stored last : CompleteDimension) (rectangular : IsRectangular cells) where
+  takes_of : TakesGreatest shrinks s → TakesFrom shrinks s
+  takes_of greatest end old mins list by h = let (right, shrunk) = greatest end old mins list by h in shrunk.takes
+
+  pub wraps : (words : Bool) → Narrows shrinks s (wrapping words) n cells config sizes new stored → AreCleared (Some (Row 0)) stored last
+      → WrapsAsPromised shrinks s words n (effective cells config sizes) (effective new config last)
+  wraps words narrows cleared =
+      let change = wrapping words in
+      let content_size = inner_width (effective new config last) in
+      record {
+        exact = λ takes wide texts.
+            exact_of shrinks s change n cells config sizes new stored last (Some (Row 0)) refl narrows cleared takes wide
+            (λ size before after utf8 w. fits-wrapped size words before after w)
+            (λ size before after plain w. IsAdditive-stays (StaysWithin-wrapped {n = size} plain w)) rectangular texts;
+        best = λ takes wide.
+            let changed = cell_kept shrinks s change n cells config sizes new stored last (Some (Row 0)) refl narrows cleared takes wide in
+            record {
+              fewest = λ row column inside. fewest-wrapped (content_size row column) words (cell_at cells row column) (cell_at new row column) (changed row column inside);
+              whole = λ row column inside some fits. old_text (content_size row column) words (cell_at cells row column) (cell_at new row column) some fits (changed row column inside);
+            };
+        least = λ greatest wide.
+            least_of shrinks s change n cells config sizes new stored last (Some (Row 0)) refl narrows cleared (takes_of greatest) wide greatest;
+      }
+
+  module _ (suffix : List ℕ) (limit : SuffixLimit) (multiline : Bool)
+      (narrows : Narrows shrinks s (if_wider (truncating suffix limit multiline)) n cells config sizes new stored) (cleared : AreCleared None stored last) where
+    -- a cell that was wider than its content size is truncated
+    truncated_of : TakesFrom shrinks s → suffix ≡ [] → IsWiderThan n (effective cells config sizes) → (row column : ℕ) → IsInside cells row column
+        → inner_width (effective new config last) row column < text_columns (cell_at cells row column)
+        → IsTruncated (inner_width (effective new config last) row column) [] limit multiline (cell_at cells row column) (cell_at new row column)
+    truncated_of takes bare wide row column inside long =
+        let content_size = inner_width (effective new config last) row column in
+        let before = cell_at cells row column in
+        let after = cell_at new row column in
+        let changed = cell_kept shrinks s (if_wider (truncating suffix limit multiline)) n cells config sizes new stored last None refl narrows cleared takes wide row column inside in
+        subst (λ l. IsTruncated content_size l limit multiline before after) bare
+        (MatchBool-at_true (IsTruncated content_size suffix limit multiline before after) (after ≡ before) (lt-ltb content_size (text_columns before) long) changed)
+
+    longest_of : TakesFrom shrinks s → suffix ≡ [] → IsWiderThan n (effective cells config sizes) → IsBestCut multiline (effective cells config sizes) (effective new config last)
+    longest_of takes bare wide =
+        let content_size = inner_width (effective new config last) in
+        record {
+          line = λ whole row column inside exact long.
+              longest_truncated (content_size row column) limit (cell_at cells row column) (cell_at new row column) exact
+              (subst (λ b. IsTruncated (content_size row column) [] limit b (cell_at cells row column) (cell_at new row column)) whole (truncated_of takes bare wide row column inside long));
+          lines = λ apart row column inside long.
+              longest_lines (content_size row column) limit (cell_at cells row column) (cell_at new row column)
+              (subst (λ b. IsTruncated (content_size row column) [] limit b (cell_at cells row column) (cell_at new row column)) apart (truncated_of takes bare wide row column inside long));
+        }
+
+    pub truncates : TruncatesAsPromised shrinks s suffix limit multiline n (effective cells config sizes) (effective new config last)
+    truncates =
+        let change = if_wider (truncating suffix limit multiline) in
+        record {
+          exact = λ takes p l wide texts.
+              exact_of shrinks s change n cells config sizes new stored last None refl narrows cleared takes wide
+              (λ size before after utf8 w. fits-if_wider size suffix limit multiline before after p l utf8 w)
+              (λ size before after plain w. match-both (nat_lt size (text_columns before)) w
+              (λ _ ended. IsAdditive-stays (StaysWithin-truncated size suffix limit multiline before after p l plain ended))
+              (λ _ same. subst IsAdditive (sym same) plain)) rectangular texts;
+          best = longest_of;
+          least = λ greatest wide.
+              least_of shrinks s change n cells config sizes new stored last None refl narrows cleared (takes_of greatest) wide greatest;
         }

@@ -1,9 +1,8 @@
 -- Lines joined one after another.
-use Rattle.tabled_set.proofs.Names.{Bool, IsCut, List, [], ap, append-nil, arith, cond, encode_ascii, encode_utf8_all, false}
-use Rattle.tabled_set.proofs.Names.{join_with_byte, length, length-slice_split, line_columns, lines_of, lit<, refl, replicate, suc}
-use Rattle.tabled_set.proofs.Names.{suffix_columns, sum_by, sym, true, zero, ℕ, ◌++◌, ◌+◌, ◌==◌, ◌∙◌, ◌∷◌, ◌≡◌}
+use Rattle.tabled_set.proofs.Names.{Bool, List, [], ap, append-nil, arith, cond, encode_ascii, encode_utf8_all, false, join_with_byte}
+use Rattle.tabled_set.proofs.Names.{length, length-slice_split, line_columns, lines_of, lit<, refl, replicate, suc, suffix_columns, sum_by}
+use Rattle.tabled_set.proofs.Names.{sym, true, zero, ℕ, ◌++◌, ◌+◌, ◌==◌, ◌∙◌, ◌∷◌, ◌≡◌}
 use Rattle.std.proofs.Common.{append_assoc}
-use Rattle.tabled_set.specs.Truncated.{AddsEnded}
 
 -- what the lines that are left append, where some stand before them or none does
 abbrev pub appended : Bool → List (List ℕ) → List ℕ
@@ -29,18 +28,6 @@ copied_feeds zero = refl
 copied_feeds (suc n) =
     ap (λ bytes. bytes ++ encode_utf8_all (replicate n 10)) (encode_ascii 10 (lit< tt))
     ∙ ap (λ bytes. 10 ∷ bytes) (copied_feeds n)
-
--- ---- what is appended of a text that is truncated
-
--- the cut text, and then its suffix
-pub AddsEnded-cut : {left : ℕ} {used text front old new : List ℕ} → IsCut left text front → new ≡ (old ++ front) ++ used
-    → AddsEnded left used text old new
-AddsEnded-cut {left} {used} {text} {front} {old} cut e =
-    record {
-      piece = front ++ used;
-      ended = record { front = front; cut = cut; answered = refl };
-      added = e ∙ append_assoc old front used;
-    }
 
 -- the columns of some lines, and one more for each
 abbrev pub taken : List (List ℕ) → ℕ

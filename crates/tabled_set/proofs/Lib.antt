@@ -1,4 +1,3 @@
-pub mod Beginnings
 pub mod ChangingCells
 pub mod Emptied
 pub mod ExactTotals
@@ -9,6 +8,4 @@ pub mod NarrowingTables
 pub mod Picking
 pub mod PromisedSizes
 pub mod RewrittenRecords
-pub mod WrappedAndTruncated
-pub mod Stopping
 pub mod TruncatedTexts

@@ -1,26 +1,29 @@
 -- Tables that are narrowed.
-use Rattle.tabled_set.proofs.Names.{AreChanged, AreChangedBefore, Bool, ByColumn, CompleteDimension, Err, IfErr, IfSome, IsFilledIn}
-use Rattle.tabled_set.proofs.Names.{IsFound, IsNarrowed, List, MatchBool-at_false, MatchBool-at_true, MatchOption, Memory, NarrowingOutOfRange, Narrows, None, Ok, Option, Range, Result, Sheet}
-use Rattle.tabled_set.proofs.Names.{Shrinks, Some, SpannedConfig, TableError, WalkOrder, ap, arith, at, cases_Bool, cell_at, columns, cond}
-use Rattle.tabled_set.proofs.Names.{content_width, effective, effective_sizes, emptied, estimated_heights, estimated_widths, false}
-use Rattle.tabled_set.proofs.Names.{filled_width, for_content_size, heights_length, heights_of, if_sized, if◌then◌else◌, inl, inr, is_empty}
-use Rattle.tabled_set.proofs.Names.{length, length-take, less_padding, minimums, nat_le, nat_lt, nat_tests, own_padding, permitted_width}
-use Rattle.tabled_set.proofs.Names.{refl, side_columns, side_padding, subst, sym, take, take-length, total_width, true, widths_length}
-use Rattle.tabled_set.proofs.Names.{widths_of, ℕ, ⊎_elim, ◌&&◌, ◌+◌, ◌-◌, ◌<◌, ◌^◌, ◌∙◌, ◌≡◌, ◌≤◌, ◌⊎◌}
-use Rattle.std.proofs.Common.{IsOk, IsTrue, unwrap_or, is_some}
+use Rattle.tabled_set.proofs.Names.{AreChanged, AreChangedBefore, Bool, ByColumn, CompleteDimension, Err, IfErr, IsFilledIn, List}
+use Rattle.tabled_set.proofs.Names.{MatchOption, Memory, NarrowingOutOfRange, Narrows, None, Ok, Option, Range, Result, Sheet, Shrinks}
+use Rattle.tabled_set.proofs.Names.{Some, SpannedConfig, TableError, WalkOrder, ap, arith, at, cases_Bool, cell_at, columns, cond}
+use Rattle.tabled_set.proofs.Names.{effective, effective_sizes, emptied, estimated_heights, estimated_widths, false, filled_width}
+use Rattle.tabled_set.proofs.Names.{for_content_size, heights_length, heights_of, if_sized, if◌then◌else◌, inl, inr, is_empty, le-leb}
+use Rattle.tabled_set.proofs.Names.{length, length-take, minimums, nat_le, nat_lt, nat_tests, permitted_width, refl, side_columns}
+use Rattle.tabled_set.proofs.Names.{side_padding, subst, sym, take, take-length, total_width, true, widths_length, widths_of, ℕ, ⊎_elim}
+use Rattle.tabled_set.proofs.Names.{◌&&◌, ◌+◌, ◌-◌, ◌<◌, ◌^◌, ◌∙◌, ◌≡◌, ◌≤◌, ◌⊎◌}
+use Rattle.std.proofs.Common.{IsOk, IsTrue, unwrap_or, is_some, IfNone, OnErr, IfSome}
 use Rattle.std.proofs.lemmas.List.{get_or-take}
 use Rattle.tabled_set.specs.Common.{FitsMinimums, IsTooWide}
 use Rattle.tabled_set.specs.CellChanges.{NeedsMemoryIn, if_taken, CellFilter}
-use Rattle.tabled_set.specs.Narrowed.{FitsAlready, HasWidths, StopsEarly, StopsNarrowing, WiderOutOfRange, is_permitted, needs_for_content_size}
+use Rattle.tabled_set.specs.Increased.{StopsFilling}
+use Rattle.tabled_set.specs.declared.narrowing.ColumnWidths.{ColumnWidths}
+use Rattle.tabled_set.specs.Narrowed.{content_of, FitsAlready, HasWidths, StopsEarly, StopsNarrowing, WiderOutOfRange, is_permitted}
+use Rattle.tabled_set.specs.Narrowed.{needs_for_content_size, IsFound, content_width, less_padding}
 use Rattle.tabled_config.specs.Settings.{style_at}
 use Rattle.tabled_entity.specs.Changes.{shared}
 use Rattle.tabled_config.specs.declared.sides.Indent.{Indent}
 use Rattle.tabled_config.specs.declared.sides.Sides.{Sides}
-use Rattle.tabled_set.proofs.ChangingCells.{AreChanged-as, match-false, match-true}
+use Rattle.tabled_set.proofs.ChangingCells.{AreChanged-as, match-false, match-last, match-map, match-true}
 use Rattle.std.specs.Result.{IsErrAnd}
-use Rattle.std.proofs.Common.{IfNone, OnErr}
 use Rattle.tabled_set.proofs.Emptied.{minimums-length}
 use Rattle.tabled_set.proofs.Totals.{short-widths}
+use Rattle.tabled_set.specs.Minimums.{own_padding}
 
 -- the test of a column by a list of minimums that goes as far as the widths
 pub permitted-content_size : (t : Sheet) (widths mins : List ℕ) (column : ℕ) → mins ≡ take (length widths) (minimums t.cells t.config) → is_permitted widths (minimums t.cells t.config) column ≡ is_permitted widths mins column
@@ -32,12 +35,12 @@ permitted-content_size t widths mins column e = ⊎_elim
 
 -- cells that are changed for these content sizes are changed for those of their columns
 module _ (t : Sheet) (widths : List ℕ) {sizes : ℕ → ℕ → Option ℕ} (sized : (row column : ℕ) → sizes row column ≡ content_width t widths row column) where
-  pub sized-made : (change : ℕ → List ℕ → List ℕ → Type 0) {chosen : ℕ → ℕ → Bool} {old new : List (List (List ℕ))} → AreChanged chosen (λ row column. if_sized change (sizes row column)) old new → AreChanged chosen (for_content_size change t widths) old new
+  sized-made : (change : ℕ → List ℕ → List ℕ → Type 0) {chosen : ℕ → ℕ → Bool} {old new : List (List (List ℕ))} → AreChanged chosen (λ row column. if_sized change (sizes row column)) old new → AreChanged chosen (for_content_size change t widths) old new
   sized-made change {chosen} {old} {new} h =
       AreChanged-as h (λ r c inside taken made. subst (λ (o : Option ℕ). if_sized change o (cell_at old r c) (cell_at new r c)) (sized r c) made)
 
   -- so where the changes stopped
-  pub sized-before : (cell_filter : CellFilter) (in_place : ℕ → List ℕ → Type 0) (makes : ℕ → List ℕ → List ℕ → Type 0) {order : WalkOrder} {chosen : ℕ → ℕ → Bool} {old new : List (List (List ℕ))}
+  sized-before : (cell_filter : CellFilter) (in_place : ℕ → List ℕ → Type 0) (makes : ℕ → List ℕ → List ℕ → Type 0) {order : WalkOrder} {chosen : ℕ → ℕ → Bool} {old new : List (List (List ℕ))}
       → AreChangedBefore order chosen (λ row column. NeedsMemoryIn cell_filter in_place (sizes row column)) (λ row column. if_sized (if_taken cell_filter makes) (sizes row column)) old new
       → AreChangedBefore order chosen (needs_for_content_size cell_filter in_place t widths) (for_content_size (if_taken cell_filter makes) t widths) old new
   sized-before cell_filter in_place makes {order} {chosen} {old} {new} h = record {
@@ -126,36 +129,40 @@ module _ {P : Type 0} (shrinks : Shrinks P) (priority : P) (n : ℕ) where
   -- ---- what narrowing leaves
 
   module _ (change : ℕ → List ℕ → List ℕ → Type 0) (cells : List (List (List ℕ))) (config : SpannedConfig) (old mid : CompleteDimension) (some : is_empty cells ≡ false) (filled : IsFilledIn old cells config mid) where
-    pub narrows-none : total_width (effective cells config mid) ≤ n → Narrows shrinks priority change n cells config old cells mid
-    narrows-none fits =
-        let e = ap total_width (effective-filled cells config old mid filled) in
-        let within : nat_le (total_width (effective cells config old)) n ≡ true = let le : total_width (effective cells config old) ≤ n = omega (arith, fits, e) in grind (arith, nat_tests) in
-        match-false ((cells ≡ cells) × (mid ≡ old)) _ some
-        (match-true ((cells ≡ cells) × IsFilledIn old cells config mid) (IsNarrowed shrinks priority change n (effective cells config old) cells mid) within (refl, filled))
+    found-old : (found : ColumnWidths) → IsFound shrinks priority n (effective cells config mid) found
+        → IsFound shrinks priority n (effective cells config old) found
+    found-old found h = subst (λ t. IsFound shrinks priority n t found) (effective-filled cells config old mid filled) h
 
-    found-old : (widths : List ℕ) → IsFound shrinks priority n (effective cells config mid) widths → IsFound shrinks priority n (effective cells config old) widths
-    found-old widths h = subst (λ t. IsFound shrinks priority n t widths) (effective-filled cells config old mid filled) h
-
-    pub narrows-some : (cells' : List (List (List ℕ))) (new : CompleteDimension) (widths : List ℕ) → IsFound shrinks priority n (effective cells config mid) widths → AreChanged (λ r c. true) (for_content_size change (effective cells config mid) widths) cells cells' → widths_of new ≡ Some widths → heights_of new ≡ None → Narrows shrinks priority change n cells config old cells' new
-    narrows-some cells' new widths found changed stored cleared =
+    pub narrows-some : (cells' : List (List (List ℕ))) (new : CompleteDimension) (found : ColumnWidths)
+        → IsFound shrinks priority n (effective cells config mid) found
+        → AreChanged (λ r c. true) (λ row column. if_sized change (content_of found row column)) cells cells'
+        → widths_of new ≡ Some found.widths.items → heights_of new ≡ None → Narrows shrinks priority change n cells config old cells' new
+    narrows-some cells' new found was changed stored cleared =
         let t = effective cells config old in
-        let is = found-old widths found in
+        let widths = found.widths.items in
+        let is = found-old found was in
         let above : nat_le (total_width t) n ≡ false = let lt : n < total_width t = is.wider in grind (arith, nat_tests) in
-        match-false ((cells' ≡ cells) × (new ≡ old)) _ some
-        (match-false ((cells' ≡ cells) × IsFilledIn old cells config new) (IsNarrowed shrinks priority change n t cells' new) above
-        (record { widths = widths; shrunk = is.shrunk; changed = changed; stored = stored; cleared = cleared }))
+        match-last _ _ some above (record {
+          widths = widths;
+          shrunk = is.shrunk;
+          changed = sized-made t widths is.sized change changed;
+          stored = stored;
+          cleared = cleared;
+        })
 
     -- a failure at a cell
-    pub stops-some : (cell_filter : CellFilter) (in_place : ℕ → List ℕ → Type 0) (cells' : List (List (List ℕ))) (error : TableError) (widths : List ℕ) → error ≡ Memory
-        → IsFound shrinks priority n (effective cells config mid) widths
-        → AreChangedBefore ByColumn (λ r c. true) (needs_for_content_size cell_filter in_place (effective cells config mid) widths) (for_content_size (if_taken cell_filter change) (effective cells config mid) widths) cells cells'
+    pub stops-some : (cell_filter : CellFilter) (in_place : ℕ → List ℕ → Type 0) (cells' : List (List (List ℕ))) (error : TableError)
+        (found : ColumnWidths) → error ≡ Memory → IsFound shrinks priority n (effective cells config mid) found
+        → AreChangedBefore ByColumn (λ r c. true) (λ row column. NeedsMemoryIn cell_filter in_place (content_of found row column))
+        (λ row column. if_sized (if_taken cell_filter change) (content_of found row column)) cells cells'
         → StopsNarrowing shrinks priority cell_filter in_place change n error cells config old cells' mid
-    stops-some cell_filter in_place cells' error widths e found changed =
-        let is = found-old widths found in
+    stops-some cell_filter in_place cells' error found e was changed =
+        let is = found-old found was in
+        let before = sized-before (effective cells config old) found.widths.items is.sized cell_filter in_place change changed in
         inr (record {
           wider = is.wider;
           filled = filled;
-          stopped = inr (e, record { wider = is.wider; widths = widths; shrunk = is.shrunk; changed = changed });
+          stopped = inr (e, record { wider = is.wider; widths = found.widths.items; shrunk = is.shrunk; changed = before });
         })
 
 -- ---- what fails
@@ -164,6 +171,10 @@ module _ {P : Type 0} (shrinks : Shrinks P) (priority : P) (n : ℕ) where
 pub fails-lacking : {A : Type 0} (stored : Bool) (r : Result A TableError) (e : TableError) → (IsTrue stored → IsOk r) → r ≡ Err e → stored ≡ false
 fails-lacking {A} false r e h is = refl
 fails-lacking {A} true r e h is = let ok : false ≡ true = subst (λ (s : Result A TableError). IsOk s) is (h refl) in sym ok
+
+-- a measure that fails leaves the sizes
+pub stops-measuring : (e cause : TableError) (sizes : CompleteDimension) → e ≡ cause → cause ≡ Range → StopsFilling e sizes sizes
+stops-measuring e cause sizes is range = record { lacking = λ m. cc; same = refl }
 
 -- the error that a call hands on
 pub if-err : {T : Type 0} (P : TableError → Type 0) (r : Result T TableError) (e : TableError) → IsErrAnd r (λ d. d ≡ e) → P e → IfErr r P
@@ -197,14 +208,14 @@ module _ (n k : ℕ) (cells : List (List (List ℕ))) (config : SpannedConfig) (
   fits-already Q (Some x) h = tt
 
   -- those that are found
-  pub has-widths : {P X : Type 0} (shrinks : Shrinks P) (priority : P) (A : Type 0) (widths : X → List ℕ) (o : Option X)
-      → MatchOption o A (λ x. IsFound shrinks priority k (effective cells config mid) (widths x))
-      → IfSome o (λ x. HasWidths shrinks priority n cells config old mid (widths x))
-  has-widths shrinks priority A widths None h = tt
-  has-widths shrinks priority A widths (Some x) h = record {
+  pub has-widths : {P : Type 0} (shrinks : Shrinks P) (priority : P) (A : Type 0) (o : Option ColumnWidths)
+      → MatchOption o A (IsFound shrinks priority k (effective cells config mid))
+      → IfSome o (HasWidths shrinks priority n cells config old mid)
+  has-widths shrinks priority A None h = tt
+  has-widths shrinks priority A (Some found) h = record {
     some = some;
     filled = filled;
-    found = subst (λ (m : ℕ). IsFound shrinks priority m (effective cells config mid) (widths x)) measured h;
+    found = subst (λ (m : ℕ). IsFound shrinks priority m (effective cells config mid) found) measured h;
   }
 
   -- an error of a table that is wider
@@ -220,13 +231,8 @@ module _ {P : Type 0} (shrinks : Shrinks P) (priority : P) (change : ℕ → Lis
   -- a table that isn't wider is left so
   pub narrows-fitting : FitsAlready n cells config old mid → Narrows shrinks priority change n cells config old cells mid
   narrows-fitting h =
-      ⊎_elim
-      (λ yes. match-true ((cells ≡ cells) × (mid ≡ old)) _ yes (refl, MatchBool-at_true (mid ≡ old) _ yes h))
-      (λ no.
-      let left = MatchBool-at_false (mid ≡ old) ((total_width (effective cells config old) ≤ n) × IsFilledIn old cells config mid) no h in
-      let e = ap total_width (effective-filled cells config old mid left.1) in
-      narrows-none shrinks priority n change cells config old mid no left.1 (omega (arith, left.0, e)))
-      (cases_Bool (is_empty cells))
+      match-map (is_empty cells) h (λ _ same. (refl, same))
+      (λ _ left. match-true _ _ (le-leb (total_width (effective cells config old)) n left.0) (refl, left.1))
 
   -- an error before a cell has changed
   pub stops-early : (cell_filter : CellFilter) (in_place : ℕ → List ℕ → Type 0) (e : TableError) → StopsEarly n e cells config old mid
@@ -238,7 +244,7 @@ module _ {P : Type 0} (shrinks : Shrinks P) (priority : P) (change : ℕ → Lis
 
 -- an error once the widths are found
 pub early-found : {P : Type 0} (shrinks : Shrinks P) (priority : P) (n : ℕ) (cells : List (List (List ℕ))) (config : SpannedConfig)
-    (old mid : CompleteDimension) (widths : List ℕ) (e : TableError) → HasWidths shrinks priority n cells config old mid widths
+    (old mid : CompleteDimension) (widths : ColumnWidths) (e : TableError) → HasWidths shrinks priority n cells config old mid widths
     → StopsEarly n e cells config old mid
 early-found shrinks priority n cells config old mid widths e h =
     let wide = subst (λ t. n < total_width t) (effective-filled cells config old mid h.filled) h.found.wider in

@@ -1,15 +1,15 @@
 -- Records that are written anew, cell by cell.
-use Rattle.tabled_set.proofs.Names.{AreChanged, Err, IsRectangular, List, Ok, Option, Result, Some, TableError, [], ap, arith}
-use Rattle.tabled_set.proofs.Names.{cases_Bool, cell_at, columns, if_sized, length, nat_lt, nat_tests, refl, slice_index_or}
-use Rattle.tabled_set.proofs.Names.{subst, sym, true, ℕ, ⊎_elim, ◌++◌, ◌+◌, ◌<◌, ◌∙◌, ◌∷◌, ◌≡◌, ◌≤◌}
-use Rattle.std.proofs.Common.{OnOk}
+use Rattle.tabled_set.proofs.Names.{AreChanged, Err, IsRectangular, List, Ok, Option, Result, Some, TableError, [], ap, arith, cell_at}
+use Rattle.tabled_set.proofs.Names.{columns, if_sized, length, refl, slice_index_or, subst, sym, true, ℕ, ⊎_elim, ◌++◌, ◌+◌, ◌<◌, ◌∙◌, ◌∷◌}
+use Rattle.tabled_set.proofs.Names.{◌≡◌}
+use Rattle.std.proofs.Common.{OnOk, below_more}
+use Rattle.std.proofs.lemmas.Bool.{cases_lt}
 use Rattle.std.proofs.lemmas.List.{get_or_append_left, get_or_past, get_or_push, length-append}
 use Rattle.std.proofs.lemmas.List.Elements.{All-from_get_or}
 use Rattle.tabled_base.specs.Cells.{lengthened_rows}
 use Rattle.tabled_records.proofs.Rows.{rectangular-same}
-use Rattle.tabled_records.specs.Written.{Written}
-use Rattle.tabled_set.specs.CellChanges.{CellFilter, if_taken, is_taken}
-use Rattle.tabled_set.specs.Rewritten.{AddsRow, AddsText, AreMade, RowsAreMade}
+use Rattle.tabled_records.specs.Joined.{Written}
+use Rattle.tabled_set.specs.CellChanges.{CellFilter, if_taken, is_taken, AddsRow, AddsText, AreMade, RowsAreMade}
 use Rattle.tabled_set.proofs.ChangingCells.{columns-first, match-true}
 
 -- ---- one text
@@ -27,28 +27,14 @@ pub adds-pushed : {T : Type 0} (r : Result T TableError) (made : List ℕ → Ty
 adds-pushed (Ok x) made text old new h is = record { text = text; is_made = is; added = h }
 adds-pushed (Err e) made text old new h is = tt
 
--- a text that was added is as another relation says too
-pub adds-as : {T : Type 0} (r : Result T TableError) (first second : List ℕ → Type 0) (old new : Written)
-    → OnOk r (AddsText first old new) → ((text : List ℕ) → first text → second text) → OnOk r (AddsText second old new)
-adds-as (Ok x) first second old new h so = record { text = h.text; is_made = so h.text h.is_made; added = h.added }
-adds-as (Err e) first second old new h so = tt
-
 -- ---- lists with one more item
 
 each-more : {X : Type 0} (P : ℕ → X → Type 0) (xs : List X) (d x : X) (n : ℕ) → length xs ≡ n
     → ((i : ℕ) → i < n → P i (slice_index_or xs i d)) → P n x → (i : ℕ) → i < n + 1 → P i (slice_index_or (xs ++ x ∷ []) i d)
-each-more P xs d x n long each last i below =
-    ⊎_elim
-    (λ below_it.
-    let l : i < n = grind (arith, nat_tests) in
-    subst (P i) (sym (get_or_append_left xs (x ∷ []) d i (omega (arith, l, long)))) (each i l))
-    (λ past.
-    let e : i ≡ n = grind (arith, nat_tests) in
-    subst (λ (k : ℕ). P k (slice_index_or (xs ++ x ∷ []) k d)) (sym e) (subst (P n) (sym (get_or_push xs x d n long)) last))
-    (cases_Bool (nat_lt i n))
-
-length-more : {X : Type 0} (xs : List X) (x : X) (n : ℕ) → length xs ≡ n → length (xs ++ x ∷ []) ≡ n + 1
-length-more xs x n long = length-append xs (x ∷ []) ∙ ap (λ k. k + 1) long
+each-more P xs d x n long each last =
+    below_more (λ i. P i (slice_index_or (xs ++ x ∷ []) i d)) n
+    (λ i below. subst (P i) (sym (get_or_append_left xs (x ∷ []) d i (omega (arith, below, long)))) (each i below))
+    (subst (P n) (sym (get_or_push xs x d n long)) last)
 
 module _ (change : ℕ → ℕ → List ℕ → List ℕ → Type 0) (cells : List (List (List ℕ))) where
   -- ---- one row
@@ -61,7 +47,7 @@ module _ (change : ℕ → ℕ → List ℕ → List ℕ → Type 0) (cells : Li
   made-more row column old new h next =
       subst (AreMade change cells row (column + 1)) (sym (ap (λ (w : Written). w.begun) next.added))
       (record {
-        many = length-more old.begun next.text column h.many;
+        many = length-append old.begun (next.text ∷ []) ∙ ap (λ k. k + 1) h.many;
         each = each-more (λ k text. change row k (cell_at cells row k) text) old.begun [] next.text column h.many h.each next.is_made;
       })
 
@@ -89,7 +75,7 @@ module _ (change : ℕ → ℕ → List ℕ → List ℕ → Type 0) (cells : Li
   rows-more row old new h next =
       subst (RowsAreMade change cells (row + 1)) (sym next.added)
       (record {
-        many = length-more old.rows next.texts row h.many;
+        many = length-append old.rows (next.texts ∷ []) ∙ ap (λ k. k + 1) h.many;
         each = each-more (λ k texts. AreMade change cells k (columns cells) texts) old.rows [] next.texts row h.many h.each next.are_made;
         begun = refl;
       })
@@ -112,10 +98,8 @@ module _ (change : ℕ → ℕ → List ℕ → List ℕ → Type 0) (cells : Li
         rows = many;
         row_lengths = λ row.
             ⊎_elim
-            (λ inside. let l : row < length cells = grind (arith, nat_tests) in (each row l).many ∙ sym (rectangular row [] l))
-            (λ outside.
-            let past : length cells ≤ row = grind (arith, nat_tests) in
-            ap length (get_or_past rows row [] (omega (arith, past, many)) ∙ sym (get_or_past cells row [] past)))
-            (cases_Bool (nat_lt row (length cells)));
+            (λ inside. (each row inside).many ∙ sym (rectangular row [] inside))
+            (λ past. ap length (get_or_past rows row [] (omega (arith, past, many)) ∙ sym (get_or_past cells row [] past)))
+            (cases_lt row (length cells));
         cells = λ row column inside. (each row inside.row_in).each column inside.column_in;
       })

@@ -1,12 +1,11 @@
 -- The totals of tables whose rows grew or shrank, or for which too few widths may be stored.
 use Rattle.tabled_set.proofs.Names.{CompleteDimension, IsTakenFrom, List, MatchOption, None, Option, Sheet, Some, SpannedConfig, [], ap}
 use Rattle.tabled_set.proofs.Names.{arith, at, cell_at, columns, cond, effective, effective_sizes, estimated_heights, estimated_widths}
-use Rattle.tabled_set.proofs.Names.{false, filled_height, filled_width, frame_height, frame_width, has_inner, has_left, has_right}
-use Rattle.tabled_set.proofs.Names.{heights_length, if◌then◌else◌, is_empty, length, length-take, max, nat_tests, one_if, part_height}
-use Rattle.tabled_set.proofs.Names.{reached, refl, subst, suc, sum, sum-below, sum_below, sym, total_width, widths_length, widths_of, zero}
-use Rattle.tabled_set.proofs.Names.{ℕ, ⊎_elim, ◌*◌, ◌+◌, ◌-◌, ◌<◌, ◌==◌, ◌^◌, ◌∙◌, ◌≡◌, ◌≤◌}
+use Rattle.tabled_set.proofs.Names.{false, filled_height, filled_width, frame_height, frame_width, heights_length, if◌then◌else◌, is_empty}
+use Rattle.tabled_set.proofs.Names.{length, length-take, max, nat_tests, part_height, reached, refl, subst, suc, sum, sym, total_width}
+use Rattle.tabled_set.proofs.Names.{widths_length, widths_of, zero, ℕ, ⊎_elim, ◌+◌, ◌-◌, ◌<◌, ◌==◌, ◌^◌, ◌∙◌, ◌≡◌, ◌≤◌}
 use Rattle.tabled_priority.specs.Grown.{IsGrownFrom, added}
-use Rattle.tabled_priority.specs.Laws.Sums.{sum_below-plus, sum_below-same, sum_below-term, sum_below-zero}
+use Rattle.tabled_priority.specs.Laws.Sums.{sum_below-plus, sum_below-same, sum_below-term, sum_below-zero, sum-below}
 use Rattle.tabled_priority.specs.Permitted.{spare, spare_total}
 use Rattle.tabled_size.specs.Totals.{rules_at}
 use Rattle.tabled_size.proofs.Passing.{height_at, height_ge}
@@ -14,7 +13,10 @@ use Rattle.tabled_text.proofs.Bridge.{some_line}
 use Rattle.std.proofs.lemmas.Bool.{cases_lt}
 use Rattle.std.proofs.lemmas.List.{get_or_past}
 use Rattle.std.specs.List.{slice_index}
-use Rattle.tabled_size.proofs.Reaching.{reached_at, reached_so}
+use Rattle.tabled_size.proofs.Reaching.{reached_size, reached_so}
+use Rattle.tabled_config.specs.Frame.{has_inner, has_left, has_right}
+use Rattle.tabled_priority.specs.Sums.{one_if, sum_below}
+use Rattle.std.proofs.Common.{◌*◌}
 
 -- where there is a height a row, the whole is their sum and the frame
 parts : (config : SpannedConfig) (rows : ℕ) (heights : List ℕ)
@@ -33,19 +35,14 @@ filled_height-frame config rows heights long =
     omega arith
 
 -- every row of a table with a column has a line at least
-some-row : (cells : List (List (List ℕ))) → is_empty cells ≡ false → 0 < length cells
-some-row cells some = grind (arith, nat_tests, some)
-
-some-column : (cells : List (List (List ℕ))) → is_empty cells ≡ false → 0 < columns cells
-some-column cells some = grind (arith, nat_tests, some)
-
 pub some-lines : (cells : List (List (List ℕ))) (config : SpannedConfig) → is_empty cells ≡ false → 0 < sum (estimated_heights cells config)
 some-lines cells config some =
     let heights = estimated_heights cells config in
-    let row = some-row cells some in
+    let row : 0 < length cells = grind (arith, nat_tests, some) in
+    let column : 0 < columns cells = grind (arith, nat_tests, some) in
     let long = heights_length cells config in
     let first = height_at cells config 0 row in
-    let above = height_ge cells config 0 0 (some-column cells some) in
+    let above = height_ge cells config 0 0 column in
     let lines = some_line (cell_at cells 0 0) in
     let term = sum_below-term (at heights) (length heights) 0 (omega arith) in
     let all = sum-below heights in
@@ -115,9 +112,6 @@ padded sizes i = Some (slice_index sizes i)
 pub padded_long : (sizes : List ℕ) (count : ℕ) → count ≤ length (reached (padded sizes) count)
 padded_long sizes count = reached_so (padded sizes) count count (omega arith) (λ i lt. refl)
 
-same_some : {m n : ℕ} → Some m ≡ Some n → m ≡ n
-same_some h = cc
-
 -- a total depends on the sizes below the count alone
 pub same_width : (config : SpannedConfig) (count : ℕ) (old new : List ℕ) → ((i : ℕ) → i < count → at new i ≡ at old i) → filled_width config count new ≡ filled_width config count old
 unfolding filled_width
@@ -125,20 +119,17 @@ same_width config count old new h =
     ap (λ n. (config.margin.left.size + one_if (has_left config.borders)) + ((n + (count - 1) * one_if (has_inner config.borders)) + (one_if (has_right config.borders) + config.margin.right.size)))
     (sum_below-same (at new) (at old) count h)
 
-same_part : (config : SpannedConfig) (count : ℕ) (old new : List ℕ) (i : ℕ) → at new i ≡ at old i → part_height config count new i ≡ part_height config count old i
-unfolding part_height
-same_part config count old new i h = ap (λ n. rules_at config count i + n) h
-
 pub same_height : (config : SpannedConfig) (count : ℕ) (old new : List ℕ) → ((i : ℕ) → i < count → at new i ≡ at old i) → filled_height config count new ≡ filled_height config count old
-unfolding filled_height
+unfolding filled_height part_height
 same_height config count old new h =
     ap (λ n. config.margin.top.size + (n + (rules_at config count count + config.margin.bottom.size)))
-    (sum_below-same (part_height config count new) (part_height config count old) count (λ i lt. same_part config count old new i (h i lt)))
+    (sum_below-same (part_height config count new) (part_height config count old) count
+    (λ i lt. ap (λ n. rules_at config count i + n) (h i lt)))
 
 same_reached : (sizes : List ℕ) (count i : ℕ) → i < count → at (reached (padded sizes) count) i ≡ at sizes i
 same_reached sizes count i lt =
     let long = padded_long sizes count in
-    same_some (sym (reached_at (padded sizes) count i (omega arith)))
+    sym (reached_size (padded sizes) count i (at sizes i) (omega arith) refl)
 
 pub padded_width_total : (config : SpannedConfig) (count : ℕ) (sizes : List ℕ) → filled_width config count (reached (padded sizes) count) ≡ filled_width config count sizes
 padded_width_total config count sizes = same_width config count sizes (reached (padded sizes) count) (same_reached sizes count)

@@ -1,24 +1,29 @@
--- Truncated texts stay in their content size.
-use Rattle.tabled_set.proofs.Names.{AllZip, Bool, Cut, FitsIn, Ignore, IsAdditive, IsAdditiveLimit, IsCut, IsEnded, IsLimited, IsTruncated}
-use Rattle.tabled_set.proofs.Names.{IsUsed, IsUtf8, List, MatchBool, MatchBool-at_false, MatchBool-at_true, Replace, SuffixLimit, [], ap}
-use Rattle.tabled_set.proofs.Names.{append-nil, arith, cases_Bool, cut-once, encode_utf8_all, eqb-suc-zero, false, get_or_default, if_wider}
-use Rattle.tabled_set.proofs.Names.{join_with_byte, length, length-slice_split, line_columns, lines_of, nat_lt, refl, replicate, subst, suc}
-use Rattle.tabled_set.proofs.Names.{suffix_columns, sum_by, sym, text_columns, true, truncating, zero, ℕ, ⊎_elim, ◌++◌, ◌+◌, ◌-◌, ◌<◌, ◌==◌}
-use Rattle.tabled_set.proofs.Names.{◌∙◌, ◌∷◌, ◌≡◌, ◌≤◌}
+-- Truncated texts: they stay in their content size, and some are truncated in place.
+use Rattle.tabled_set.proofs.Names.{AllZip, Bool, FitsIn, HasEndedLines, IsAdditive, IsAdditiveLimit, IsCutAt, IsEnded, IsTruncated, IsUtf8}
+use Rattle.tabled_set.proofs.Names.{List, MatchBool, SuffixLimit, [], ap, append-nil, arith, encode_utf8_all, false, get_or_default}
+use Rattle.tabled_set.proofs.Names.{if_wider, inl, inr, join_with_byte, length, length-slice_split, line_columns, lines_of, nat_lt, refl}
+use Rattle.tabled_set.proofs.Names.{replicate, subst, suc, suffix_columns, sum_by, sym, take, text_columns, true, truncating, zero, ℕ, ◌++◌}
+use Rattle.tabled_set.proofs.Names.{◌+◌, ◌-◌, ◌<◌, ◌==◌, ◌∙◌, ◌∷◌, ◌≡◌, ◌≤◌, ◌⊎◌}
 use Rattle.std.proofs.Common.{chars, All}
-use Rattle.std.proofs.lemmas.Bool.{ltb-false, ltb-true}
+use Rattle.std.proofs.lemmas.Bool.{ltb-false, ltb-true, eqb-true}
 use Rattle.std.proofs.lemmas.List.Sums.{sum_by-cons}
 use Rattle.std.proofs.lemmas.Str.{IsUtf8-nil, chars-nil}
-use Rattle.tabled_set.specs.Common.{IsExactLine, IsLongestCut, IsAdditiveColumn}
+use Rattle.tabled_set.specs.Common.{IsExactLine, IsLongestCut, IsAdditiveColumn, IsCut}
 use Rattle.tabled_text.specs.Cut.{missing_columns}
 use Rattle.tabled_text.proofs.CutLemmas.{IsReached-nil, longest_at_full}
 use Rattle.tabled_text.proofs.PlainLines.{plain_line-nil, plain_line-each, plain_text-line}
 use Rattle.tabled_text.proofs.ExactLines.{exact-longest}
-use Rattle.tabled_set.specs.Truncated.{HasLongestLines}
-use Rattle.std.proofs.lemmas.List.Elements.{All-head, All-tail, All-cons, All-nil, length_all_zip}
+use Rattle.tabled_set.specs.Truncated.{HasLongestLines, IsTruncatedInPlace, Cut, Ignore, IsLimited, IsUsed, Replace}
+use Rattle.std.proofs.lemmas.List.Elements.{length_all_zip}
 use Rattle.tabled_text.specs.Room.{StaysWithin}
 use Rattle.tabled_text.proofs.FittingLaws.{fits-cut, fits-suffix, fits-joined, fits-filled}
 use Rattle.tabled_text.proofs.StayLemmas.{StaysWithin-cut, StaysWithin-suffix, StaysWithin-join, StaysWithin-filled}
+use Rattle.tabled_set.proofs.ChangingCells.{match-both, match-false, match-true, match-two}
+use Rattle.tabled_records.proofs.Runs.{zip_all}
+use Rattle.std.proofs.lemmas.List.{length-take-le}
+use Rattle.tabled_base.specs.ShortOr.{FitsBehind}
+use Rattle.tabled_text.proofs.CutOnce.{cut-once}
+use Rattle.std.proofs.Math.Dec.{eqb-suc-zero}
 
 missing-none : (rest : List ℕ) → missing_columns 0 [] rest ≡ 0
 missing-none [] = refl
@@ -37,26 +42,39 @@ IsCut-nothing text =
 pub no_columns : suffix_columns [] ≡ 0
 no_columns = let e = plain_line-nil.columns in let s = sum_by-cons line_columns [] [] in omega (arith, e, s)
 
--- no suffix is written, and it leaves all columns
-bare-used : (content_size : ℕ) (limit : SuffixLimit) (used : List ℕ) (left : ℕ) → IsUsed content_size [] limit used left
-    → (used ≡ []) × (left ≡ content_size)
-bare-used zero limit used left u = u
-bare-used (suc r) limit used left u =
-    let content_size = suc r in
-    let whole = (used ≡ []) × (left ≡ content_size - suffix_columns []) in
-    let limited = IsLimited content_size [] limit used left in
-    let beside = nat_lt (suffix_columns []) content_size in
-    let some = MatchBool-at_false ((used ≡ []) × (left ≡ 0)) (MatchBool beside whole limited) (eqb-suc-zero r) u in
-    ⊎_elim
-    (λ yes. let k = MatchBool-at_true whole limited yes some in let e = k.1 in let none = no_columns in (k.0, omega (arith, e, none)))
-    (λ no. let e = ltb-false (suffix_columns []) content_size no in let none = no_columns in absurd (omega (arith, e, none)))
-    (cases_Bool beside)
+-- ---- what is written for a suffix
+
+-- nothing for a content size of 0 or for no suffix, and the whole content size is left
+pub nothing-used : (content_size : ℕ) (suffix : List ℕ) (limit : SuffixLimit) → (content_size ≡ 0) ⊎ (suffix ≡ [])
+    → IsUsed content_size suffix limit [] content_size
+nothing-used zero suffix limit h = (refl, refl)
+nothing-used (suc r) suffix limit (inl e) = absurd (omega (arith, e))
+nothing-used (suc r) suffix limit (inr none) =
+    let whole : suc r ≡ suc r - suffix_columns [] = omega (arith, no_columns) in
+    rw none (match-false _ _ (eqb-suc-zero r) (match-true {b = nat_lt (suffix_columns []) (suc r)} _ _ (grind (arith, no_columns)) (refl, whole)))
+
+one-way : {u v w : List ℕ} {l m n : ℕ} → (u ≡ w) × (l ≡ n) → (v ≡ w) × (m ≡ n) → (u ≡ v) × (l ≡ m)
+one-way a b = (a.0 ∙ sym b.0, a.1 ∙ sym b.1)
+
+limited-once : (content_size : ℕ) (suffix : List ℕ) (limit : SuffixLimit) (used used' : List ℕ) (left left' : ℕ)
+    → IsLimited content_size suffix limit used left → IsLimited content_size suffix limit used' left' → (used ≡ used') × (left ≡ left')
+limited-once content_size suffix Cut used used' left left' one other = (cut-once one.0 other.0, one.1 ∙ sym other.1)
+limited-once content_size suffix Ignore used used' left left' one other = one-way one other
+limited-once content_size suffix (Replace c) used used' left left' one other = one-way one other
+
+-- in one way alone
+used-once : (content_size : ℕ) (suffix : List ℕ) (limit : SuffixLimit) (used used' : List ℕ) (left left' : ℕ)
+    → IsUsed content_size suffix limit used left → IsUsed content_size suffix limit used' left' → (used ≡ used') × (left ≡ left')
+used-once content_size suffix limit used used' left left' one other =
+    match-two (content_size == 0) one other one-way
+    (λ some some'. match-two (nat_lt (suffix_columns suffix) content_size) some some' one-way
+    (limited-once content_size suffix limit used used' left left'))
 
 -- what no suffix ends is cut
 IsCut-ended : (content_size : ℕ) (limit : SuffixLimit) (used : List ℕ) (left : ℕ) (text answer : List ℕ)
     → IsUsed content_size [] limit used left → IsEnded left used text answer → IsCut content_size text answer
 IsCut-ended content_size limit used left text answer u h =
-    let bare = bare-used content_size limit used left u in
+    let bare = used-once content_size [] limit used [] left content_size u (nothing-used content_size [] limit (inr refl)) in
     subst (IsCut content_size text) (sym (h.answered ∙ ap (λ l. h.front ++ l) bare.0 ∙ append-nil h.front))
     (subst (λ n. IsCut n text h.front) bare.1 h.cut)
 
@@ -125,28 +143,15 @@ module _ (Own : List ℕ → Type 0) (Stays : ℕ → List ℕ → Type 0) (kept
 
   closes-used : (n : ℕ) (suffix : List ℕ) (limit : SuffixLimit) (used : List ℕ) (left : ℕ) → IsAdditive suffix → IsAdditiveLimit limit
       → IsUsed n suffix limit used left → Closes Own Stays n left used
-  closes-used zero suffix limit used left p q h = closes-nothing 0 left used h.0 h.1
-  closes-used (suc r) suffix limit used left p q h =
-      let n = suc r in
-      let whole = (used ≡ suffix) × (left ≡ n - suffix_columns suffix) in
-      let limited = IsLimited n suffix limit used left in
-      let some = MatchBool-at_false ((used ≡ []) × (left ≡ 0)) (MatchBool (nat_lt (suffix_columns suffix) n) whole limited) (eqb-suc-zero r) h in
-      ⊎_elim
-      (λ yes. let k = MatchBool-at_true whole limited yes some in closes-whole n suffix used left p (ltb-true (suffix_columns suffix) n yes) k.0 k.1)
-      (λ no. closes-limited n suffix limit used left p q (MatchBool-at_false whole limited no some))
-      (cases_Bool (nat_lt (suffix_columns suffix) n))
+  closes-used n suffix limit used left p q h =
+      match-both (n == 0) h
+      (λ none k. closes-nothing n left used k.0 (k.1 ∙ sym (eqb-true n 0 none)))
+      (λ _ some. match-both (nat_lt (suffix_columns suffix) n) some
+      (λ below k. closes-whole n suffix used left p (ltb-true (suffix_columns suffix) n below) k.0 k.1)
+      (λ _ k. closes-limited n suffix limit used left p q k))
 
   stays-ended : (n left : ℕ) (used text answer : List ℕ) → Closes Own Stays n left used → Own text → IsEnded left used text answer → Stays n answer
   stays-ended n left used text answer closes own h = subst (Stays n) (sym h.answered) (closes text h.front own h.cut)
-
-  each-ended : (n left : ℕ) (used : List ℕ) (lines answers : List (List ℕ)) → Closes Own Stays n left used → All Own lines
-      → AllZip (IsEnded left used) lines answers → All (Stays n) answers
-  each-ended n left used [] [] closes own h = All-nil (Stays n)
-  each-ended n left used [] (answer ∷ answers) closes own h = absurd h
-  each-ended n left used (line ∷ lines) [] closes own h = absurd h
-  each-ended n left used (line ∷ lines) (answer ∷ answers) closes own h =
-      All-cons (Stays n) answer answers (stays-ended n left used line answer closes (All-head Own line lines own) h.0)
-      (each-ended n left used lines answers closes (All-tail Own line lines own) h.1)
 
   stays-truncated : (n : ℕ) (suffix : List ℕ) (limit : SuffixLimit) (multiline : Bool) (text answer : List ℕ) → IsAdditive suffix → IsAdditiveLimit limit
       → Own text → All Own (lines_of text) → IsTruncated n suffix limit multiline text answer → Stays n answer
@@ -158,7 +163,9 @@ module _ (Own : List ℕ → Type 0) (Stays : ℕ → List ℕ → Type 0) (kept
       let some = length-slice_split (λ c. c == 10) text in
       let same = length_all_zip (IsEnded h.left h.used) (lines_of text) lines.lines lines.each in
       subst (Stays n) (sym lines.joined)
-      (kept.joined n lines.lines (omega (arith, some, same)) (each-ended n h.left h.used (lines_of text) lines.lines closes each lines.each))
+      (kept.joined n lines.lines (omega (arith, some, same))
+      (zip_all (IsEnded h.left h.used) Own (Stays n) (λ line answer ended own. stays-ended n h.left h.used line answer closes own ended)
+      (lines_of text) lines.lines lines.each each))
 
 -- ---- additive texts
 
@@ -202,12 +209,43 @@ fits-truncated content_size suffix limit multiline text answer p q h =
 pub fits-if_wider : (content_size : ℕ) (suffix : List ℕ) (limit : SuffixLimit) (multiline : Bool) (before after : List ℕ) → IsAdditive suffix → IsAdditiveLimit limit → IsUtf8 before
     → if_wider (truncating suffix limit multiline) content_size before after → FitsIn content_size after
 fits-if_wider content_size suffix limit multiline before after p q u w =
-    let ended = IsTruncated content_size suffix limit multiline before after in
-    let stays = after ≡ before in
-    ⊎_elim
-    (λ y. fits-truncated content_size suffix limit multiline before after p q (MatchBool-at_true ended stays y w))
-    (λ no.
-    let same : after ≡ before = MatchBool-at_false ended stays no w in
-    let own : FitsIn content_size before = record { utf8 = u; columns = ltb-false content_size (text_columns before) no } in
-    subst (FitsIn content_size) (sym same) own)
-    (cases_Bool (nat_lt content_size (text_columns before)))
+    match-both (nat_lt content_size (text_columns before)) w
+    (λ _ ended. fits-truncated content_size suffix limit multiline before after p q ended)
+    (λ no same. subst (FitsIn content_size) (sym same) (record { utf8 = u; columns = ltb-false content_size (text_columns before) no }))
+
+-- ---- in place
+
+ended_lines : (multiline : Bool) (left : ℕ) (used text answer : List ℕ) → (multiline ≡ true → lines_of text ≡ text ∷ []) → IsEnded left used text answer
+    → MatchBool multiline (HasEndedLines left used text answer) (IsEnded left used text answer)
+ended_lines false left used text answer one h = h
+ended_lines true left used text answer one h =
+    record {
+      lines = answer ∷ [];
+      each = rw (one refl) (h, tt);
+      joined = refl;
+    }
+
+pub truncated-in_place : (content_size : ℕ) (suffix : List ℕ) (limit : SuffixLimit) (multiline : Bool) (text used : List ℕ) (left bytes : ℕ)
+    → (multiline ≡ true → lines_of text ≡ text ∷ []) → IsUsed content_size suffix limit used left → IsCut left text (take bytes text)
+    → IsTruncated content_size suffix limit multiline text (take bytes text ++ used)
+truncated-in_place content_size suffix limit multiline text used left bytes one u cut =
+    record {
+      used = used;
+      left = left;
+      suffix_used = u;
+      answered = ended_lines multiline left used text (take bytes text ++ used) one
+          (record { front = take bytes text; cut = cut; answered = refl });
+    }
+
+left-once : (left : ℕ) (text : List ℕ) (bytes bytes' : ℕ) → IsCutAt left text bytes → IsCutAt left text bytes' → bytes ≡ bytes'
+left-once left text bytes bytes' a b =
+    sym (length-take-le bytes text a.boundary.0) ∙ ap length (cut-once a.cut b.cut) ∙ length-take-le bytes' text b.boundary.0
+
+-- as many bytes are left, and the ending fits behind them
+pub in_place-fits : {content_size : ℕ} {suffix : List ℕ} {limit : SuffixLimit} {multiline : Bool} {text : List ℕ}
+    → IsTruncatedInPlace content_size suffix limit multiline text → (used : List ℕ) (left bytes : ℕ)
+    → IsUsed content_size suffix limit used left → IsCutAt left text bytes → FitsBehind bytes used
+in_place-fits {content_size} {suffix} {limit} {multiline} {text} h used left bytes u kept =
+    let same = used-once content_size suffix limit h.used used h.left left h.suffix_used u in
+    let there : IsCutAt left text h.bytes = subst (λ l. IsCutAt l text h.bytes) same.1 h.kept in
+    subst (λ n. FitsBehind n used) (left-once left text h.bytes bytes there kept) (subst (FitsBehind h.bytes) same.0 h.fits)

@@ -1,5 +1,6 @@
 -- Tables of which some cells change and the others don't.
-use Rattle.std.specs.Prelude.{◌≡◌, ◌⊎◌, ℕ, Bool, true, not, ◌&&◌, ◌||◌, ◌==◌, nat_lt, List, [], MatchBool, Option, Some, None, length, slice_index_or, nat_le}
+use Rattle.std.specs.Prelude.{◌≡◌, ◌⊎◌, ℕ, Bool, true, not, ◌&&◌, ◌||◌, ◌==◌, ◌<◌, ◌∷◌, ◌++◌, nat_lt, List, [], MatchBool, Option}
+use Rattle.std.specs.Prelude.{Some, None, length, slice_index_or, nat_le}
 use Rattle.tabled_set.specs.Common.{cell_at, covers, Entity, IsInside, lines_of, Memory, Range, TableError, text_columns, columns}
 use Rattle.tabled_text.specs.Wrapping.{IsWrapped}
 use Rattle.tabled_set.specs.Truncated.{IsTruncated, SuffixLimit}
@@ -8,6 +9,7 @@ pub use Rattle.tabled_set.specs.declared.walk.WalkOrder.TheVariants.{ByColumn, B
 pub use Rattle.tabled_set.specs.declared.resize.CellFilter.{CellFilter}
 pub use Rattle.tabled_set.specs.declared.resize.CellFilter.TheVariants.{Every, Higher, Lower, Narrower, NotAsWide, Wider}
 use Rattle.std.specs.declared.ops.Range.{Range as Band}
+use Rattle.tabled_records.specs.Joined.{Written}
 
 -- ---- one text
 
@@ -141,3 +143,28 @@ needs cell_filter in_place content_sizes row column text = NeedsMemoryIn cell_fi
 -- a walk over the chosen cells allocates for none of them
 abbrev pub NeedNoMemory : (ℕ → ℕ → Bool) → (ℕ → ℕ → List ℕ → Type 0) → List (List (List ℕ)) → Type 0
 NeedNoMemory chosen needs cells = (row column : ℕ) → IsInside cells row column → chosen row column ≡ true → needs row column (cell_at cells row column) → ⊥
+
+-- ---- cells that are written anew, one after another, each as a relation for its row and column says
+
+-- a text was added to the row that is begun
+pub record AddsText (made : List ℕ → Type 0) (old new : Written) : Type 0 where
+  pub text : List ℕ
+  pub is_made : made text
+  pub added : new ≡ record old { begun = old.begun ++ text ∷ [] }
+
+-- the first texts of a row are made of those of some cells
+pub record AreMade (change : ℕ → ℕ → List ℕ → List ℕ → Type 0) (cells : List (List (List ℕ))) (row count : ℕ) (texts : List (List ℕ)) : Type 0 where
+  pub many : length texts ≡ count
+  pub each : (column : ℕ) → column < count → change row column (cell_at cells row column) (slice_index_or texts column [])
+
+-- a row was added, made of the cells of a row
+pub record AddsRow (change : ℕ → ℕ → List ℕ → List ℕ → Type 0) (cells : List (List (List ℕ))) (row : ℕ) (old new : Written) : Type 0 where
+  pub texts : List (List ℕ)
+  pub are_made : AreMade change cells row (columns cells) texts
+  pub added : new ≡ record { rows = old.rows ++ texts ∷ []; begun = [] }
+
+-- the first rows are made of those of some cells, and no further row is begun
+pub record RowsAreMade (change : ℕ → ℕ → List ℕ → List ℕ → Type 0) (cells : List (List (List ℕ))) (count : ℕ) (written : Written) : Type 0 where
+  pub many : length written.rows ≡ count
+  pub each : (row : ℕ) → row < count → AreMade change cells row (columns cells) (slice_index_or written.rows row [])
+  pub begun : written.begun ≡ []

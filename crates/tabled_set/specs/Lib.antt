@@ -9,7 +9,6 @@ pub mod Minimums
 pub mod Narrowed
 pub mod Priorities
 pub mod Promised
-pub mod Rewritten
 pub mod Sides
 pub mod TextLines
 pub mod Truncated

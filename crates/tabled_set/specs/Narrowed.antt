@@ -1,12 +1,14 @@
 -- Tables whose columns shrink to a total, and whose cells are changed to fit.
-use Rattle.std.specs.Prelude.{◌≡◌, ◌⊎◌, ◌<◌, ◌≤◌, ◌^◌, ℕ, ◌-◌, true, false, nat_le, List, MatchBool, Option, Some, None, if◌then◌else◌, length, take, Bool, ◌&&◌, nat_lt, []}
+use Rattle.std.specs.Prelude.{◌≡◌, ◌⊎◌, ◌<◌, ◌≤◌, ◌^◌, ℕ, ◌-◌, true, false, nat_le, List, MatchBool, Option, Some, None, if◌then◌else◌}
+use Rattle.std.specs.Prelude.{length, take, Bool, ◌&&◌, nat_lt, [], slice_index_or}
 use Rattle.tabled_set.specs.Common.{at, CompleteDimension, effective, HasNoEstimate, heights_of, is_empty, IsFilledIn, IsPermitted}
 use Rattle.tabled_set.specs.Common.{IsTooWide, Memory, Sheet, SpannedConfig, TableError, total_width, widths_of, estimated}
 use Rattle.tabled_set.specs.Common.{estimated_heights, total_height}
 use Rattle.tabled_set.specs.CellChanges.{AreChanged, AreChangedBefore, if_taken, if_sized, NeedsMemory, NeedsMemoryIn, ByColumn, CellFilter, never_in_place, ByRow}
 use Rattle.tabled_set.specs.CellChanges.{Higher}
 use Rattle.tabled_set.specs.Increased.{StopsFilling}
-use Rattle.tabled_set.specs.Minimums.{emptied, minimums, side_padding}
+use Rattle.tabled_set.specs.Minimums.{emptied, minimums, own_padding, side_padding}
+use Rattle.tabled_set.specs.declared.narrowing.ColumnWidths.{ColumnWidths}
 use Rattle.tabled_set.specs.Priorities.{Shrinks}
 use Rattle.tabled_set.specs.TextLines.{limiting}
 
@@ -27,12 +29,18 @@ less_padding (Some width) padding = Some (width - padding)
 abbrev pub content_width : Sheet → List ℕ → ℕ → ℕ → Option ℕ
 content_width t widths row column = permitted_width widths (minimums t.cells t.config) (side_padding t.config row column) column
 
--- the priority may shrink the widths of a table to these, by the excess of its total over n. There
--- are as many, permitted by the columns' minimums
-pub record IsShrunkTo {P : Type 0} (shrinks : Shrinks P) (priority : P) (n : ℕ) (t : Sheet) (widths : List ℕ) : Type 0 where
+-- the priority may shrink the old list by an amount to the new one, which is as long and permitted
+-- by the minimums
+pub record IsShrunkBy {P : Type 0} (shrinks : Shrinks P) (priority : P) (old mins : List ℕ) (by : ℕ)
+    (new : List ℕ) : Type 0 where
   pub last : P
-  pub shrunk : shrinks priority t.widths (take (length t.widths) (minimums t.cells t.config)) (total_width t - n) widths last
-  pub permitted : IsPermitted t.widths (take (length t.widths) (minimums t.cells t.config)) widths
+  pub shrunk : shrinks priority old mins by new last
+  pub permitted : IsPermitted old mins new
+
+-- so the widths of a table, by the excess of its total over n and with the columns' minimums
+abbrev pub IsShrunkTo : {P : Type 0} → Shrinks P → P → ℕ → Sheet → List ℕ → Type 0
+IsShrunkTo shrinks priority n t widths =
+    IsShrunkBy shrinks priority t.widths (take (length t.widths) (minimums t.cells t.config)) (total_width t - n) widths
 
 -- a cell of a column that isn't below its minimum is changed for its content width, another isn't
 abbrev pub for_content_size : (ℕ → List ℕ → List ℕ → Type 0) → Sheet → List ℕ → ℕ → ℕ → List ℕ → List ℕ → Type 0
@@ -98,18 +106,15 @@ abbrev pub NarrowingOutOfRange : Type 0 → ℕ → List (List (List ℕ)) → S
 NarrowingOutOfRange measure_out_of_range n cells config sizes =
     (is_empty cells ≡ false) × (measure_out_of_range ⊎ (HasNoEstimate sizes cells config ⊎ WiderOutOfRange n cells config sizes))
 
--- the priority may shrink the old list by an amount to the new one, which is as long and permitted
--- by the minimums
-pub record IsShrunkBy {P : Type 0} (shrinks : Shrinks P) (priority : P) (old mins : List ℕ) (by : ℕ)
-    (new : List ℕ) : Type 0 where
-  pub last : P
-  pub shrunk : shrinks priority old mins by new last
-  pub permitted : IsPermitted old mins new
+-- the content width of a cell: that of its column, less its own padding
+abbrev pub content_of : ColumnWidths → ℕ → ℕ → Option ℕ
+content_of found row column = less_padding (slice_index_or found.content.items column None) (own_padding found.config.now row column)
 
--- the widths to which a table wider than n shrinks
-pub record IsFound {P : Type 0} (shrinks : Shrinks P) (priority : P) (n : ℕ) (t : Sheet) (widths : List ℕ) : Type 0 where
+-- the widths to which a table wider than n shrinks, with the content widths of its cells
+pub record IsFound {P : Type 0} (shrinks : Shrinks P) (priority : P) (n : ℕ) (t : Sheet) (found : ColumnWidths) : Type 0 where
   pub wider : n < total_width t
-  pub shrunk : IsShrunkTo shrinks priority n t widths
+  pub shrunk : IsShrunkTo shrinks priority n t found.widths.items
+  pub sized : (row column : ℕ) → content_of found row column ≡ content_width t found.widths.items row column
 
 -- a table that isn't wider than n: it is empty and its sizes don't change, or they are filled in
 abbrev pub FitsAlready : ℕ → List (List (List ℕ)) → SpannedConfig → CompleteDimension → CompleteDimension → Type 0
@@ -118,7 +123,7 @@ FitsAlready n cells config sizes sizes' =
 
 -- a table that is wider than n: its sizes are filled in, and its columns shrink to these widths
 pub record HasWidths {P : Type 0} (shrinks : Shrinks P) (priority : P) (n : ℕ) (cells : List (List (List ℕ)))
-    (config : SpannedConfig) (sizes sizes' : CompleteDimension) (widths : List ℕ) : Type 0 where
+    (config : SpannedConfig) (sizes sizes' : CompleteDimension) (widths : ColumnWidths) : Type 0 where
   pub some : is_empty cells ≡ false
   pub filled : IsFilledIn sizes cells config sizes'
   pub found : IsFound shrinks priority n (effective cells config sizes') widths

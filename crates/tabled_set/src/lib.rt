@@ -8,11 +8,10 @@
 //! Options:
 //! - `resize`: `Resize`, the type of the options that change widths and heights, with the trait
 //!   `TextTransform`, the cells that are changed, and the change of one
-//! - `wrap`, `truncate`, `min_width`: `Wrap`, `Truncate` with `SuffixLimit`, and `MinWidth`
+//! - `wrap`, `truncate`, `min_width`: `Wrap`, `Truncate` with `SuffixLimit`, `MinWidth`, and
+//!   `Justify`, which makes all cells equally wide
 //! - `heights`: `CellHeightIncrease`, `CellHeightLimit`, `TableHeightIncrease` and
 //!   `TableHeightLimit`
-//! - `min_width`: the options `MinWidth`, which widens, and `Justify`, which makes all cells
-//!   equally wide.
 //! - `sizes`: `WidthList` and `HeightList`; a table's sizes with their total, and lists that a
 //!   priority has shrunk or grown
 //! - `spaces`: `Margin` and `Padding`

@@ -5,10 +5,10 @@ ghost use Rattle.std.specs.Prelude.{IfNone, unwrap_or};
 ghost use Rattle.tabled_set.specs.Common.{effective, is_empty, IsRectangular, Memory, Range};
 ghost use Rattle.tabled_set.specs.Common.{total_width, widths_of};
 ghost use Rattle.tabled_set.specs.CellChanges.{if_taken};
-ghost use Rattle.tabled_set.specs.Narrowed.{less_padding, permitted_width, WiderOutOfRange};
+ghost use Rattle.tabled_set.specs.Narrowed.{content_of, permitted_width, WiderOutOfRange};
 ghost use Rattle.tabled_set.specs.Narrowed.{NarrowingOutOfRange, Narrows, StopsNarrowing, IsFound};
-ghost use Rattle.tabled_set.specs.Narrowed.{FitsAlready, HasWidths, StopsEarly, content_width};
-ghost use Rattle.tabled_set.specs.Minimums.{emptied, own_padding, side_columns};
+ghost use Rattle.tabled_set.specs.Narrowed.{FitsAlready, HasWidths, StopsEarly};
+ghost use Rattle.tabled_set.specs.Minimums.{emptied, side_columns};
 
 use crate::measurement::{Measurement, Width};
 use crate::resize::{CellFilter, Change, ContentSizes, Resize, TextTransform};
@@ -34,12 +34,7 @@ fn narrowed_widths<'a, P: Peaker + Drop, R: ExactRecords>(
     requires stored { is_some (widths_of sizes.now) ≡ true }
     ensures ok { let t = effective (R.cells records.now) config.now sizes.now in
         IfOk result (λ answer. MatchOption answer (total_width t ≤ n)
-        (λ found. IsFound P.shrinks priority n t found.widths.items)) }
-    ensures sized { let t = effective (R.cells records.now) config.now sizes.now in
-        IfOk result (λ answer. IfSome answer (λ found. (row column : ℕ)
-        → less_padding (slice_index_or found.content.items column None)
-        (own_padding found.config.now row column)
-        ≡ content_width t found.widths.items row column)) }
+        (IsFound P.shrinks priority n t)) }
     ensures wider { OnErr result
         (n < total_width (effective (R.cells records.now) config.now sizes.now)) }
     ensures err { IfErr result (λ e. (e ≡ Memory)
@@ -50,10 +45,7 @@ fn narrowed_widths<'a, P: Peaker + Drop, R: ExactRecords>(
         return Ok(None);
     }
     let alloc = sizes.allocator();
-    let empty = EmptyRecords {
-        rows: records.count_rows(),
-        columns: records.count_columns(),
-    };
+    let empty = EmptyRecords::new(records.count_rows(), records.count_columns());
     let mut mins = estimate_widths(alloc, &empty, config)?;
     mins.truncate(widths.len());
     let widths = shrunk(alloc, priority, widths, &mins, total - n)?;
@@ -108,9 +100,7 @@ struct ColumnWidths<'a> {
 }
 
 impl<'a> ContentSizes for ColumnWidths<'a> {
-    ghost content_size_at = { λ s row column.
-        less_padding (slice_index_or s.content.items column None)
-        (own_padding s.config.now row column) };
+    ghost content_size_at = { content_of };
 
     #[inline(always)]
     fn content_size(&self, at: Position) -> Option<usize> {
@@ -136,14 +126,9 @@ fn wanted_widths<'a, W: Measurement<Width>, P: Peaker + Drop, R: PeekableRecords
     ensures none { IfOk result (λ answer. IfNone answer
         (FitsAlready (W.measures size.now (R.cells records.now) config.now)
         (R.cells records.now) config.now sizes.old sizes.new)) }
-    ensures some { IfOk result (λ answer. IfSome answer (λ found. HasWidths P.shrinks priority
+    ensures some { IfOk result (λ answer. IfSome answer (HasWidths P.shrinks priority
         (W.measures size.now (R.cells records.now) config.now)
-        (R.cells records.now) config.now sizes.old sizes.new found.widths.items)) }
-    ensures sized { let t = effective (R.cells records.now) config.now sizes.new in
-        IfOk result (λ answer. IfSome answer (λ found. (row column : ℕ)
-        → less_padding (slice_index_or found.content.items column None)
-        (own_padding found.config.now row column)
-        ≡ content_width t found.widths.items row column)) }
+        (R.cells records.now) config.now sizes.old sizes.new)) }
     ensures err { IfErr result (λ e. StopsEarly
         (W.measures size.now (R.cells records.now) config.now) e
         (R.cells records.now) config.now sizes.old sizes.new) }
@@ -204,9 +189,8 @@ pub(crate) fn narrow_table<
     Ok(())
 }
 
-/// Returns the cells of a table that is narrowed to a total of the measured width, or `None` if it
-/// isn't wider. The records don't change. Missing sizes are estimated first, and are stored even if
-/// an error follows.
+/// Returns the cells of a table as `narrow_table` changes them, or `None` if it isn't too wide. The
+/// sizes are stored as by `narrow_table`, but no record changes.
 pub(crate) fn narrowed_records<
     T: TextTransform + Drop,
     W: Measurement<Width> + Drop,

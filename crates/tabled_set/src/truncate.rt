@@ -253,11 +253,8 @@ impl<'a, W, P> Truncate<'a, W, P> {
         self
     }
 
-    /// Truncates a text to `content_size` columns, whatever the option's width is: cuts it to the
-    /// columns that the suffix leaves, and appends the suffix. If the suffix leaves none, the limit
-    /// says what is written. For 0 columns every line is empty.
-    ///
-    /// Fails only with `Memory`.
+    /// Truncates a text to `content_size` columns as [`Truncating`] says, whatever the option's
+    /// width is. Fails only with `Memory`.
     pub fn shorten(
         &self,
         alloc: Global,
@@ -276,11 +273,8 @@ impl<'a, W, P> Truncate<'a, W, P> {
 }
 
 impl<'a, W: Measurement<Width> + Drop, P: Peaker + Drop> Truncate<'a, W, P> {
-    /// Narrows a table whose records are only borrowed. Returns its cells as the table option
-    /// changes them, or `None` if the table isn't too wide.
-    ///
-    /// The sizes are stored as by the table option. It fails with `Memory` only if sizes are
-    /// missing or the table is too wide, and with `Range` as the table option does.
+    /// Returns the cells of a table as the table option changes them, or `None` if the table isn't
+    /// too wide. The sizes are stored, and errors come, as by the table option, but no record changes.
     pub fn narrowed<R: PeekableRecords>(
         self,
         records: &R,

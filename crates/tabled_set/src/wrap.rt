@@ -81,11 +81,8 @@ impl<W, P> Wrap<W, P> {
 }
 
 impl<W: Measurement<Width> + Drop, P: Peaker + Drop> Wrap<W, P> {
-    /// Narrows a table whose records are only borrowed. Returns its cells as the table option
-    /// changes them, or `None` if the table isn't too wide.
-    ///
-    /// The sizes are stored as by the table option. It fails with `Memory` only if sizes are
-    /// missing or the table is too wide, and with `Range` as the table option does.
+    /// Returns the cells of a table as the table option changes them, or `None` if the table isn't
+    /// too wide. The sizes are stored, and errors come, as by the table option, but no record changes.
     pub fn narrowed<R: PeekableRecords>(
         self,
         records: &R,

@@ -1,8 +1,7 @@
 use Rattle.tabled_set.proofs.Names.{IsGrownBy, List, Sheet, ap, arith, effective, err_from_is_err_and, false, inl, inr, is_empty, is_stored}
 use Rattle.tabled_set.proofs.Names.{rules, subst, sum, total_width, ℕ, ◌-◌, ◌^◌, ◌≡◌, ◌≤◌}
 use Rattle.tabled_set.proofs.PromisedSizes.{made-wider, wide-already, widths-fit}
-use Rattle.tabled_set.proofs.NarrowingTables.{effective-filled, fails-lacking, if-err}
-use Rattle.tabled_set.proofs.Stopping.{stops-measuring}
+use Rattle.tabled_set.proofs.NarrowingTables.{effective-filled, fails-lacking, if-err, stops-measuring}
 use Rattle.tabled_set.proofs.min_width.increase_width.Goals as goal
 
 pub returns-in_err-n-clause-err : goal.returns-in_err-n-clause-err

@@ -1,7 +1,6 @@
-use Rattle.tabled_set.proofs.Names.{effective, ◌∙◌}
+use Rattle.tabled_set.proofs.Names.{◌∙◌}
 use Rattle.tabled_set.specs.CellChanges.{if_taken}
-use Rattle.tabled_set.proofs.NarrowingTables.{at-none, at-some, if-err, narrows-fitting, narrows-some, sized-before, sized-made, stops-early}
-use Rattle.tabled_set.proofs.NarrowingTables.{stops-some}
+use Rattle.tabled_set.proofs.NarrowingTables.{at-none, at-some, if-err, narrows-fitting, narrows-some, stops-early, stops-some}
 use Rattle.tabled_set.proofs.narrowing.narrow_table.Goals as goal
 
 pub returns-in_err-found-clause-err : goal.returns-in_err-found-clause-err
@@ -18,20 +17,16 @@ returns-in_default-clause-ok g c =
 
 pub returns-in_err-change_cells-clause-err : goal.returns-in_err-change_cells-clause-err
 returns-in_err-change_cells-clause-err g c =
-    let t = effective (g.R.ExactRecords.cells c.args.records.now) c.args.config.now c.wanted_widths.new.sizes in
     let found = c.in-Some.found in
     let h = at-some _ _ found c.in-Some.is c.in_ok-found.ensures.some in
     if-err _ c.from_residual-in_err-change_cells.result _ c.from_residual-in_err-change_cells.ensures.1 (
       h.some,
-      stops-some _ _ _ _ _ _ _ _ h.some h.filled _ _ _ _ found.widths.items c.in_err-change_cells.ensures.only h.found
-          (sized-before t found.widths.items (at-some _ _ found c.in-Some.is c.in_ok-found.ensures.sized) _ _ _ c.in_err-change_cells.ensures.err),
+      stops-some _ _ _ _ _ _ _ _ h.some h.filled _ _ _ _ found c.in_err-change_cells.ensures.only h.found c.in_err-change_cells.ensures.err,
     )
 
 pub returns-clause-ok : goal.returns-clause-ok
 returns-clause-ok g c =
-    let t = effective (g.R.ExactRecords.cells c.args.records.now) c.args.config.now c.wanted_widths.new.sizes in
     let found = c.in-Some.found in
     let h = at-some _ _ found c.in-Some.is c.in_ok-found.ensures.some in
-    narrows-some _ _ _ _ _ _ _ _ h.some h.filled _ c.clear_height.new.self found.widths.items h.found
-    (sized-made t found.widths.items (at-some _ _ found c.in-Some.is c.in_ok-found.ensures.sized) _ c.in_ok-change_cells.ensures.ok)
+    narrows-some _ _ _ _ _ _ _ _ h.some h.filled _ c.clear_height.new.self found h.found c.in_ok-change_cells.ensures.ok
     (c.clear_height.ensures.widths ∙ c.set_widths.ensures.widths) c.clear_height.ensures.heights

@@ -1,6 +1,6 @@
-use Rattle.tabled_set.proofs.Names.{effective, ◌∙◌}
+use Rattle.tabled_set.proofs.Names.{◌∙◌}
 use Rattle.tabled_set.specs.CellChanges.{if_taken}
-use Rattle.tabled_set.proofs.NarrowingTables.{at-none, at-some, early-found, if-err, narrows-fitting, narrows-some, sized-made}
+use Rattle.tabled_set.proofs.NarrowingTables.{at-none, at-some, early-found, if-err, narrows-fitting, narrows-some}
 use Rattle.tabled_set.proofs.narrowing.narrowed_records.Goals as goal
 
 pub returns-in_err-found-clause-err : goal.returns-in_err-found-clause-err
@@ -22,9 +22,7 @@ returns-in_err-changed-clause-err g c =
 
 pub returns-clause-ok : goal.returns-clause-ok
 returns-clause-ok g c =
-    let t = effective (g.R.ExactRecords.cells c.args.records.now) c.args.config.now c.wanted_widths.new.sizes in
     let found = c.in-Some.found in
     let h = at-some _ _ found c.in-Some.is c.in_ok-found.ensures.some in
-    narrows-some _ _ _ _ _ _ _ _ h.some h.filled _ c.clear_height.new.self found.widths.items h.found
-    (sized-made t found.widths.items (at-some _ _ found c.in-Some.is c.in_ok-found.ensures.sized) _ c.in_ok-changed.ensures.ok)
+    narrows-some _ _ _ _ _ _ _ _ h.some h.filled _ c.clear_height.new.self found h.found c.in_ok-changed.ensures.ok
     (c.clear_height.ensures.widths ∙ c.set_widths.ensures.widths) c.clear_height.ensures.heights

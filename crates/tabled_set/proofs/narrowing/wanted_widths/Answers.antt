@@ -1,9 +1,7 @@
-use Rattle.tabled_set.proofs.Names.{IfErr, IfErr-weaker, Memory, NarrowingOutOfRange, Range, err_from_is_err_and, false, inl}
-use Rattle.tabled_set.proofs.Names.{is_empty, is_stored, rules, subst, ℕ, ◌≡◌, ◌⊎◌}
+use Rattle.tabled_set.proofs.Names.{IfErr, IfErr-weaker, Memory, NarrowingOutOfRange, Range, err_from_is_err_and, false, inl, is_empty}
+use Rattle.tabled_set.proofs.Names.{is_stored, rules, subst, ℕ, ◌≡◌, ◌⊎◌}
 use Rattle.std.proofs.lemmas.Result.{IfOk-weaker}
-use Rattle.tabled_set.specs.declared.narrowing.ColumnWidths.{ColumnWidths}
-use Rattle.tabled_set.proofs.NarrowingTables.{early-wider, fails-lacking, fits-already, has-widths, if-err, passes-before}
-use Rattle.tabled_set.proofs.Stopping.{stops-measuring}
+use Rattle.tabled_set.proofs.NarrowingTables.{early-wider, fails-lacking, fits-already, has-widths, if-err, passes-before, stops-measuring}
 use Rattle.tabled_set.proofs.narrowing.wanted_widths.Goals as goal
 
 pub returns-in_err-n-clause-err : goal.returns-in_err-n-clause-err
@@ -31,7 +29,7 @@ pub returns-clause-some : goal.returns-clause-some
 returns-clause-some g c =
     let some : is_empty (g.R.ExactRecords.cells c.args.records.now) ≡ false = search rules in
     IfOk-weaker c.narrowed_widths.result _ _
-    (has-widths _ c.in_ok-n.n _ _ _ _ c.in_ok-n.ensures.ok some c.in_ok-estimate.ensures.ok g.P.Peaker.shrinks c.args.priority _ (λ (found : ColumnWidths). found.widths.items))
+    (has-widths _ c.in_ok-n.n _ _ _ _ c.in_ok-n.ensures.ok some c.in_ok-estimate.ensures.ok g.P.Peaker.shrinks c.args.priority _)
     c.narrowed_widths.ensures.ok
 
 pub returns-clause-err : goal.returns-clause-err

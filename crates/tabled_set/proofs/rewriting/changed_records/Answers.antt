@@ -3,7 +3,7 @@ use Rattle.tabled_set.proofs.RewrittenRecords.{rows-changed, rows-more, rows-non
 use Rattle.tabled_set.proofs.rewriting.changed_records.Goals as goal
 
 pub rows-init : goal.rows-init
-rows-init g c = rows-none _ _ _ c.in_ok-writer.ensures.ok
+rows-init g c = rows-none _ _ _ c.new-writer.ensures
 
 pub rows-preserved : goal.rows-preserved
 rows-preserved g c = rows-more _ _ c.rows.row _ _ c.rows.invariant c.in_ok-push_row.ensures.ok

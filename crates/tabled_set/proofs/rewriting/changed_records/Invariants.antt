@@ -1,5 +1,5 @@
 use Rattle.tabled_set.proofs.Names.{leaves}
-use Rattle.tabled_set.specs.Rewritten.{RowsAreMade}
+use Rattle.tabled_set.specs.CellChanges.{RowsAreMade}
 use Rattle.tabled_set.proofs.rewriting.changed_records.Given as goal
 
 abbrev pub invariant-rows : goal.invariant-rows

@@ -1,6 +1,7 @@
 use Rattle.tabled_set.proofs.Names.{AreChangedBefore, Bool, List, NeedNoMemory, WalkOrder, arith, covers, err_from_is_err_and, inl, inr}
 use Rattle.tabled_set.proofs.Names.{leaves, needs, subst, ℕ, ◌≡◌, ◌⊎◌}
-use Rattle.tabled_set.proofs.ChangingCells.{AreChanged-both, lines-more, stops-later}
+use Rattle.tabled_set.proofs.ChangingCells.{AreChanged-both, all_of, stops-later}
+use Rattle.tabled_set.specs.CellChanges.{line_of, place_of}
 use Rattle.tabled_set.proofs.walk.change_cells.Goals as goal
 
 -- a walk that needs no memory stops in no order
@@ -22,7 +23,8 @@ returns-in_err-change_line-clause-err g c =
 
 pub lines-preserved : goal.lines-preserved
 lines-preserved g c =
-    let line = c.lines.line in
     let bands = c.lines_of_entity.result in
+    let order = c.order_for-walked.result in
     AreChanged-both c.lines.invariant c.in_ok-change_line.ensures.ok
-    (λ r k inside. lines-more c.order_for-walked.result (covers c.args.entity r k) bands.0 bands.1 line r k (c.lines_of_entity.ensures.cells r k inside) (omega arith) (omega arith))
+    (λ r k inside. all_of (covers c.args.entity r k) bands.0 bands.1 c.lines.line (line_of order r k) (place_of order r k)
+    (c.lines_of_entity.ensures.cells r k inside) (omega arith) (omega arith))

@@ -15,7 +15,7 @@ places-preserved g c =
     let line = c.args.line in
     let place = c.places.place in
     AreChanged-next at.row at.column c.places.invariant c.in_ok-change_cell.ensures.ok
-    (on_line-itself order at.row at.column line place c.args.band.now c.cell.ensures.line c.cell.ensures.place) (λ before after h. h)
+    (on_line-itself order at.row at.column line place c.args.band.now c.cell.ensures.line c.cell.ensures.place)
     (λ r k. on_line-next order at.row at.column line place r k c.args.band.now c.cell.ensures.line c.cell.ensures.place (omega arith) (omega arith))
 
 pub returns-in_err-change_cell-clause-err : goal.returns-in_err-change_cell-clause-err

@@ -1,5 +1,5 @@
 use Rattle.tabled_set.proofs.Names.{ap, arith, leaves, on_ok_weaker, refl, ◌∙◌}
-use Rattle.tabled_records.specs.Written.{Written}
+use Rattle.tabled_records.specs.Joined.{Written}
 use Rattle.tabled_set.proofs.RewrittenRecords.{adds-row, made-more, made-none}
 use Rattle.tabled_set.proofs.resize.Change.push_row.Goals as goal
 

@@ -1,5 +1,5 @@
 use Rattle.tabled_set.proofs.Names.{leaves, ◌≡◌}
-use Rattle.tabled_set.specs.Rewritten.{AreMade}
+use Rattle.tabled_set.specs.CellChanges.{AreMade}
 use Rattle.tabled_set.proofs.resize.Change.push_row.Given as goal
 
 abbrev pub invariant-columns : goal.invariant-columns

@@ -1,5 +1,5 @@
 use Rattle.tabled_set.proofs.Names.{IfErr-weaker, refl}
-use Rattle.tabled_set.proofs.Stopping.{stops-before}
+use Rattle.tabled_set.proofs.ChangingCells.{stops-before}
 use Rattle.tabled_set.proofs.resize.ResizeCellOptionColoredConfig.change.Goals as goal
 
 pub returns-clause-err : goal.returns-clause-err

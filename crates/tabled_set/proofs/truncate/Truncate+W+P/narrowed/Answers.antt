@@ -1,5 +1,5 @@
 use Rattle.std.proofs.lemmas.Result.{IfOk-weaker}
-use Rattle.tabled_set.proofs.WrappedAndTruncated.{truncates}
+use Rattle.tabled_set.proofs.ExactTotals.{truncates}
 use Rattle.tabled_set.proofs.truncate.Truncate+W+P.narrowed.Goals as goal
 
 pub returns-clause-promised : goal.returns-clause-promised

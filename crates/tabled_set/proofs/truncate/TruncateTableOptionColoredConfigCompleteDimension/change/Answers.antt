@@ -1,5 +1,5 @@
 use Rattle.tabled_set.proofs.Names.{IfErr-weaker, on_ok_weaker, refl}
-use Rattle.tabled_set.proofs.WrappedAndTruncated.{truncates}
+use Rattle.tabled_set.proofs.ExactTotals.{truncates}
 use Rattle.tabled_set.proofs.truncate.TruncateTableOptionColoredConfigCompleteDimension.change.Goals as goal
 
 pub returns-clause-promised : goal.returns-clause-promised

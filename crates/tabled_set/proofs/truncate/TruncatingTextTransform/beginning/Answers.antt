@@ -1,6 +1,6 @@
 use Rattle.tabled_set.proofs.Names.{IsCutAt, List, [], arith, length, length-slice_split, lines_of, true, ℕ, ◌==◌, ◌∷◌, ◌≡◌, ◌≤◌}
 use Rattle.tabled_text.proofs.Bridge.{lines_of-one}
-use Rattle.tabled_set.proofs.Beginnings.{in_place-fits, truncated-in_place}
+use Rattle.tabled_set.proofs.TruncatedTexts.{in_place-fits, truncated-in_place}
 use Rattle.tabled_set.proofs.truncate.TruncatingTextTransform.beginning.Goals.{else-self-via-then-self+else-count_lines-gt1}
 use Rattle.tabled_set.proofs.truncate.TruncatingTextTransform.beginning.Goals.{else-self-via-else-self}
 use Rattle.tabled_set.proofs.truncate.TruncatingTextTransform.beginning.Goals as goal

@@ -1,5 +1,5 @@
 use Rattle.std.proofs.lemmas.Result.{IfOk-weaker}
-use Rattle.tabled_set.proofs.WrappedAndTruncated.{wraps}
+use Rattle.tabled_set.proofs.ExactTotals.{wraps}
 use Rattle.tabled_set.proofs.wrap.Wrap+W+P.narrowed.Goals as goal
 
 pub returns-clause-promised : goal.returns-clause-promised

@@ -1,5 +1,5 @@
 use Rattle.tabled_set.proofs.Names.{IfErr-weaker, on_ok_weaker, refl}
-use Rattle.tabled_set.proofs.WrappedAndTruncated.{wraps}
+use Rattle.tabled_set.proofs.ExactTotals.{wraps}
 use Rattle.tabled_set.proofs.wrap.WrapTableOptionColoredConfigCompleteDimension.change.Goals as goal
 
 pub returns-clause-promised : goal.returns-clause-promised
