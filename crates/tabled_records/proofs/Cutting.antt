@@ -1,16 +1,19 @@
 -- What holds while a text is cut into cells and rows.
-use Rattle.tabled_records.proofs.Names.{All, All-nil, AreKept, AreRanges, Bool, HasNo, IsCharBoundary, IsCharBoundary-after_ascii, IsUtf8}
+use Rattle.tabled_records.proofs.Names.{All, All-append, All-cons, All-map, All-nil, AreKept, AreRanges, Bool, HasNo, IsCharBoundary, IsCharBoundary-after_ascii, IsUtf8}
 use Rattle.tabled_records.proofs.Names.{List, [], ap, append_assoc, arith, behind, cases_lt, drop, drop-append-le, false, get_or}
 use Rattle.tabled_records.proofs.Names.{get_or-drop, get_or-take, is_in_range, length, length-append, length-drop, length-take, map-append}
-use Rattle.tabled_records.proofs.Names.{part, parts, refl, slice_range, subst, sym, take, take-length, texts_from, true, ℕ, ◌++◌, ◌+◌, ◌-◌}
+use Rattle.tabled_records.proofs.Names.{lengthened, part, parts, refl, replicate, rows_in, slice_range, subst, sym, take, take-length, texts_from, true, ℕ, ◌++◌, ◌+◌, ◌-◌}
 use Rattle.tabled_records.proofs.Names.{◌<◌, ◌==◌, ◌∙◌, ◌∷◌, ◌≡◌, ◌≤◌}
-use Rattle.std.proofs.Common.{⊎_elim}
+use Rattle.std.proofs.Common.{⊎_elim, ◌&&◌}
 use Rattle.std.proofs.lemmas.Bool.Decides.{nat_tests}
 use Rattle.std.proofs.lemmas.List.{drop_all, drop_more, get_or_past}
 use Rattle.std.proofs.lemmas.Str.{IsCharBoundary-start}
 use Rattle.std.proofs.lemmas.List.Folds.{drop_split}
-use Rattle.std.proofs.lemmas.List.Elements.{All-from_get_or}
+use Rattle.std.proofs.lemmas.Bool.{and_parts}
+use Rattle.std.proofs.lemmas.List.Elements.{All-drop, All-from_get_or, All-replicate, All-take}
 use Rattle.std.proofs.lemmas.List.Sums.{list_all-from_AllPass}
+use Rattle.tabled_base.specs.Cells.{longest}
+use Rattle.tabled_records.specs.CutLentRows.{ArePrintable}
 use Rattle.tabled_records.specs.Joined.{IsLent, IsPrintable}
 use Rattle.tabled_records.proofs.Joining.{behind-next, kept-next, length-texts, texts-next}
 use Rattle.tabled_records.proofs.Rows.{part-last, parts-append, ranges-grown, ranges-next}
@@ -236,3 +239,34 @@ split-begun text bytes cells ranges start first at plain same cut from ends run 
       within = within-run text start start at 0x7E from own (within-none text start);
       printable = λ _. printable-run text start at inside own;
     }
+
+-- ---- cells that are printable
+
+-- a further cell is printable if its part of the text is
+pub plain-next : (text : List ℕ) (cells : List (ℕ × ℕ)) (columns start at : ℕ) (all own : Bool) → start ≡ behind 1 0 cells
+    → (all ≡ true → All IsPrintable (texts_from 1 text 0 cells)) → (own ≡ true → IsPrintable (slice_range text start at))
+    → all && own ≡ true → All IsPrintable (texts_from 1 text 0 (cells ++ (at, columns) ∷ []))
+plain-next text cells columns start at all own s h last both =
+    let parts = and_parts all own both in
+    subst (All IsPrintable) (sym (cells-next text cells columns start at s))
+    (All-append IsPrintable (texts_from 1 text 0 cells) (slice_range text start at ∷ []) (h parts.0)
+    (All-cons IsPrintable (slice_range text start at) [] (last parts.1) (All-nil IsPrintable)))
+
+-- an item of a list, or one for where it ends
+all-or : {X : Type 0} (P : X → Type 0) (xs : List X) (d : X) → P d → All P xs → (i : ℕ) → P (get_or xs i d)
+all-or P xs d none h i = ⊎_elim (λ l. h i d l) (λ past. subst P (sym (get_or_past xs i d past)) none) (cases_lt i (length xs))
+
+-- the cells of rows are printable if all texts are
+pub rows-printable : (texts : List (List ℕ)) (ranges : List (ℕ × ℕ)) → All IsPrintable texts → ArePrintable (rows_in texts ranges)
+rows-printable texts ranges h row column =
+    let n = longest (parts texts ranges) in
+    let each : All (All IsPrintable) (rows_in texts ranges) =
+    All-map (All IsPrintable) (lengthened n) (parts texts ranges)
+    (All-map (λ row. All IsPrintable (lengthened n row)) (part texts) ranges
+    (λ k d l.
+    let range = get_or ranges k d in
+    let own = part texts range in
+    All-append IsPrintable own (replicate (n - length own) [])
+    (All-take IsPrintable range.1 (drop range.0 texts) (All-drop IsPrintable range.0 texts h))
+    (All-replicate IsPrintable (n - length own) [] refl))) in
+    all-or IsPrintable (get_or (rows_in texts ranges) row []) [] refl (all-or (All IsPrintable) (rows_in texts ranges) [] (All-nil IsPrintable) each row) column

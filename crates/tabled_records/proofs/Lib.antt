@@ -1,4 +1,5 @@
 pub mod BufferedRuns
+pub mod CutLent
 pub mod Cutting
 pub mod EmptyRuns
 pub mod Joining

@@ -1,7 +1,7 @@
 -- Texts in one buffer (`whole`), `gap` bytes apart, and the rows that they make up. A place is the
 -- byte where a text ends, and the columns of the text.
 use Rattle.std.specs.Prelude.{◌≡◌, ⊤, ℕ, zero, suc, ◌+◌, ◌<◌, ◌≤◌, List, [], ◌∷◌, length, slice_index_or, drop, map, take, ◌==◌, false}
-use Rattle.std.specs.Prelude.{true, ◌++◌}
+use Rattle.std.specs.Prelude.{Bool, true, ◌++◌}
 use Rattle.std.specs.List.{slice_range, All, list_all}
 use Rattle.std.specs.Str.{IsCharBoundary}
 use Rattle.tabled_text.specs.Measure.{lines_of, text_columns, greatest}
@@ -125,3 +125,9 @@ written_in texts ranges ended = record { rows = parts texts ranges; begun = drop
 pub record AreWritten (texts : List (List ℕ)) (ranges : List (ℕ × ℕ)) (ended : ℕ) : Type 0 where
   pub inside : AreRanges (length texts) ranges
   pub within : ended ≤ length texts
+
+-- the cells of rows are parts of a text, one byte apart, and each row is a range of them
+pub record AreLentRows (text : List ℕ) (cells rows : List (ℕ × ℕ)) (printable : Bool) : Type 0 where
+  pub kept : AreKept 1 text cells []
+  pub ranges : AreRanges (length cells) rows
+  pub plain : printable ≡ true → All IsPrintable (texts_from 1 text 0 cells)

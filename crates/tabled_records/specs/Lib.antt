@@ -1,4 +1,5 @@
 pub mod Buffered
+pub mod CutLentRows
 pub mod Empty
 pub mod Joined
 pub mod Reading

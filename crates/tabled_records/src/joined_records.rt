@@ -10,7 +10,8 @@ ghost use Rattle.tabled_base.specs.Given.{Given};
 ghost use Rattle.tabled_base.specs.declared.error.TableError.TheVariants.{Memory};
 ghost use Rattle.tabled_records.specs.TextRows.{cells_of, most_cells, text_rows};
 ghost use Rattle.tabled_text.specs.Measure.{lines_of, text_columns};
-ghost use Rattle.tabled_records.specs.Joined.{AreKept, AreMeasures, AreRanges, HasNo, IsLent};
+ghost use Rattle.tabled_records.specs.CutLentRows.{ArePrintable};
+ghost use Rattle.tabled_records.specs.Joined.{AreLentRows, AreMeasures, AreRanges, HasNo, IsLent};
 ghost use Rattle.tabled_records.specs.Joined.{IsPrintable, rows_in, texts_from};
 
 use crate::row_ranges::{Pairs, RowRanges};
@@ -27,6 +28,8 @@ pub struct LentRows<'a> {
     // of the cell before it, and is one line.
     cells: Pairs,
     rows: RowRanges,
+    // Whether all cells are known to be printable ASCII.
+    printable: bool,
 }
 
 impl<'a> Model for LentRows<'a> {
@@ -34,7 +37,17 @@ impl<'a> Model for LentRows<'a> {
 
     ghost view = { λ r. rows_in (texts_from 1 r.text.now 0 r.cells) r.rows };
 
-    ghost invariant = { λ r. AreKept 1 r.text.now r.cells [] × AreRanges (length r.cells) r.rows };
+    ghost invariant = { λ r. AreLentRows r.text.now r.cells r.rows r.printable };
+}
+
+impl<'a> LentRows<'a> {
+    /// Whether all cells are known to be printable ASCII.
+    #[inline(always)]
+    pub fn is_printable(&self) -> bool
+        ensures { result ≡ true → ArePrintable self.now }
+    {
+        self.printable
+    }
 }
 
 impl<'a> ExactRecords for LentRows<'a> {
@@ -91,6 +104,7 @@ pub fn text_rows(alloc: Global, text: &str) -> Result<LentRows<'_>, TableError>
             text,
             cells: Pairs::new(alloc),
             rows: RowRanges::new(alloc),
+            printable: true,
         });
     }
     let last = text.len() - 1;
@@ -109,6 +123,8 @@ fn split_rows(alloc: Global, text: &str) -> Result<LentRows<'_>, TableError>
     let mut rows = RowRanges::new(alloc);
     let mut start: usize = 0;
     let mut first: usize = 0;
+    // Whether all cells that have ended are printable ASCII.
+    let mut all_printable = true;
     // Whether all of the cell so far is printable ASCII.
     let mut printable = true;
     let mut at = run_end(bytes, 0, b' ', b'~');
@@ -121,6 +137,7 @@ fn split_rows(alloc: Global, text: &str) -> Result<LentRows<'_>, TableError>
         }
         let columns = cell_columns(text, start, at, printable);
         cells.push((at, columns))?;
+        all_printable = all_printable & printable;
         start = at + 1;
         printable = true;
         at = run_end(bytes, start, b' ', b'~');
@@ -136,7 +153,12 @@ fn split_rows(alloc: Global, text: &str) -> Result<LentRows<'_>, TableError>
     cells.push((end, columns))?;
     let count = cells.len() - first;
     rows.push(first, count)?;
-    Ok(LentRows { text, cells, rows })
+    Ok(LentRows {
+        text,
+        cells,
+        rows,
+        printable: all_printable & printable,
+    })
 }
 
 /// Returns the columns of the cell between two byte offsets: in printable ASCII the number of

@@ -6,6 +6,7 @@
 //!   that takes half the memory while the numbers are small.
 //! - `joined_records.rt`: `LentRows`, rows whose cells borrow one text, which `text_rows` finds in
 //!   a text; `JoinedRecords`, rows of texts that are appended to one buffer.
+//! - `cut_lent_rows.rt`: `CutLentRows`, whose cells are cut to their columns when they are read.
 //! - `records_writer.rt`: `RecordsWriter`, which writes `JoinedRecords` text by text.
 //! - `flat_rows.rt`: `FlatRows`, rows whose cells are in one list.
 //!
@@ -24,6 +25,7 @@
 #![tactic(auto)]
 
 mod buffer;
+mod cut_lent_rows;
 mod empty;
 pub mod flat_rows;
 mod iter_records;
@@ -35,6 +37,7 @@ mod row_ranges;
 mod truncate;
 
 pub use buffer::{BufCells, BufRecords, BufRows};
+pub use cut_lent_rows::CutLentRows;
 pub use empty::{EmptyCells, EmptyRecords, EmptyRows};
 pub use iter_records::IterRecords;
 pub use joined_records::{JoinedRecords, LentRows, text_rows};

@@ -8,7 +8,7 @@ pub returns-clause-columns : goal.returns-clause-columns
 returns-clause-columns c =
     let r = c.self.inside in
     let texts = texts_from 1 r.text.now 0 r.cells in
-    let there = subst (λ n. AreRanges n r.rows) (sym (length-texts 1 r.text.now 0 r.cells)) c.self.invariant.1 in
+    let there = subst (λ n. AreRanges n r.rows) (sym (length-texts 1 r.text.now 0 r.cells)) c.self.invariant.ranges in
     c.columns.ensures ∙ rows-columns texts r.rows there ∙ ap columns c.self.view_is
 
 pub returns-clause-rectangular : goal.returns-clause-rectangular
