@@ -168,7 +168,9 @@ pub mod settings {
     /// table.with(narrow.priority(Priority::max(true)))?;
     /// ```
     pub mod width {
-        pub use tabled_set::{Justify, MinWidth, SuffixLimit, Truncate, Width, WidthList, Wrap};
+        pub use tabled_set::{
+            Justify, MinWidth, NarrowedRows, SuffixLimit, Truncate, Width, WidthList, Wrap,
+        };
     }
 
     /// Options that fit a whole table, or the cells of a part, to a height in lines.
@@ -280,7 +282,7 @@ pub mod grid {
             VecRecords,
         };
         pub use tabled_records::{
-            EmptyRecords, IterRecords, JoinedRecords, LentRows, RecordsWriter,
+            CutLentRows, EmptyRecords, IterRecords, JoinedRecords, LentRows, RecordsWriter,
         };
 
         /// Views of records that are read row by row.

@@ -1,6 +1,5 @@
 //! `render`: prints a text as a table, and narrows it by wrapping or truncating its cells.
 ghost use Rattle.std.specs.Prelude.{◌≡◌, ◌⊎◌, ◌-◌, IfErr, IfOk, None, Some, false, true};
-ghost use Rattle.std.specs.Prelude.{unwrap_or};
 ghost use Rattle.std.specs.List.{list_all};
 ghost use Rattle.tabled_base.specs.Cells.{IsRectangular};
 ghost use Rattle.tabled_base.specs.declared.error.TableError.TheVariants.{Memory, Range, Writer};
@@ -9,6 +8,7 @@ ghost use Rattle.tabled_grid.specs.Printed.{IsOutOfRange};
 ghost use Rattle.tabled_records.specs.TextRows.{text_rows};
 ghost use Rattle.tabled_set.specs.Common.{at};
 ghost use Rattle.tabled_set.specs.Minimums.{side_padding};
+ghost use Rattle.tabled_set.specs.NarrowedRows.{cells_of_or};
 ghost use Rattle.tabled_size.specs.Effective.{effective};
 ghost use Rattle.tabled_size.specs.Sheet.{estimated, is_empty};
 ghost use Rattle.tabled_size.specs.Stored.{heights_of, widths_of};
@@ -24,9 +24,10 @@ use std::alloc::Global;
 use tabled_base::{PeekableRecords, Position, TableError, TableOption};
 use tabled_config::{ColoredConfig, SpannedConfig, Style};
 use tabled_grid::{TextSink, print_estimated, print_standing};
-use tabled_records::{JoinedRecords, text_rows};
+use tabled_records::{LentRows, text_rows};
 use tabled_set::{
-    CellFilter, Change, ContentSizes, SuffixLimit, Truncate, Truncating, Wrap, changed_records,
+    CellFilter, Change, ContentSizes, NarrowedRows, SuffixLimit, Truncate, Truncating, Wrap,
+    changed_records,
 };
 use tabled_size::{CompleteDimension, Estimate};
 use tabled_table::new_config;
@@ -34,22 +35,22 @@ use tabled_text::is_letter_text;
 
 /// Wraps or truncates the cells of a table, as a plan says, and stores its new sizes. Returns the
 /// changed cells, or `None` if none changes.
-fn narrow<R: PeekableRecords>(
+fn narrow<'r, 't>(
     plan: Plan,
-    records: &R,
+    rows: &'r LentRows<'t>,
     config: &SpannedConfig,
     sizes: &mut CompleteDimension,
-) -> Result<Option<JoinedRecords>, TableError>
-    requires texts { AreTexts (R.cells records.now) }
-    requires rectangular { IsRectangular (R.cells records.now) }
+) -> Result<Option<NarrowedRows<'r, 't>>, TableError>
+    requires texts { AreTexts rows.now }
+    requires rectangular { IsRectangular rows.now }
     requires no_widths { widths_of sizes.old ≡ None }
     requires no_heights { heights_of sizes.old ≡ None }
     ensures made { IfOk result (λ changed. IsMade (measured plan)
-        (estimated (R.cells records.now) config.now)
-        (effective (unwrap_or changed (R.cells records.now)) config.now sizes.new)) }
+        (estimated rows.now config.now)
+        (effective (cells_of_or changed rows.now) config.now sizes.new)) }
     ensures only { IfErr result (λ e. (e ≡ Memory) ⊎ (e ≡ Range)) }
-    ensures range { IfErr result (λ e. e ≡ Range → (is_empty (R.cells records.now) ≡ false)
-        × IsOutOfRange (estimated (R.cells records.now) config.now)) }
+    ensures range { IfErr result (λ e. e ≡ Range → (is_empty rows.now ≡ false)
+        × IsOutOfRange (estimated rows.now config.now)) }
 {
     match plan {
         Plan::Buffered | Plan::Streamed => Ok(None),
@@ -60,49 +61,50 @@ fn narrow<R: PeekableRecords>(
         } => {
             let wrap = Wrap::new(target).keep_words(words);
             let wrap = wrap.priority(OrderPriority::new(order));
-            let wrapped = wrap.narrowed(records, config, sizes)?;
+            let wrapped = wrap.narrowed(rows, config, sizes)?;
             sizes.clear_height();
-            Ok(wrapped)
+            Ok(NarrowedRows::made(wrapped))
         }
         Plan::Shortened { target, order } => {
             let truncate = Truncate::new(target).priority(OrderPriority::new(order));
-            let truncated = truncate.narrowed(records, config, sizes)?;
+            let truncated = truncate.narrowed(rows, config, sizes)?;
             Ok(truncated)
         }
     }
 }
 
 /// Wraps or truncates the cells of a table, as a plan says, and prints it.
-fn print_narrowed<R: PeekableRecords, S: TextSink>(
+fn print_narrowed<S: TextSink>(
     alloc: Global,
-    rows: &R,
+    rows: &LentRows<'_>,
     config: &SpannedConfig,
     plan: Plan,
     sink: &mut S,
 ) -> Result<(), TableError>
-    requires texts { AreTexts (R.cells rows.now) }
-    requires rectangular { IsRectangular (R.cells rows.now) }
-    ensures { IsRenderedOf (measured plan) (estimated (R.cells rows.now) config.now)
+    requires texts { AreTexts rows.now }
+    requires rectangular { IsRectangular rows.now }
+    ensures { IsRenderedOf (measured plan) (estimated rows.now config.now)
         (S.sent sink.old) result (S.sent sink.new) }
 {
     let mut sizes = CompleteDimension::new(alloc);
     match narrow(plan, rows, config, &mut sizes)? {
-        Some(cells) => print_standing(sink, &cells, config, &sizes),
+        Some(NarrowedRows::Cut(cells)) => print_standing(sink, &cells, config, &sizes),
+        Some(NarrowedRows::Made(cells)) => print_standing(sink, &cells, config, &sizes),
         None => print_standing(sink, rows, config, &sizes),
     }
 }
 
 /// Prints the table of some records and settings under a plan. Measures all of it first.
-fn print_measured<R: PeekableRecords, S: TextSink>(
+fn print_measured<S: TextSink>(
     alloc: Global,
-    rows: &R,
+    rows: &LentRows<'_>,
     config: &SpannedConfig,
     plan: Plan,
     sink: &mut S,
 ) -> Result<(), TableError>
-    requires texts { AreTexts (R.cells rows.now) }
-    requires rectangular { IsRectangular (R.cells rows.now) }
-    ensures { IsRenderedOf (measured plan) (estimated (R.cells rows.now) config.now)
+    requires texts { AreTexts rows.now }
+    requires rectangular { IsRectangular rows.now }
+    ensures { IsRenderedOf (measured plan) (estimated rows.now config.now)
         (S.sent sink.old) result (S.sent sink.new) }
 {
     match plan {

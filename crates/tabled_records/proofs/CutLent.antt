@@ -18,9 +18,12 @@ printable-columns text h = text_columns-plain_line (plain_line-printable text h)
 
 -- and is cut in front of any byte
 pub printable-boundary : (text : List ℕ) (n : ℕ) → IsPrintable text → n ≤ length text → IsCharBoundary text n
-printable-boundary text n h l = (l, λ below wide.
-    let own : is_in_range 0x20 0x7E (get_or text n 0) ≡ true = AllPass-from_list_all (is_in_range 0x20 0x7E) text h n 0 below in
-    grind (arith, nat_tests))
+printable-boundary text n h l = (
+  l,
+  λ below wide.
+      let own : is_in_range 0x20 0x7E (get_or text n 0) ≡ true = AllPass-from_list_all (is_in_range 0x20 0x7E) text h n 0 below in
+      grind (arith, nat_tests),
+)
 
 pub printable-cut : (text : List ℕ) (n : ℕ) → IsPrintable text → IsPrintable (take n text)
 printable-cut text n h =

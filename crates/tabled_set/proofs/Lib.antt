@@ -1,4 +1,5 @@
 pub mod ChangingCells
+pub mod CutRows
 pub mod Emptied
 pub mod ExactTotals
 pub mod Names

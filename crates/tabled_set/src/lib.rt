@@ -21,12 +21,14 @@
 //! - `walk`: changes the cells of an entity, row by row or column by column
 //! - `rewriting`: writes records anew, row by row, with some cells changed
 //! - `narrowing`: narrows a table, and changes its cells to fit
+//! - `narrowed_rows`: narrows the rows of a text by cutting their cells
 #![tactic(auto)]
 
 mod heights;
 pub mod laws;
 mod measurement;
 mod min_width;
+mod narrowed_rows;
 mod narrowing;
 mod resize;
 mod rewriting;
@@ -39,6 +41,7 @@ mod wrap;
 pub use heights::{CellHeightIncrease, CellHeightLimit, TableHeightIncrease, TableHeightLimit};
 pub use measurement::{Height, Max, Measurement, Min, Percent, Width};
 pub use min_width::{Justify, MinWidth};
+pub use narrowed_rows::NarrowedRows;
 pub use resize::{CellFilter, Change, ContentSizes};
 pub use rewriting::changed_records;
 pub use sizes::{HeightList, WidthList};

@@ -35,6 +35,8 @@ fn narrowed_widths<'a, P: Peaker + Drop, R: ExactRecords>(
     ensures ok { let t = effective (R.cells records.now) config.now sizes.now in
         IfOk result (λ answer. MatchOption answer (total_width t ≤ n)
         (IsFound P.shrinks priority n t)) }
+    ensures settings { IfOk result (λ answer.
+        IfSome answer (λ found. found.config.now ≡ config.now)) }
     ensures wider { OnErr result
         (n < total_width (effective (R.cells records.now) config.now sizes.now)) }
     ensures err { IfErr result (λ e. (e ≡ Memory)
@@ -92,10 +94,10 @@ fn content_widths(
 /// The widths of a table's columns, and the content width of each cell: its column's width less its
 /// own padding. Cells of a column below its minimum have none.
 #[derive(Drop)]
-struct ColumnWidths<'a> {
-    widths: Vec<usize>,
+pub(crate) struct ColumnWidths<'a> {
+    pub(crate) widths: Vec<usize>,
     // The content width of each column, or its width if its cells have paddings of their own.
-    content: Vec<Option<usize>>,
+    pub(crate) content: Vec<Option<usize>>,
     config: &'a SpannedConfig,
 }
 
@@ -115,7 +117,7 @@ impl<'a> ContentSizes for ColumnWidths<'a> {
 /// Returns the widths to which the columns of a table shrink, so that its total is the measured
 /// width, or `None` if the table isn't wider. Missing sizes are estimated first, and are stored
 /// even if an error follows.
-fn wanted_widths<'a, W: Measurement<Width>, P: Peaker + Drop, R: PeekableRecords>(
+pub(crate) fn wanted_widths<'a, W: Measurement<Width>, P: Peaker + Drop, R: PeekableRecords>(
     size: &W,
     priority: P,
     records: &R,
@@ -129,6 +131,8 @@ fn wanted_widths<'a, W: Measurement<Width>, P: Peaker + Drop, R: PeekableRecords
     ensures some { IfOk result (λ answer. IfSome answer (HasWidths P.shrinks priority
         (W.measures size.now (R.cells records.now) config.now)
         (R.cells records.now) config.now sizes.old sizes.new)) }
+    ensures settings { IfOk result (λ answer.
+        IfSome answer (λ found. found.config.now ≡ config.now)) }
     ensures err { IfErr result (λ e. StopsEarly
         (W.measures size.now (R.cells records.now) config.now) e
         (R.cells records.now) config.now sizes.old sizes.new) }

@@ -2,23 +2,25 @@
 //! text.
 ghost use Rattle.std.specs.Cow.{cow_str_bytes, IsOwnedStr};
 ghost use Rattle.std.specs.Prelude.{◌≡◌, ◌-◌, [], IfErr, IfNone, IfOk, IfSome, None, OnErr, OnOk};
-ghost use Rattle.std.specs.Prelude.{Some, false, if◌then◌else◌, nat_lt, string_bytes, unwrap_or, ◌⊎◌};
+ghost use Rattle.std.specs.Prelude.{Some, false, if◌then◌else◌, nat_lt, string_bytes, ◌⊎◌};
 ghost use Rattle.tabled_set.specs.Common.{effective, is_empty, IsCut, Memory, NeedsFill, Range};
 ghost use Rattle.tabled_set.specs.CellChanges.{truncating, if_wider, Wider};
 ghost use Rattle.tabled_set.specs.Narrowed.{Narrows, NarrowingOutOfRange, StopsEarly};
 ghost use Rattle.tabled_set.specs.Narrowed.{StopsNarrowing};
 ghost use Rattle.tabled_set.specs.Truncated.{AddsEnded, Cut, HasEndedLines, IsMade, IsTruncated};
 ghost use Rattle.tabled_set.specs.Truncated.{IsUsed, suffix_columns, truncating_in_place};
+ghost use Rattle.tabled_set.specs.NarrowedRows.{cells_of_or};
 ghost use Rattle.tabled_set.specs.Promised.{AfterClearing, TruncatesAsPromised};
 
 use crate::measurement::{Measurement, Width};
-use crate::narrowing::{narrow_table, narrowed_records};
+use crate::narrowed_rows::{NarrowedRows, narrowed_rows};
+use crate::narrowing::narrow_table;
 use crate::resize::{Beginning, CellFilter, Resize, TextTransform};
 use std::alloc::{AllocError, Global};
 use std::borrow::CowStr;
-use tabled_base::{Entity, PeekableRecords, RecordsMut, SHORT_TEXT, TableError, TableOption};
+use tabled_base::{Entity, RecordsMut, SHORT_TEXT, TableError, TableOption};
 use tabled_config::{ColoredConfig, SpannedConfig};
-use tabled_records::JoinedRecords;
+use tabled_records::LentRows;
 use tabled_size::{CompleteDimension, Peaker, PriorityNone};
 use tabled_text::{copies, count_lines, cut_length, cut_str, line_width, lines};
 
@@ -273,34 +275,31 @@ impl<'a, W, P> Truncate<'a, W, P> {
 }
 
 impl<'a, W: Measurement<Width> + Drop, P: Peaker + Drop> Truncate<'a, W, P> {
-    /// Returns the cells of a table as the table option changes them, or `None` if the table isn't
-    /// too wide. The sizes are stored, and errors come, as by the table option, but no record changes.
-    pub fn narrowed<R: PeekableRecords>(
+    /// Returns the rows of a table as the table option changes them, or `None` if the table isn't
+    /// too wide. The sizes are stored, and errors come, as by the table option, but no row changes.
+    pub fn narrowed<'r, 't>(
         self,
-        records: &R,
+        rows: &'r LentRows<'t>,
         cfg: &SpannedConfig,
         dims: &mut CompleteDimension,
-    ) -> Result<Option<JoinedRecords>, TableError>
+    ) -> Result<Option<NarrowedRows<'r, 't>>, TableError>
         ensures ok { let by = self.entry.transform in IfOk result (λ changed.
             Narrows P.shrinks self.entry.priority
             (if_wider (truncating by.suffix.now by.limit by.multiline))
-            (W.measures self.entry.size (R.cells records.now) cfg.now) (R.cells records.now)
-            cfg.now dims.old (unwrap_or changed (R.cells records.now)) dims.new) }
+            (W.measures self.entry.size rows.now cfg.now) rows.now cfg.now dims.old
+            (cells_of_or changed rows.now) dims.new) }
         ensures promised { let by = self.entry.transform in
             IfOk result (λ changed. AfterClearing None dims.new (λ left.
             TruncatesAsPromised P.shrinks self.entry.priority by.suffix.now by.limit by.multiline
-            (W.measures self.entry.size (R.cells records.now) cfg.now)
-            (effective (R.cells records.now) cfg.now dims.old)
-            (effective (unwrap_or changed (R.cells records.now)) cfg.now left))) }
-        ensures err { IfErr result (λ e. StopsEarly
-            (W.measures self.entry.size (R.cells records.now) cfg.now) e
-            (R.cells records.now) cfg.now dims.old dims.new) }
+            (W.measures self.entry.size rows.now cfg.now) (effective rows.now cfg.now dims.old)
+            (effective (cells_of_or changed rows.now) cfg.now left))) }
+        ensures err { IfErr result (λ e. StopsEarly (W.measures self.entry.size rows.now cfg.now) e
+            rows.now cfg.now dims.old dims.new) }
         ensures only { IfErr result (λ e. (e ≡ Memory) ⊎ ((e ≡ Range)
-            × NarrowingOutOfRange (W.out_of_range self.entry.size (R.cells records.now) cfg.now)
-            (W.measures self.entry.size (R.cells records.now) cfg.now)
-            (R.cells records.now) cfg.now dims.old)) }
+            × NarrowingOutOfRange (W.out_of_range self.entry.size rows.now cfg.now)
+            (W.measures self.entry.size rows.now cfg.now) rows.now cfg.now dims.old)) }
     {
-        narrowed_records(self, CellFilter::Wider, records, cfg, dims)
+        narrowed_rows(self, rows, cfg, dims)
     }
 }
 

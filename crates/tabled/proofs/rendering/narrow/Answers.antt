@@ -1,7 +1,8 @@
-use Rattle.tabled.proofs.Names.{AreCleared, Buffered, Cut, IsMade, Memory, Narrows, None, Plan, Range, Row, Sheet, Shortened, Shrinks, Some}
+use Rattle.tabled.proofs.Names.{AreCleared, Buffered, Cells, Cut, IsMade, Memory, Narrows, None, Plan, Range, Row, Sheet, Shortened, Shrinks, Some}
 use Rattle.tabled.proofs.Names.{TableError, TruncatesAsPromised, Wrapped, [], ap, arith, effective, effective_estimated}
 use Rattle.tabled.proofs.Names.{estimated, false, if_wider, measured, refl, rules, subst, sym, truncating, unwrap_or, ⊎_elim, ◌∙◌, ◌≡◌, ◌⊎◌}
 use Rattle.std.proofs.lemmas.Grind.{common_steps}
+use Rattle.tabled_set.specs.NarrowedRows.{cells_of_or}
 use Rattle.tabled.proofs.FittedTables.{passes, truncated, wrapped}
 use Rattle.tabled.proofs.RenderedTables.{buffered_made, range_only}
 use Rattle.tabled.proofs.rendering.narrow.Goals as goal
@@ -11,20 +12,20 @@ out_of_range : (Q R : Type 0) (e : TableError) → (e ≡ Memory) ⊎ ((e ≡ Ra
 out_of_range Q R e cause so r = ⊎_elim (λ m. let bad : ⊥ = cc in absurd bad) (λ h. so h.1) cause
 
 pub returns-in_err-wrapped-in-Wrapped-clause-range : goal.returns-in_err-wrapped-in-Wrapped-clause-range
-returns-in_err-wrapped-in-Wrapped-clause-range g c =
+returns-in_err-wrapped-in-Wrapped-clause-range c =
     range_only _ _ c.from_residual.ensures.1
     (out_of_range _ _ _ c.in_err-wrapped-in-Wrapped.ensures.only
     (λ over. (over.0, passes _ _ c.args.config.now c.args.sizes.now c.requires.no_widths c.requires.no_heights over)))
 
 pub returns-in_err-truncated-in-Shortened-clause-range : goal.returns-in_err-truncated-in-Shortened-clause-range
-returns-in_err-truncated-in-Shortened-clause-range g c =
+returns-in_err-truncated-in-Shortened-clause-range c =
     range_only _ _ c.from_residual-in_err-truncated-in-Shortened.ensures.1
     (out_of_range _ _ _ c.in_err-truncated-in-Shortened.ensures.only
     (λ over. (over.0, passes _ _ c.args.config.now c.args.sizes.now c.requires.no_widths c.requires.no_heights over)))
 
 pub returns-in_ok-wrapped-in-Wrapped-clause-made : goal.returns-in_ok-wrapped-in-Wrapped-clause-made
-returns-in_ok-wrapped-in-Wrapped-clause-made g c =
-    let cells = g.R.ExactRecords.cells c.args.records.now in
+returns-in_ok-wrapped-in-Wrapped-clause-made c =
+    let cells = c.args.rows.now in
     let after = unwrap_or c.in_ok-wrapped-in-Wrapped.wrapped cells in
     let none = c.args.sizes.now in
     let left = c.narrowed.new.dims in
@@ -37,12 +38,13 @@ returns-in_ok-wrapped-in-Wrapped-clause-made g c =
     let cleared : AreCleared (Some (Row 0)) left last = record { widths = c.clear_height.ensures.widths; heights = c.clear_height.ensures.heights } in
     let made = wrapped w.priority start w.size cells after config none left last c.requires.no_widths c.requires.no_heights
     c.requires.rectangular c.requires.texts w.transform.keep_words c.in_ok-wrapped-in-Wrapped.ensures.ok cleared (c.in_ok-wrapped-in-Wrapped.ensures.promised last cleared) in
-    subst (λ (p : Plan). IsMade p (estimated cells config) (effective after config last)) (plan ∙ sym (ap measured c.in-Wrapped.is)) made
+    subst (λ (k : Cells). IsMade (measured c.args.plan) (estimated cells config) (effective k config last)) (sym (c.made.ensures cells))
+    (subst (λ (p : Plan). IsMade p (estimated cells config) (effective after config last)) (plan ∙ sym (ap measured c.in-Wrapped.is)) made)
 
 pub returns-in_ok-truncated-in-Shortened-clause-made : goal.returns-in_ok-truncated-in-Shortened-clause-made
-returns-in_ok-truncated-in-Shortened-clause-made g c =
-    let cells = g.R.ExactRecords.cells c.args.records.now in
-    let after = unwrap_or c.in_ok-truncated-in-Shortened.truncated cells in
+returns-in_ok-truncated-in-Shortened-clause-made c =
+    let cells = c.args.rows.now in
+    let after = cells_of_or c.in_ok-truncated-in-Shortened.truncated cells in
     let none = c.args.sizes.now in
     let last = c.narrowed-in-Shortened.new.dims in
     let w = c.priority-truncate.result in
@@ -71,8 +73,8 @@ returns-in_ok-truncated-in-Shortened-clause-made g c =
     subst (λ (p : Plan). IsMade p (estimated cells config) (effective after config last)) (plan ∙ sym (ap measured c.in-Shortened.is)) made
 
 pub returns-in-Buffered-clause-made : goal.returns-in-Buffered-clause-made
-returns-in-Buffered-clause-made g c =
-    let cells = g.R.ExactRecords.cells c.args.records.now in
+returns-in-Buffered-clause-made c =
+    let cells = c.args.rows.now in
     let config = c.args.config.now in
     let none = c.args.sizes.now in
     let plan : measured c.args.plan ≡ Buffered = ⊎_elim (λ e. ap measured e) (λ e. ap measured e) c.in-Buffered.is in

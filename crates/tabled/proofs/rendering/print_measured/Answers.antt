@@ -4,7 +4,7 @@ use Rattle.tabled.proofs.rendering.print_measured.Goals as goal
 
 pub returns-in-Buffered : goal.returns-in-Buffered
 returns-in-Buffered g c =
-    let cells = g.R.ExactRecords.cells c.args.rows.now in
+    let cells = c.args.rows.now in
     let config = c.args.config.now in
     let old = g.S.TextSink.sent c.args.sink.now in
     let r = c.print_estimated.result in

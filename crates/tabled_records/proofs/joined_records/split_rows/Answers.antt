@@ -9,9 +9,11 @@ use Rattle.tabled_records.proofs.joined_records.split_rows.Goals as goal
 pub bytes-init : goal.bytes-init
 bytes-init c =
     let at = c.run_end-at in
-    rw (c.new-cells.ensures, c.new-rows.ensures)
-    (split-begun c.args.text.now c.as_bytes-bytes.result.now [] [] 0 0 at.result true c.as_bytes-bytes.ensures.value
-    (cut-start c.args.text.now c.utf8.text) (omega arith) at.ensures.end at.ensures.passed, λ _. All-nil IsPrintable)
+    rw (c.new-cells.ensures, c.new-rows.ensures) (
+      split-begun c.args.text.now c.as_bytes-bytes.result.now [] [] 0 0 at.result true c.as_bytes-bytes.ensures.value
+          (cut-start c.args.text.now c.utf8.text) (omega arith) at.ensures.end at.ensures.passed,
+      λ _. All-nil IsPrintable,
+    )
 
 pub bytes-preserved-then-byte-ne10 : goal.bytes-preserved-then-byte-ne10
 bytes-preserved-then-byte-ne10 c =
@@ -24,13 +26,15 @@ bytes-preserved-then-byte-ne10 c =
     let run = subst (λ t. (k : ℕ) → c.bytes.at + 1 ≤ k → k < at → is_in_range 0x20 0xFF (get_or t k 0) ≡ true) same
     c.run_end-at-then-byte-ne10.ensures.passed in
     let first = within-more text c.bytes.start c.bytes.at was.within
-    (subst (λ t. get_or t c.bytes.at 0 ≡ 9 → ⊥) same c.if-byte-ne9.true) (subst (λ t. get_or t c.bytes.at 0 ≡ 10 → ⊥) same c.if-byte-ne10.true) in
-    (record {
-      inside = ends;
-      cut = was.cut;
-      within = within-run text c.bytes.start (c.bytes.at + 1) at 0xFF c.run_end-at-then-byte-ne10.ensures.from run first;
-      printable = λ e. absurd (let f : false ≡ true = e in cc);
-    }, c.bytes.invariant.1)
+    (subst (λ t. get_or t c.bytes.at 0 ≡ 9 → ⊥) same c.if-byte-ne9.true) (subst (λ t. get_or t c.bytes.at 0 ≡ 10 → ⊥) same c.if-byte-ne10.true) in (
+      record {
+        inside = ends;
+        cut = was.cut;
+        within = within-run text c.bytes.start (c.bytes.at + 1) at 0xFF c.run_end-at-then-byte-ne10.ensures.from run first;
+        printable = λ e. absurd (let f : false ≡ true = e in cc);
+      },
+      c.bytes.invariant.1,
+    )
 
 pub cell_columns-columns-requires-clause-ordered : goal.cell_columns-columns-requires-clause-ordered
 cell_columns-columns-requires-clause-ordered c = c.bytes.invariant.0.within.ordered
@@ -68,9 +72,11 @@ bytes-preserved-then-byte-eq9 c =
     was.within inside tab c.cell_columns-columns.ensures in
     let plain = plain-next text c.bytes.cells c.cell_columns-columns.result c.bytes.start c.bytes.at c.bytes.all_printable c.bytes.printable
     was.cut.starts c.bytes.invariant.1 was.printable in
-    rw c.in_ok-push.ensures.ok
-    (split-begun text c.as_bytes-bytes.result.now _ c.bytes.rows (c.bytes.at + 1) c.bytes.first at.result true same cut at.ensures.from
-    at.ensures.end at.ensures.passed, plain)
+    rw c.in_ok-push.ensures.ok (
+      split-begun text c.as_bytes-bytes.result.now _ c.bytes.rows (c.bytes.at + 1) c.bytes.first at.result true same cut at.ensures.from
+          at.ensures.end at.ensures.passed,
+      plain,
+    )
 
 pub overflow_sub-count : goal.overflow_sub-count
 overflow_sub-count c =
@@ -96,9 +102,11 @@ bytes-preserved c =
     (omega (arith, reached, c.len.ensures, ap length pushed, more)) in
     let plain = plain-next text c.bytes.cells c.cell_columns-columns.result c.bytes.start c.bytes.at c.bytes.all_printable c.bytes.printable
     was.cut.starts c.bytes.invariant.1 was.printable in
-    rw (pushed, c.in_ok-push-2.ensures.ok, last)
-    (split-begun text c.as_bytes-bytes.result.now cells _ (c.bytes.at + 1) (length cells) at.result true same cut at.ensures.from
-    at.ensures.end at.ensures.passed, plain)
+    rw (pushed, c.in_ok-push-2.ensures.ok, last) (
+      split-begun text c.as_bytes-bytes.result.now cells _ (c.bytes.at + 1) (length cells) at.result true same cut at.ensures.from
+          at.ensures.end at.ensures.passed,
+      plain,
+    )
 
 pub overflow_sub-count-2 : goal.overflow_sub-count-2
 overflow_sub-count-2 c =

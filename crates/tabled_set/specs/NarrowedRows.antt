@@ -1,0 +1,14 @@
+-- The rows of a table that is narrowed.
+use Rattle.std.specs.Prelude.{ℕ, List, Option, None, Some}
+use Rattle.tabled_set.specs.declared.narrowed_rows.NarrowedRows.{NarrowedRows}
+use Rattle.tabled_set.specs.declared.narrowed_rows.NarrowedRows.TheVariants.{Cut, Made}
+
+-- the cells of narrowed rows
+abbrev pub cells_of : NarrowedRows → List (List (List ℕ))
+cells_of (Cut rows) = rows
+cells_of (Made rows) = rows
+
+-- or those of the table if it isn't narrowed
+abbrev pub cells_of_or : Option NarrowedRows → List (List (List ℕ)) → List (List (List ℕ))
+cells_of_or None own = own
+cells_of_or (Some rows) own = cells_of rows
