@@ -1,16 +1,15 @@
 -- Lists that were changed up to a level are those of the priorities.
 use Rattle.tabled_priority.proofs.Names.{CanChange, Depths, Gains, Heights, IsChanged, IsReached, IsScheduled, IsSpan, IsSpanBy, List}
 use Rattle.tabled_priority.proofs.Names.{Rounds, Schedule, arith, at, at-le-sum, cases_lt, first_level, get_or_past, greatest_usize}
-use Rattle.tabled_priority.proofs.Names.{last_level, length, min, place_after, share, start_of, total_amount, ℕ, ⊎_elim, ◌+◌, ◌-◌, ◌<◌, ◌≡◌}
-use Rattle.tabled_priority.proofs.Names.{◌≤◌}
+use Rattle.tabled_priority.proofs.Names.{last_level, length, min, place_after, share, start_of, subst, total_amount, ℕ, ⊎_elim, ◌+◌, ◌-◌, ◌<◌}
+use Rattle.tabled_priority.proofs.Names.{◌≡◌, ◌≤◌}
 use Rattle.tabled_priority.specs.Laws.Grown.{IsMinGrown-still, IsRoundGrown-still}
 use Rattle.tabled_priority.specs.Laws.Round.{IsRoundShrunk-still}
 use Rattle.tabled_priority.specs.Laws.Shrunk.{IsMaxShrunk-still}
 use Rattle.tabled_priority.specs.Schedule.{StaysInRange, amount_by}
-use Rattle.tabled_priority.proofs.Gains.{gains_gain, grown_by_shares, heights_gain, min_grown, round_grown, share_fits, wanted_added}
-use Rattle.tabled_priority.proofs.Gains.{zero_end}
+use Rattle.tabled_priority.proofs.Gains.{grown_by_shares, min_grown, nonzero_end, round_grown, share_fits, wanted_added, zero_end}
 use Rattle.tabled_priority.proofs.Leveled.{max_shrunk, round_shrunk}
-use Rattle.tabled_priority.proofs.Shares.{depths_spare, depths_within, rounds_spare, taken_by_shares, wanted_taken}
+use Rattle.tabled_priority.proofs.Shares.{taken_by_shares, wanted_taken}
 
 -- sizes and minimums are numbers of the type `usize`
 pub record AreSizes (old mins : List ℕ) : Type 0 where
@@ -24,17 +23,17 @@ pub wanted_by : (k : Schedule) (old mins : List ℕ) (by most wanted : ℕ) → 
     → wanted ≡ min by most → wanted ≡ amount_by k old mins by
 wanted_by (Depths right) old mins by most wanted s b room m w =
     wanted_taken (first_level (Depths right) old mins) (last_level (Depths right) old mins) old mins by most wanted b
-    (λ i. depths_spare (at old i) (at mins i) (s.values i) (s.least i)) m w
+    (λ i. let v = s.values i in let l = s.least i in omega arith) m w
 wanted_by (Rounds kept) old mins by most wanted s b room m w =
     wanted_taken (first_level (Rounds kept) old mins) (last_level (Rounds kept) old mins) old mins by most wanted b
-    (λ i. rounds_spare (at old i) (at mins i) (s.values i)) m w
+    (λ i. let v = s.values i in omega arith) m w
 wanted_by (Heights right) old mins by most wanted s b room m w =
     wanted_added (first_level (Heights right) old mins) (last_level (Heights right) old mins) old by most wanted b
-    (λ i pos. heights_gain (at old i) by pos (let e = at-le-sum old i in omega arith))
+    (λ i pos. let t = nonzero_end (at old i) pos in let e = at-le-sum old i in omega arith)
     (λ i z. zero_end (at old i) z) m w
 wanted_by (Gains kept) old mins by most wanted s b room m w =
     wanted_added (first_level (Gains kept) old mins) (last_level (Gains kept) old mins) old by most wanted b
-    (λ i pos. gains_gain (at old i) by pos b) (λ i z. zero_end (at old i) z) m w
+    (λ i pos. let t = nonzero_end (at old i) pos in omega arith) (λ i z. zero_end (at old i) z) m w
 
 -- if nothing is wanted, the list may stay
 pub still_by : (k : Schedule) (old mins : List ℕ) (by : ℕ) → amount_by k old mins by ≡ 0
@@ -54,6 +53,24 @@ pub record IsPlanned (k : Schedule) (old mins : List ℕ) (by level rest first l
   pub reached : IsReached (first_level k old mins) (last_level k old mins) (length old) (amount_by k old mins by) level rest
   pub span : IsSpan (first_level k old mins) (last_level k old mins) (length old) level rest first last
   pub side : IsSpanBy k (first_level k old mins) (last_level k old mins) (length old) level first last
+
+pub planned : (k : Schedule) (old mins : List ℕ) (by amount level rest first last : ℕ) → StaysInRange k old by
+    → ((i : ℕ) → at old i ≤ greatest_usize) → ((i : ℕ) → at mins i ≤ greatest_usize)
+    → amount ≡ amount_by k old mins by → 0 < amount → amount ≤ by → level < greatest_usize
+    → IsReached (first_level k old mins) (last_level k old mins) (length old) amount level rest
+    → IsSpan (first_level k old mins) (last_level k old mins) (length old) level rest first last
+    → IsSpanBy k (first_level k old mins) (last_level k old mins) (length old) level first last
+    → IsPlanned k old mins by level rest first last
+planned k old mins by amount level rest first last room values least is some most below reached span side = record {
+  sizes = record { values = values; least = least };
+  room = room;
+  some = omega arith;
+  most = omega arith;
+  below = below;
+  reached = subst (λ x. IsReached (first_level k old mins) (last_level k old mins) (length old) x level rest) is reached;
+  span = span;
+  side = side;
+}
 
 abbrev share_by : Schedule → List ℕ → List ℕ → ℕ → ℕ → ℕ → ℕ → ℕ
 share_by k old mins = share (first_level k old mins) (last_level k old mins)
@@ -93,7 +110,7 @@ scheduled_by (Depths right) old mins by level rest first last new p len each =
     let all = given_all (Depths right) old mins new level first last len each (λ i _ e. omega arith) in
     max_shrunk right old mins by new level first last p.sizes.values p.sizes.least p.below
     (taken_by_shares from to old mins by new level rest first last p.reached p.span
-    (λ i. depths_within (at old i) (at mins i) (p.sizes.values i) (p.sizes.least i)) len all)
+    (λ i. let v = p.sizes.values i in let l = p.sizes.least i in omega arith) len all)
     p.span.first_in p.side all
 scheduled_by (Rounds kept) old mins by level rest first last new p len each =
     let from = first_level (Rounds kept) old mins in
@@ -101,7 +118,7 @@ scheduled_by (Rounds kept) old mins by level rest first last new p len each =
     let all = given_all (Rounds kept) old mins new level first last len each (λ i _ e. omega arith) in
     round_shrunk kept old mins by new level first last p.some
     (taken_by_shares from to old mins by new level rest first last p.reached p.span
-    (λ i. let e : at old i - at mins i - 0 ≤ at old i - at mins i = omega arith in e) len all)
+    (λ i. omega arith) len all)
     p.side.0 p.side.1 all
 scheduled_by (Heights right) old mins by level rest first last new p len each =
     let from = first_level (Heights right) old mins in

@@ -70,11 +70,11 @@ grown_by_shares from to old by new level rest first last r s none len each = rec
 }
 
 -- ---- the least first
+pub nonzero_end : (v : ℕ) → 0 < v → (if v == 0 then 0 else greatest_usize) ≡ greatest_usize
+nonzero_end v pos = ap (λ k. cond k 0 greatest_usize) (ne_eqb v 0 (λ z. omega arith))
+
 raised_here : (v y new : ℕ) → 0 < v → y ≤ greatest_usize → new ≡ v + (min y (if v == 0 then 0 else greatest_usize) - v) → new ≡ max v y
-raised_here v y new pos b e =
-    let t : (if v == 0 then 0 else greatest_usize) ≡ greatest_usize = ap (λ k. cond k 0 greatest_usize) (ne_eqb v 0 (λ z. omega arith)) in
-    let f : new ≡ v + (min y greatest_usize - v) = e ∙ ap (λ k. v + (min y k - v)) t in
-    omega arith
+raised_here v y new pos b e = let t = nonzero_end v pos in omega arith
 
 floor_right : (level first last n i : ℕ) → last + 1 ≡ n → first ≤ last → i < n → level + one_if (is_met first last i) ≡ ceiling false level first i
 floor_right level first last n i b c d = grind (arith, nat_tests)
@@ -115,14 +115,8 @@ min_grown false old mins by new level first last l g within side each =
 -- ---- in turn
 round_gain : (v level new : ℕ) (b : Bool) → 0 < v → level < greatest_usize → new
     ≡ v + (min (level + one_if b) (if v == 0 then 0 else greatest_usize) - 0) → new ≡ v + (if b then level + 1 else level)
-round_gain v level new b pos l e =
-    let t : (if v == 0 then 0 else greatest_usize) ≡ greatest_usize = ap (λ k. cond k 0 greatest_usize) (ne_eqb v 0 (λ z. omega arith)) in
-    let f : new ≡ v + (min (level + one_if b) greatest_usize - 0) = e ∙ ap (λ k. v + (min (level + one_if b) k - 0)) t in
-    split b f
-  where
-    split : (b : Bool) → new ≡ v + (min (level + one_if b) greatest_usize - 0) → new ≡ v + (if b then level + 1 else level)
-    split true f = omega arith
-    split false f = omega arith
+round_gain v level new true pos l e = let t = nonzero_end v pos in omega arith
+round_gain v level new false pos l e = let t = nonzero_end v pos in omega arith
 
 open_nonzero : (v level : ℕ) → (nat_le 0 level && nat_lt level (if v == 0 then 0 else greatest_usize)) ≡ true → 0 < v
 open_nonzero v level o = grind (arith, nat_tests)
@@ -144,13 +138,3 @@ round_grown kept old mins by new level first last l some g e o each = record {
 
 pub zero_end : (v : ℕ) → v ≡ 0 → (if v == 0 then 0 else greatest_usize) ≡ 0
 zero_end v z = ap (λ k. cond (k == 0) 0 greatest_usize) z
-
-pub heights_gain : (v by : ℕ) → 0 < v → v + by ≤ greatest_usize → by ≤ min greatest_usize (if v == 0 then 0 else greatest_usize) - v
-heights_gain v by pos h =
-    let t : (if v == 0 then 0 else greatest_usize) ≡ greatest_usize = ap (λ k. cond k 0 greatest_usize) (ne_eqb v 0 (λ z. omega arith)) in
-    subst (λ k. by ≤ min greatest_usize k - v) (sym t) (omega arith)
-
-pub gains_gain : (v by : ℕ) → 0 < v → by ≤ greatest_usize → by ≤ min greatest_usize (if v == 0 then 0 else greatest_usize) - 0
-gains_gain v by pos h =
-    let t : (if v == 0 then 0 else greatest_usize) ≡ greatest_usize = ap (λ k. cond k 0 greatest_usize) (ne_eqb v 0 (λ z. omega arith)) in
-    subst (λ k. by ≤ min greatest_usize k - 0) (sym t) (omega arith)

@@ -3,19 +3,13 @@ use Rattle.tabled_priority.proofs.Names.{List, ap, arith, at, if◌then◌else�
 use Rattle.tabled_priority.proofs.Names.{spare_up_to, sum, sum-below, sum_below, sum_below-le, sum_below-plus, sum_below-same}
 use Rattle.tabled_priority.proofs.Names.{sum_below-zero, ℕ, ◌+◌, ◌-◌, ◌<◌, ◌∙◌, ◌≡◌, ◌≤◌}
 
-none_at_zero : (v m : ℕ) → (if nat_le v 0 then v - m else 0) ≡ 0
-none_at_zero v m = grind (arith, nat_tests)
-
 -- columns of size 0 give nothing
 pub spare_up_to-zero : (values mins : List ℕ) → spare_up_to values mins 0 ≡ 0
-spare_up_to-zero values mins = sum_below-zero (spare_if_up_to values mins 0) (length values) (λ i _. none_at_zero (at values i) (at mins i))
-
-more_up_to : (v s x y : ℕ) → x ≤ y → (if nat_le v x then s else 0) ≤ (if nat_le v y then s else 0)
-more_up_to v s x y h = grind (arith, nat_tests)
+spare_up_to-zero values mins = sum_below-zero (spare_if_up_to values mins 0) (length values) (λ i _. grind (arith, nat_tests))
 
 pub spare_up_to-le : (values mins : List ℕ) (x y : ℕ) → x ≤ y → spare_up_to values mins x ≤ spare_up_to values mins y
 spare_up_to-le values mins x y h = sum_below-le (spare_if_up_to values mins x) (spare_if_up_to values mins y) (length values)
-    (λ i _. more_up_to (at values i) (spare values mins i) x y h)
+    (λ i _. grind (arith, nat_tests))
 
 pub all_up_to : (v s top : ℕ) → v ≤ top → (if nat_le v top then s else 0) ≡ s
 all_up_to v s top h = grind (arith, nat_tests)

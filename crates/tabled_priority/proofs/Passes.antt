@@ -29,23 +29,12 @@ split sizes old i = ⊎_elim
     (λ more. ⊎_elim (λ high. inr (inr high)) (λ le. inl (more, le)) (cases_lt sizes.ceiling (at old i)))
     (λ le. inr (inl le)) (cases_lt sizes.base (at old i))
 
-given-in : (base ceiling v s : ℕ) → base < v → v ≤ ceiling → (if (nat_lt base v && nat_le v ceiling) then s else 0) ≡ s
-given-in base ceiling v s h k = grind (arith, nat_tests)
-
-given-low : (base ceiling v s : ℕ) → v ≤ base → (if (nat_lt base v && nat_le v ceiling) then s else 0) ≡ 0
-given-low base ceiling v s h = grind (arith, nat_tests)
-
-given-high : (base ceiling v s : ℕ) → ceiling < v → (if (nat_lt base v && nat_le v ceiling) then s else 0) ≡ 0
-given-high base ceiling v s h = grind (arith, nat_tests)
-
 within-gives : (sizes : Bracket) (old mins : List ℕ) (i : ℕ) → IsWithin sizes old i → spare_within sizes old mins i ≡ spare old mins i
-within-gives sizes old mins i w = given-in sizes.base sizes.ceiling (at old i) (spare old mins i) w.0 w.1
+within-gives sizes old mins i w = let low = w.0 in let high = w.1 in grind (arith, nat_tests)
 
 out-gives : (sizes : Bracket) (old mins : List ℕ) (i : ℕ) → (at old i ≤ sizes.base) ⊎ (sizes.ceiling < at old i)
     → spare_within sizes old mins i ≡ 0
-out-gives sizes old mins i o = ⊎_elim
-    (λ low. given-low sizes.base sizes.ceiling (at old i) (spare old mins i) low)
-    (λ high. given-high sizes.base sizes.ceiling (at old i) (spare old mins i) high) o
+out-gives sizes old mins i o = ⊎_elim (λ low. grind (arith, nat_tests)) (λ high. grind (arith, nat_tests)) o
 
 module _ (right : Bool) (sizes : Bracket) (old mins : List ℕ) (by : ℕ) where
   -- the first index from the side

@@ -1,8 +1,8 @@
 -- What columns take or gain by their shares.
 use Rattle.tabled_priority.proofs.Names.{Bool, Depths, Gains, Heights, IsReached, IsSpan, IsTakenFrom, List, Rounds, Schedule, amount, ap}
 use Rattle.tabled_priority.proofs.Names.{arith, at, cond, false, first_level, greatest_usize, is_met, is_open, last_level, length, min}
-use Rattle.tabled_priority.proofs.Names.{one_if, refl, share, spare, spare_total, sum-below, sum_below, sum_below-plus, sum_below-same, sym}
-use Rattle.tabled_priority.proofs.Names.{taken, total_amount, true, ℕ, ◌&&◌, ◌+◌, ◌-◌, ◌==◌, ◌∙◌, ◌≡◌, ◌≤◌}
+use Rattle.tabled_priority.proofs.Names.{one_if, refl, share, spare, sum-below, sum_below, sum_below-plus, sum_below-same, sym, taken}
+use Rattle.tabled_priority.proofs.Names.{total_amount, true, ℕ, ◌&&◌, ◌+◌, ◌-◌, ◌==◌, ◌∙◌, ◌≡◌, ◌≤◌}
 use Rattle.std.proofs.Math.Bool.{and-true, and-false}
 use Rattle.tabled_priority.proofs.Ramps.{amount-more}
 
@@ -49,11 +49,6 @@ shares from to n wanted level rest first last r s =
     omega arith
 
 -- ---- shrinking
--- a column gives no more than it can
-pub share-spare : (from to : ℕ → ℕ) (xs mins : List ℕ) (level first last i : ℕ) → to i - from i ≤ spare xs mins i
-    → share from to level first last i ≤ spare xs mins i
-share-spare from to xs mins level first last i h = omega arith
-
 pub taken_by_shares : (from to : ℕ → ℕ) (old mins : List ℕ) (by : ℕ) (new : List ℕ) (level rest first last : ℕ)
     → IsReached from to (length old) (taken old mins by) level rest → IsSpan from to (length old) level rest first last
     → ((i : ℕ) → to i - from i ≤ spare old mins i) → length new ≡ length old
@@ -61,7 +56,7 @@ pub taken_by_shares : (from to : ℕ → ℕ) (old mins : List ℕ) (by : ℕ) (
 taken_by_shares from to old mins by new level rest first last r s fits len each = record {
   permitted = record {
     same_length = len;
-    least = λ i. let e = each i in let f = share-spare from to old mins level first last i (fits i) in omega arith;
+    least = λ i. let e = each i in let f = fits i in omega arith;
     most = λ i. let e = each i in omega arith;
   };
   total =
@@ -73,23 +68,9 @@ taken_by_shares from to old mins by new level rest first last r s fits len each 
       omega arith;
 }
 
--- up to the greatest level columns give all they can
-pub spare_total-total_amount : (from to : ℕ → ℕ) (old mins : List ℕ) (top : ℕ)
-    → ((i : ℕ) → min top (to i) - from i ≡ spare old mins i) → total_amount from to (length old) top ≡ spare_total old mins
-spare_total-total_amount from to old mins top h = sum_below-same (amount from to top) (spare old mins) (length old) (λ i _. h i)
-
 -- what is wanted, of what columns can give up to the greatest level
 pub wanted_taken : (from to : ℕ → ℕ) (old mins : List ℕ) (by most wanted : ℕ) → by ≤ greatest_usize
     → ((i : ℕ) → min greatest_usize (to i) - from i ≡ spare old mins i)
     → most ≡ min (total_amount from to (length old) greatest_usize) greatest_usize → wanted ≡ min by most → wanted ≡ taken old mins by
-wanted_taken from to old mins by most wanted b h m w = let e = spare_total-total_amount from to old mins greatest_usize h in omega arith
-
-pub depths_spare : (v m : ℕ) → v ≤ greatest_usize → m ≤ greatest_usize
-    → min greatest_usize (greatest_usize - m) - (greatest_usize - v) ≡ v - m
-depths_spare v m a b = omega arith
-
-pub depths_within : (v m : ℕ) → v ≤ greatest_usize → m ≤ greatest_usize → greatest_usize - m - (greatest_usize - v) ≤ v - m
-depths_within v m a b = omega arith
-
-pub rounds_spare : (v m : ℕ) → v ≤ greatest_usize → min greatest_usize (v - m) - 0 ≡ v - m
-rounds_spare v m a = omega arith
+wanted_taken from to old mins by most wanted b h m w =
+    let e = sum_below-same (amount from to greatest_usize) (spare old mins) (length old) (λ i _. h i) in omega arith

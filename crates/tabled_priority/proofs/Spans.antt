@@ -46,12 +46,9 @@ count_around o n f l h inside =
     let b = count_below o (suc l) n (omega arith) in
     omega arith
 
-one_open : (b : Bool) → b ≡ true → one_if b ≡ 1
-one_open b e = ap one_if e
-
 -- an open column, counted
 pub open-count : (from to : ℕ → ℕ) (level l : ℕ) → is_open from to level l ≡ true → open_count from to (suc l) level ≡ open_count from to l level + 1
-open-count from to level l e = let o = one_open (is_open from to level l) e in omega arith
+open-count from to level l e = let o : one_if (is_open from to level l) ≡ 1 = ap one_if e in omega arith
 
 pub span_right : (from to : ℕ → ℕ) (n level rest first : ℕ) → first < n → open_count from to first level + rest
     ≡ open_count from to n level → IsSpan from to n level rest first (n - 1)

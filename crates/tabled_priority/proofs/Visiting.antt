@@ -28,11 +28,6 @@ pub IsBounded-from : (old new : List ℕ) (before after visits : ℕ) → counte
     → after ≤ counted before visits → visits ≤ 8 * (length old + 1) * (length old + 1) → IsBounded old new before after
 IsBounded-from old new before after visits a b c = record { fewest = a; most = omega arith }
 
--- one pass, at most
-pub IsBounded-pass : (old new : List ℕ) (before after : ℕ) → counted before (changed old new) ≤ after
-    → after ≤ counted before (length old) → IsBounded old new before after
-IsBounded-pass old new before after a b = IsBounded-from old new before after (length old) a b (let s = square-le (length old) in omega arith)
-
 -- one column was found and changed
 pub IsBounded-one : (old : List ℕ) (i y before found after : ℕ) → counted before 0 ≤ found
     → found ≤ counted before (length old) → after ≡ counted found 1 → IsBounded old (set old i y) before after
@@ -43,7 +38,8 @@ IsBounded-one old i y before found after a b c =
 -- a whole pass
 pub IsBounded-whole : (old new : List ℕ) (before after n : ℕ) → length old ≤ n → after ≡ counted before n
     → n ≤ length old → IsBounded old new before after
-IsBounded-whole old new before after n a b c = IsBounded-pass old new before after (let z = changed-le old new in omega arith) (omega arith)
+IsBounded-whole old new before after n a b c = IsBounded-from old new before after n (let z = changed-le old new in omega arith)
+    (omega arith) (let s = square-le (length old) in omega arith)
 
 -- a whole pass, and passes for the levels or sizes that are tried, the span and the shares
 pub IsBounded-passes : (old new : List ℕ) (before first after : ℕ) → first ≡ counted before (length old) → first ≤ after

@@ -4,8 +4,8 @@ ghost use Rattle.std.specs.Prelude.{IfSome, List, MatchOption, None, Option, Som
 ghost use Rattle.std.specs.Prelude.{ℕ, ◌+◌, ◌<◌, ◌^◌, ◌≡◌, ◌≤◌};
 ghost use Rattle.tabled_priority.specs.Changes.{Grows, Shrinks};
 ghost use Rattle.tabled_priority.specs.Grown.{IsNoneSmaller, IsRoundGrown};
-ghost use Rattle.tabled_priority.specs.Laws.Grown.{IsRoundGrown-none, IsRoundGrown-nothing};
-ghost use Rattle.tabled_priority.specs.Laws.Grown.{IsRoundGrown-step};
+ghost use Rattle.tabled_priority.specs.Laws.Grown.{IsRoundGrown-step, IsRoundGrown-still};
+ghost use Rattle.tabled_priority.specs.Laws.Grown.{added-none, added-nothing};
 ghost use Rattle.tabled_priority.specs.Laws.Round.{IsRoundShrunk-done, IsRoundShrunk-none};
 ghost use Rattle.tabled_priority.specs.Laws.Round.{IsRoundShrunk-step};
 ghost use Rattle.tabled_priority.specs.Peak.{IsNext, NoneAbove};
@@ -221,11 +221,12 @@ impl Peaker for PriorityNone {
         IsRoundShrunk-step s.kept sizes mins i by new u.kept named.0
         (subst (λ k. IsRoundShrunk k (lowered sizes i) mins by new u.kept) named.1 rest) };
 
-    ghost grows_nothing = { λ s sizes. IsRoundGrown-nothing s.kept sizes };
+    ghost grows_nothing = { λ s sizes.
+        IsRoundGrown-still s.kept sizes 0 (added-nothing sizes) };
 
     ghost growing_ends = { λ s t sizes by named.
         subst (λ k. IsRoundGrown s.kept sizes by sizes k.kept) (sym named.1)
-        (IsRoundGrown-none s.kept sizes by named.0) };
+        (IsRoundGrown-still s.kept sizes by (added-none sizes by named.0)) };
 
     ghost growing_goes_on = { λ s t u sizes new by i above named rest.
         IsRoundGrown-step s.kept sizes i by new u.kept named.0

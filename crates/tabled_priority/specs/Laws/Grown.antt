@@ -192,12 +192,6 @@ IsRoundGrown-still kept xs by z = record {
   gains = λ i l some. absurd (omega arith);
 }
 
-pub IsRoundGrown-nothing : (kept : ℕ) (xs : List ℕ) → IsRoundGrown kept xs 0 xs kept
-IsRoundGrown-nothing kept xs = IsRoundGrown-still kept xs 0 (added-nothing xs)
-
-pub IsRoundGrown-none : (kept : ℕ) (xs : List ℕ) (by : ℕ) → ((i : ℕ) → at xs i ≤ 0) → IsRoundGrown kept xs by xs kept
-IsRoundGrown-none kept xs by h = IsRoundGrown-still kept xs by (added-none xs by h)
-
 -- the gains with one more added at i first
 gain_own : (n s i j r v w new : ℕ) → i < n → j < n → (j ≡ i → w ≡ v + 1) → (j ≢ i → w ≡ v) → (j ≢ i → is_met s i j ≡ true → v ≤ 0) → 0 < v
     → new ≡ w + (if is_met (place_after n i) i j then r + 1 else r) → new ≡ v + (if is_met s i j then r + 1 + 1 else r + 1)

@@ -1,6 +1,6 @@
-use Rattle.tabled_priority.proofs.Names.{CanChange, IsChanged, IsReached, IsScheduled, ap, arith, at, first_level, last_level, length}
-use Rattle.tabled_priority.proofs.Names.{place_after, share, subst, sym, ◌∙◌}
-use Rattle.tabled_priority.proofs.ByLevel.{IsPlanned, fits_by, scheduled_by, still_by}
+use Rattle.tabled_priority.proofs.Names.{CanChange, IsChanged, IsScheduled, ap, arith, at, first_level, last_level, length, place_after}
+use Rattle.tabled_priority.proofs.Names.{share, subst, sym, ◌∙◌}
+use Rattle.tabled_priority.proofs.ByLevel.{fits_by, planned, scheduled_by, still_by}
 use Rattle.tabled_priority.proofs.Visiting.{IsBounded-whole, IsBounded-passes}
 use Rattle.tabled_priority.proofs.change.change_columns.Goals as goal
 
@@ -23,58 +23,29 @@ change_to-requires-clause-fits c =
     let k = c.args.schedule in
     let old = c.args.values.now in
     let mins = c.args.mins.now in
-    let from = first_level k old mins in
-    let to = last_level k old mins in
-    let n = length old in
-    let level = c.reach-reached.result.level in
-    let rest = c.reach-reached.result.rest in
-    let first = c.find_span-span.result.first in
-    let last = c.find_span-span.result.last in
-    let w = c.amount_by-amount.ensures.amount in
-    let most = c.amount_by-amount.ensures.most in
-    let plan : IsPlanned k old mins c.args.by level rest first last = record {
-      sizes = record { values = c.amount_by-amount.ensures.values_fit; least = c.amount_by-amount.ensures.mins_fit };
-      room = c.requires;
-      some = omega arith;
-      most = omega arith;
-      below = c.reach-reached.ensures.below;
-      reached = subst (λ x. IsReached from to n x level rest) w c.reach-reached.ensures.reached;
-      span = c.find_span-span.ensures.span;
-      side = c.find_span-span.ensures.side;
-    } in
-    λ i inside. subst (λ l. CanChange k (at old i) (share from to l first last i)) (sym c.find_span-span.ensures.level)
-    (fits_by k old mins c.args.by level rest first last plan i inside)
+    let span = c.find_span-span in
+    let plan = planned k old mins c.args.by _ _ _ _ _ c.requires c.amount_by-amount.ensures.values_fit c.amount_by-amount.ensures.mins_fit
+    c.amount_by-amount.ensures.amount (omega arith) (omega arith) c.reach-reached.ensures.below c.reach-reached.ensures.reached
+    span.ensures.span span.ensures.side in
+    λ i inside. subst (λ l. CanChange k (at old i) (share (first_level k old mins) (last_level k old mins) l span.result.first span.result.last i))
+    (sym span.ensures.level) (fits_by k old mins c.args.by _ _ _ _ plan i inside)
 
 pub returns-clause-changed : goal.returns-clause-changed
 returns-clause-changed c =
     let k = c.args.schedule in
     let old = c.args.values.now in
     let mins = c.args.mins.now in
-    let from = first_level k old mins in
-    let to = last_level k old mins in
-    let n = length old in
-    let level = c.reach-reached.result.level in
-    let rest = c.reach-reached.result.rest in
-    let first = c.find_span-span.result.first in
-    let last = c.find_span-span.result.last in
-    let w = c.amount_by-amount.ensures.amount in
-    let most = c.amount_by-amount.ensures.most in
-    let plan : IsPlanned k old mins c.args.by level rest first last = record {
-      sizes = record { values = c.amount_by-amount.ensures.values_fit; least = c.amount_by-amount.ensures.mins_fit };
-      room = c.requires;
-      some = omega arith;
-      most = omega arith;
-      below = c.reach-reached.ensures.below;
-      reached = subst (λ x. IsReached from to n x level rest) w c.reach-reached.ensures.reached;
-      span = c.find_span-span.ensures.span;
-      side = c.find_span-span.ensures.side;
-    } in
+    let span = c.find_span-span in
+    let plan = planned k old mins c.args.by _ _ _ _ _ c.requires c.amount_by-amount.ensures.values_fit c.amount_by-amount.ensures.mins_fit
+    c.amount_by-amount.ensures.amount (omega arith) (omega arith) c.reach-reached.ensures.below c.reach-reached.ensures.reached
+    span.ensures.span span.ensures.side in
     let new = c.change_to.new.sizes in
     let len = c.change_to.ensures.same_length in
     subst (λ x. IsScheduled k old mins c.args.by new x)
-    (sym (c.place_after-kept.ensures ∙ ap (λ x. place_after x last) len))
-    (scheduled_by k old mins c.args.by level rest first last new plan len
-    (λ i inside. subst (λ l. IsChanged k (at old i) (share from to l first last i) (at new i)) c.find_span-span.ensures.level
+    (sym (c.place_after-kept.ensures ∙ ap (λ x. place_after x span.result.last) len))
+    (scheduled_by k old mins c.args.by _ _ _ span.result.last new plan len
+    (λ i inside. subst (λ l. IsChanged k (at old i)
+    (share (first_level k old mins) (last_level k old mins) l span.result.first span.result.last i) (at new i)) span.ensures.level
     (c.change_to.ensures.each i inside)))
 
 pub returns-clause-visits : goal.returns-clause-visits
