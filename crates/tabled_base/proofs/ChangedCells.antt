@@ -1,9 +1,10 @@
 -- One cell is changed.
-use Rattle.tabled_base.proofs.Names.{All, All-set, Global, IsRectangular, List, Vec, [], ap, columns, length, map, map-set, refl}
-use Rattle.tabled_base.proofs.Names.{slice_index_or, subst, suc, sym, texts_of, with_cell, zero, ℕ, ◌<◌, ◌∙◌, ◌∷◌, ◌≡◌}
+use Rattle.tabled_base.proofs.Names.{All, All-set, Global, IsRectangular, List, Vec, [], ap, columns, length, length-map, map, map-set}
+use Rattle.tabled_base.proofs.Names.{refl, row_texts, slice_index_or, subst, suc, sym, texts_of, with_cell, zero, ℕ, ◌<◌, ◌∙◌, ◌∷◌, ◌≡◌}
 use Rattle.std.proofs.Common.{slice_set, length-set}
 use Rattle.std.specs.Vec.{with_item}
-use Rattle.tabled_base.proofs.RowLemmas.{row_of}
+use Rattle.tabled_base.specs.Cells.{IsInside}
+use Rattle.tabled_base.proofs.RowLemmas.{row_inside, row_of}
 
 pub with_cell-columns : (cells : List (List (List ℕ))) (i j : ℕ) (text : List ℕ) → columns (with_cell cells i j text) ≡ columns cells
 with_cell-columns [] i j text = refl
@@ -27,3 +28,13 @@ texts_after f rows i j row x h e =
     map-set g rows i (with_item row j x)
     ∙ ap (slice_set (texts_of f rows) i)
     (map-set f row.items j x ∙ ap (λ l. slice_set l j (f x)) (ap g e ∙ sym (row_of f rows i row h)))
+
+-- the cells after one of them was set
+pub cells_after : (rows : List (Vec (List ℕ) Global)) (cells : List (List (List ℕ))) (i j : ℕ) (row : Vec (List ℕ) Global) (x : List ℕ)
+    → row_texts rows ≡ cells → IsRectangular (row_texts rows) → IsInside cells i j → row ≡ slice_index_or rows i row
+    → IsRectangular (row_texts (slice_set rows i (with_item row j x))) × (row_texts (slice_set rows i (with_item row j x)) ≡ with_cell cells i j x)
+cells_after rows cells i j row x e q h r =
+    let there = row_inside (λ t. t) rows cells i j e h in
+    let after = texts_after (λ t. t) rows i j row x there r in
+    let within : i < length (row_texts rows) = rw length-map there in
+    (subst IsRectangular (sym after) (with_cell-rectangular (row_texts rows) i j x within q), after ∙ ap (λ c. with_cell c i j x) e)

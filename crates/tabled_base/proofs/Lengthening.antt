@@ -15,10 +15,6 @@ lengthened-long n row h =
     let none : n - length row ≡ 0 = omega arith in
     ap (λ k. row ++ replicate k []) none ∙ append-nil row
 
--- columns that want as many cells
-pub lengthened-same : (row : List (List ℕ)) (m n : ℕ) → m - length row ≡ n - length row → lengthened m row ≡ lengthened n row
-lengthened-same row m n e = ap (λ k. row ++ replicate k []) e
-
 -- rows of one length are rectangular
 pub rectangular-from_length : (n : ℕ) (cells : List (List (List ℕ))) → All (λ row. length row ≡ n) cells → IsRectangular cells
 rectangular-from_length n [] h = All-nil (λ row. length row ≡ 0)

@@ -1,9 +1,10 @@
 -- Every entity that a selection picks lies inside the records.
-use Rattle.std.proofs.Common.{◌≡◌, ℕ, ◌+◌, ◌-◌, ◌<◌, ◌≤◌, ◌&&◌, nat_lt, List, [], ◌∷◌, map, min, zero, suc, Option, Some, None, sym, subst, arith, ⊎_elim}
+use Rattle.std.proofs.Common.{◌≡◌, ℕ, ◌+◌, ◌-◌, ◌<◌, ◌≤◌, ◌&&◌, nat_lt, Bool, true, false, List, [], ◌∷◌, map, min, zero, suc, refl}
+use Rattle.std.proofs.Common.{Option, Some, None, sym, subst, arith, ⊎_elim}
 use Rattle.std.specs.Prelude.{if◌then◌else◌}
 use Rattle.std.specs.List.{All, range_with_len}
 use Rattle.std.specs.Option.{unwrap_or}
-use Rattle.std.proofs.lemmas.Bool.{and_parts, cases_Bool, cases_lt, ltb-true}
+use Rattle.std.proofs.lemmas.Bool.{and_parts, cases_lt, ltb-true}
 use Rattle.std.proofs.lemmas.List.Elements.{All-append, All-cons, All-head, All-map, All-nil, All-tail, All-weaker}
 use Rattle.tabled_base.specs.Picks.{IsPart, block, picked, picked_cell, segment, stretch}
 use Rattle.tabled_base.specs.declared.objects.Place.{Place}
@@ -11,23 +12,15 @@ use Rattle.tabled_base.specs.declared.objects.Place.TheVariants.{At, Last}
 use Rattle.tabled_base.specs.declared.position.Entity.TheVariants.{Cell, Column, Global, Row}
 use Rattle.tabled_base.specs.declared.segment.Stretch.{Stretch}
 
-one_if_below : (index count : ℕ) → All (λ i. i < count) (if nat_lt index count then index ∷ [] else [])
-one_if_below index count =
-    let P : ℕ → Type 0 = λ i. i < count in
-    ⊎_elim
-    (λ yes. subst (λ b. All P (if b then index ∷ [] else [])) (sym yes) (All-cons P index [] (ltb-true index count yes) (All-nil P)))
-    (λ no. subst (λ b. All P (if b then index ∷ [] else [])) (sym no) (All-nil P))
-    (cases_Bool (nat_lt index count))
+-- the one item of a list that may be empty
+if_one : {A : Type 0} (P : A → Type 0) (there : Bool) (x : A) → (there ≡ true → P x) → All P (if there then x ∷ [] else [])
+if_one P true x h = All-cons P x [] (h refl) (All-nil P)
+if_one P false x h = All-nil P
 
 picked-below : (place : Place) (count : ℕ) → All (λ i. i < count) (picked place count)
-picked-below (At index) count = one_if_below index count
+picked-below (At index) count = if_one (λ i. i < count) (nat_lt index count) index (ltb-true index count)
 picked-below Last count =
-    let P : ℕ → Type 0 = λ i. i < count in
-    ⊎_elim
-    (λ yes. let some = ltb-true 0 count yes in subst
-    (λ b. All P (if b then (count - 1) ∷ [] else [])) (sym yes) (All-cons P (count - 1) [] (omega arith) (All-nil P)))
-    (λ no. subst (λ b. All P (if b then (count - 1) ∷ [] else [])) (sym no) (All-nil P))
-    (cases_Bool (nat_lt 0 count))
+    if_one (λ i. i < count) (nat_lt 0 count) (count - 1) (λ yes. let some = ltb-true 0 count yes in omega arith)
 
 pub picked_rows-inside : (place : Place) (rows columns : ℕ) → All (IsPart rows columns) (map Row (picked place rows))
 picked_rows-inside place rows columns = All-map (IsPart rows columns) Row (picked place rows) (picked-below place rows)
@@ -37,15 +30,8 @@ picked_columns-inside place rows columns = All-map (IsPart rows columns) Column 
 
 pub picked_cell-inside : (row column rows columns : ℕ) → All (IsPart rows columns) (picked_cell row column rows columns)
 picked_cell-inside row column rows columns =
-    let P = IsPart rows columns in
-    let there = nat_lt row rows && nat_lt column columns in
-    ⊎_elim
-    (λ yes.
-    let both = and_parts (nat_lt row rows) (nat_lt column columns) yes in
-    subst (λ b. All P (if b then Cell row column ∷ [] else [])) (sym yes)
-    (All-cons P (Cell row column) [] (ltb-true row rows both.0, ltb-true column columns both.1) (All-nil P)))
-    (λ no. subst (λ b. All P (if b then Cell row column ∷ [] else [])) (sym no) (All-nil P))
-    (cases_Bool there)
+    if_one (IsPart rows columns) (nat_lt row rows && nat_lt column columns) (Cell row column)
+    (λ yes. let both = and_parts (nat_lt row rows) (nat_lt column columns) yes in (ltb-true row rows both.0, ltb-true column columns both.1))
 
 -- n numbers from `from` on are below `count`, if they end there or before
 range-below : (from n count : ℕ) → from + n ≤ count → All (λ i. i < count) (range_with_len from n)

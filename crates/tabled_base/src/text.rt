@@ -20,21 +20,11 @@ use tabled_text::text_measures;
 
 /// A string with its width in columns and its number of lines, both measured once. `Text<String>`
 /// owns it, `Text<&str>` borrows it. `new` and `copied` store strings of at most 16 bytes inline.
-#[derive(Debug)]
+#[derive(Debug, Drop)]
 pub struct Text<S: AsStr> {
     text: ShortOr<S>,
     columns: usize,
     lines: usize,
-}
-
-impl<S: AsStr + Drop> Drop for Text<S> {
-    fn drop(self) {
-        let Text {
-            text: _,
-            columns: _,
-            lines: _,
-        } = self;
-    }
 }
 
 impl<S: AsStr> Model for Text<S> {
