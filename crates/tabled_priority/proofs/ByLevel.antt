@@ -82,11 +82,9 @@ pub fits_by : (k : Schedule) (old mins : List ℕ) (by level rest first last : �
 fits_by (Depths right) old mins by level rest first last p i inside = let v = p.sizes.values i in omega arith
 fits_by (Rounds kept) old mins by level rest first last p i inside = omega arith
 fits_by (Heights right) old mins by level rest first last p i inside =
-    share_fits (first_level (Heights right) old mins) (last_level (Heights right) old mins) old by
-    (amount_by (Heights right) old mins by) level rest first last p.room p.most p.reached p.span i inside
+    share_fits _ _ old by _ level rest first last p.room p.most p.reached p.span i inside
 fits_by (Gains kept) old mins by level rest first last p i inside =
-    share_fits (first_level (Gains kept) old mins) (last_level (Gains kept) old mins) old by
-    (amount_by (Gains kept) old mins by) level rest first last p.room p.most p.reached p.span i inside
+    share_fits _ _ old by _ level rest first last p.room p.most p.reached p.span i inside
 
 -- past the end sizes stay 0
 given_all : (k : Schedule) (old mins new : List ℕ) (level first last : ℕ) → length new ≡ length old
@@ -105,32 +103,24 @@ pub scheduled_by : (k : Schedule) (old mins : List ℕ) (by level rest first las
     (share (first_level k old mins) (last_level k old mins) level first last i) (at new i))
     → IsScheduled k old mins by new (place_after (length old) last)
 scheduled_by (Depths right) old mins by level rest first last new p len each =
-    let from = first_level (Depths right) old mins in
-    let to = last_level (Depths right) old mins in
     let all = given_all (Depths right) old mins new level first last len each (λ i _ e. omega arith) in
     max_shrunk right old mins by new level first last p.sizes.values p.sizes.least p.below
-    (taken_by_shares from to old mins by new level rest first last p.reached p.span
+    (taken_by_shares _ _ old mins by new level rest first last p.reached p.span
     (λ i. let v = p.sizes.values i in let l = p.sizes.least i in omega arith) len all)
     p.span.first_in p.side all
 scheduled_by (Rounds kept) old mins by level rest first last new p len each =
-    let from = first_level (Rounds kept) old mins in
-    let to = last_level (Rounds kept) old mins in
     let all = given_all (Rounds kept) old mins new level first last len each (λ i _ e. omega arith) in
     round_shrunk kept old mins by new level first last p.some
-    (taken_by_shares from to old mins by new level rest first last p.reached p.span
+    (taken_by_shares _ _ old mins by new level rest first last p.reached p.span
     (λ i. omega arith) len all)
     p.side.0 p.side.1 all
 scheduled_by (Heights right) old mins by level rest first last new p len each =
-    let from = first_level (Heights right) old mins in
-    let to = last_level (Heights right) old mins in
     min_grown right old mins by new level first last p.below
-    (grown_by_shares from to old by new level rest first last p.reached p.span
+    (grown_by_shares _ _ old by new level rest first last p.reached p.span
     (λ i z. zero_end (at old i) z) len each)
     p.span.first_in p.side each
 scheduled_by (Gains kept) old mins by level rest first last new p len each =
-    let from = first_level (Gains kept) old mins in
-    let to = last_level (Gains kept) old mins in
     round_grown kept old mins by new level first last p.below p.some
-    (grown_by_shares from to old by new level rest first last p.reached p.span
+    (grown_by_shares _ _ old by new level rest first last p.reached p.span
     (λ i z. zero_end (at old i) z) len each)
     p.side.0 p.side.1 each

@@ -29,8 +29,7 @@ IsRaised-raised xs i k h = record {
 }
 
 pub le-raised : (i : ℕ) (old new : List ℕ) → IsRaised i old new → (j : ℕ) → at old j ≤ at new j
-le-raised i old new l j = ⊎_elim
-    (λ e. let here : at new j ≡ at old j + 1 = subst (λ k. at new k ≡ at old k + 1) (sym e) l.here in omega arith)
+le-raised i old new l j = ⊎_elim (λ e. rw e (let here = l.here in omega arith))
     (λ ne. let e = l.there j ne in omega arith) (cases_eq j i)
 
 pub added-some : (xs : List ℕ) (by i : ℕ) → 0 < at xs i → added xs by ≡ by

@@ -34,14 +34,11 @@ spare_total-lowered xs mins i h =
 
 -- low limits stay if one is taken from a value above its minimum
 pub low-lowered : (old mins new : List ℕ) (i : ℕ) → at mins i < at old i → IsLowered i old new → (j : ℕ) → low new mins j ≡ low old mins j
-low-lowered old mins new i h l j = ⊎_elim
-    (λ e. let here : at new j + 1 ≡ at old j = subst (λ k. at new k + 1 ≡ at old k) (sym e) l.here in
-    let above : at mins j < at old j = subst (λ k. at mins k < at old k) (sym e) h in omega arith)
+low-lowered old mins new i h l j = ⊎_elim (λ e. rw e (let here = l.here in omega arith))
     (λ ne. ap (λ x. min x (at mins j)) (l.there j ne)) (cases_eq j i)
 
 pub le-lowered : (i : ℕ) (old new : List ℕ) → IsLowered i old new → (j : ℕ) → at new j ≤ at old j
-le-lowered i old new l j = ⊎_elim
-    (λ e. let here : at new j + 1 ≡ at old j = subst (λ k. at new k + 1 ≡ at old k) (sym e) l.here in omega arith)
+le-lowered i old new l j = ⊎_elim (λ e. rw e (let here = l.here in omega arith))
     (λ ne. let e = l.there j ne in omega arith) (cases_eq j i)
 
 -- ---- what is taken

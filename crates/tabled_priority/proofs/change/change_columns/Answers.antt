@@ -14,9 +14,7 @@ returns-then-amount-eq0-clause-changed c =
 
 pub returns-then-amount-eq0-clause-visits : goal.returns-then-amount-eq0-clause-visits
 returns-then-amount-eq0-clause-visits c =
-    let old = c.args.values.now in
-    IsBounded-whole old old c.args.steps.now.count c.amount_by-amount.new.steps.count
-    (length old) (omega arith) c.amount_by-amount.ensures.steps (omega arith)
+    IsBounded-whole _ _ _ _ (length c.args.values.now) (omega arith) c.amount_by-amount.ensures.steps (omega arith)
 
 pub change_to-requires-clause-fits : goal.change_to-requires-clause-fits
 change_to-requires-clause-fits c =
@@ -55,5 +53,4 @@ returns-clause-visits c =
     let d = c.find_span-span.ensures.fewest in
     let e = c.find_span-span.ensures.most in
     let f = c.change_to.ensures.steps in
-    IsBounded-passes c.args.values.now c.change_to.new.sizes c.args.steps.now.count c.amount_by-amount.new.steps.count
-    c.change_to.new.steps.count c.amount_by-amount.ensures.steps (omega arith) (omega arith)
+    IsBounded-passes _ _ _ _ _ c.amount_by-amount.ensures.steps (omega arith) (omega arith)

@@ -6,7 +6,7 @@ use Rattle.tabled_priority.proofs.in_order.Pass.take.Goals as goal
 
 pub loop-turn-init : goal.loop-turn-init
 loop-turn-init c = record {
-  midway = midway-start c.args.self.right c.args.self.sizes c.args.values.now c.args.mins.now c.args.by;
+  midway = midway-start _ _ _ _ _;
   steps = omega arith;
 }
 
@@ -37,5 +37,4 @@ loop-turn-preserved c =
     }
 
 pub returns-clause-taken : goal.returns-clause-taken
-returns-clause-taken c = midway-end c.args.self.right c.args.self.sizes c.args.values.now c.args.mins.now c.args.by
-    c.loop-turn.turn c.loop-turn.values c.loop-turn.left c.loop-turn.invariant.midway (omega arith)
+returns-clause-taken c = midway-end _ _ _ _ _ _ _ _ c.loop-turn.invariant.midway (omega arith)

@@ -4,10 +4,7 @@ use Rattle.tabled_priority.proofs.priority.PriorityNonePeaker.shrink.Goals as go
 
 pub returns-clause-shrinking : goal.returns-clause-shrinking
 returns-clause-shrinking c =
-    let s = c.change_columns-change.ensures.changed in
-    shrinking c.args.sizes.now c.args.mins.now c.args.by c.change_columns-change.new.values c.change_columns-change.result.amount
-    c.args.steps.now c.change_columns-change.new.steps s.takes c.change_columns-change.ensures.amount c.change_columns-change.ensures.visits
+    let change = c.change_columns-change.ensures in shrinking _ _ _ _ _ _ _ change.changed.takes change.amount change.visits
 
 pub returns-clause-even : goal.returns-clause-even
-returns-clause-even c = round_even c.args.self.now.kept c.args.sizes.now c.args.mins.now c.args.by
-    c.change_columns-change.new.values c.change_columns-change.result.kept c.change_columns-change.ensures.changed
+returns-clause-even c = round_even _ _ _ _ _ _ c.change_columns-change.ensures.changed
