@@ -22,7 +22,7 @@ use tabled_base::{Entity, RecordsMut, SHORT_TEXT, TableError, TableOption};
 use tabled_config::{ColoredConfig, SpannedConfig};
 use tabled_records::LentRows;
 use tabled_size::{CompleteDimension, Peaker, PriorityNone};
-use tabled_text::{copies, count_lines, cut_length, cut_str, line_width, lines};
+use tabled_text::{append_cut, copies, count_lines, cut_length, cut_str, line_width, lines};
 
 /// What happens to a suffix that is as wide as the content width, or wider.
 #[derive(Clone, Copy, Debug, PartialEq, Eq, PartialOrd, Ord)]
@@ -184,8 +184,7 @@ fn push_ended(
     ensures { OnOk result (AddsEnded used.now.left (cow_str_bytes used.now.text) text.now
         (string_bytes answer.old) (string_bytes answer.new)) }
 {
-    let front = cut_str(*answer.allocator(), text, used.left)?;
-    answer.push_str(&front)?;
+    append_cut(answer, text, used.left)?;
     answer.push_str(&used.text)?;
     Ok(())
 }

@@ -4,12 +4,11 @@ use Rattle.tabled_set.proofs.truncate.push_ended.Goals as goal
 
 pub returns : goal.returns
 returns c =
-    let old = string_bytes c.args.answer.now in
-    let front = cow_str_bytes c.in_ok-front.front in
+    let front = c.in_ok-append_cut.ensures in
     let used = cow_str_bytes c.args.used.now.text in
     record {
-      piece = front ++ used;
-      ended = record { front = front; cut = c.in_ok-front.ensures.cut; answered = refl };
-      added = c.in_ok-push_str-2.ensures.bytes ∙ ap (λ l. string_bytes c.push_str.new.self ++ l) c.deref-2.ensures.value
-          ∙ ap (λ l. l ++ used) (c.in_ok-push_str.ensures.bytes ∙ ap (λ l. old ++ l) c.deref.ensures.value) ∙ append_assoc old front used;
+      piece = front.piece ++ used;
+      ended = record { front = front.piece; cut = front.cut; answered = refl };
+      added = c.in_ok-push_str.ensures.bytes ∙ ap (λ l. string_bytes c.append_cut.new.out ++ l) c.deref.ensures.value
+          ∙ ap (λ l. l ++ used) front.added ∙ append_assoc (string_bytes c.args.answer.now) front.piece used;
     }
