@@ -18,6 +18,14 @@ use tabled_records::{CutLentRows, JoinedRecords, LentRows};
 use tabled_size::{CompleteDimension, Peaker};
 
 /// The rows of a narrowed table.
+///
+/// ```rust
+/// let rows = text_rows(alloc, "Grace Hopper\t1906\n")?;
+/// let narrowed = Truncate::new(20).narrowed(&rows, &config, &mut sizes)?;
+/// if let Some(NarrowedRows::Cut(cells)) = narrowed {
+///     print_standing(sink, &cells, &config, &sizes)?;
+/// }
+/// ```
 #[derive(Debug, Drop)]
 pub enum NarrowedRows<'r, 't> {
     /// Rows of which each cell is cut when it is read.
