@@ -61,7 +61,8 @@ lines_of-encoded [] = refl
 lines_of-encoded (c ∷ cs) =
     let rest = encode_utf8_all cs in
     cond-cases (λ ls. lines_of (encode_utf8 c ++ rest) ≡ map encode_utf8_all ls) (is_feed c) ([] ∷ lines_of cs) (onto_first c (lines_of cs))
-    (λ yes. ap (λ l. lines_of (l ++ rest)) (ap encode_utf8 (eqb-true c 10 yes) ∙ encode_ascii 10 (lit< tt)) ∙ ap (λ ls. [] ∷ ls) (lines_of-encoded cs))
+    (λ yes. ap (λ l. lines_of (l ++ rest)) (ap encode_utf8 (eqb-true c 10 yes) ∙ encode_ascii 10 (lit< tt))
+    ∙ ap (λ ls. [] ∷ ls) (lines_of-encoded cs))
     (λ no.
     let b = begins (lines_of cs) (some_line cs) in
     put_before (encode_utf8 c) rest (encode_utf8_all b.first) (map encode_utf8_all b.rest) (no_feed c no)
@@ -101,7 +102,8 @@ list_all-scalars [] = refl
 list_all-scalars (c ∷ cs) = ap (λ b. scalar c && b) (list_all-scalars cs)
 
 scalar_lines : (cs : List ℕ) → scalars cs ≡ true → All (λ l. list_all scalar l ≡ true) (lines_of cs)
-scalar_lines cs h = each_in_lines scalar cs (all-weaker scalar (λ c. is_feed c || scalar c) (λ c a. or_right (is_feed c) (scalar c) a) cs (list_all-scalars cs ∙ h))
+scalar_lines cs h = each_in_lines scalar cs
+    (all-weaker scalar (λ c. is_feed c || scalar c) (λ c a. or_right (is_feed c) (scalar c) a) cs (list_all-scalars cs ∙ h))
 
 chars-lines : (ls : List (List ℕ)) → All (λ l. list_all scalar l ≡ true) ls → map chars (map encode_utf8_all ls) ≡ ls
 chars-lines [] h = refl
@@ -131,7 +133,8 @@ lines_length [] = All-cons (λ l. length l ≤ 0) [] [] (omega arith) (All-nil (
 lines_length (c ∷ text) =
     let P : List ℕ → Type 0 = λ l. length l ≤ suc (length text) in
     let more : All P (lines_of text) = λ k d h. let own = lines_length text k d h in omega arith in
-    cond-cases (All P) (is_feed c) ([] ∷ lines_of text) (onto_first c (lines_of text)) (λ _. All-cons P [] (lines_of text) (omega arith) more)
+    cond-cases (All P) (is_feed c) ([] ∷ lines_of text) (onto_first c (lines_of text))
+    (λ _. All-cons P [] (lines_of text) (omega arith) more)
     (λ _.
     let b = begins (lines_of text) (some_line text) in
     let all = subst (All (λ l. length l ≤ length text)) b.parts (lines_length text) in

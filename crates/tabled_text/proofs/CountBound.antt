@@ -82,7 +82,8 @@ joins-covered states.Alef c =
     let same : (credit states.Nothing ≡ 0) × (slack_after states.Nothing ≤ slack_after states.Alef + 1) = (refl, omega arith) in
     let mark : (credit states.Alef ≡ 0) × (slack_after states.Alef ≤ slack_after states.Alef + 1) = (refl, omega arith) in
     cond-cases (IsCovered states.Alef) (is_lam c) _ _ (λ _. same)
-    (λ _. cond-cases (IsCovered states.Alef) (((alone false c).0 == 0) && joining_type_eq (joining_type c) Transparent) _ _ (λ _. mark) (λ _. tt))
+    (λ _. cond-cases (IsCovered states.Alef) (((alone false c).0 == 0) && joining_type_eq (joining_type c) Transparent) _ _ (λ _. mark)
+    (λ _. tt))
 joins-covered _ c = grind arith
 
 -- a character of one column at least
@@ -118,8 +119,9 @@ unfolding past_selectors
 Bounded-past_selectors m c total after h le k =
     let w = with_joiner-same after in
     let a = w.slack in let b = w.credit in
-    cond-cases (Bounded (m + char_count c)) (skips_marks after && (c == 0x200D)) _ _ (λ _. record { bound = omega arith; covers = omega arith })
-    (λ _. cond-cases (Bounded (m + char_count c)) (skips_marks after && is_ligature_transparent c) _ _ (λ _. record { bound = omega arith; covers = omega arith })
+    let P = Bounded (m + char_count c) in
+    cond-cases P (skips_marks after && (c == 0x200D)) _ _ (λ _. record { bound = omega arith; covers = omega arith })
+    (λ _. cond-cases P (skips_marks after && is_ligature_transparent c) _ _ (λ _. record { bound = omega arith; covers = omega arith })
     (λ _. Bounded-joined m (char_count c) total after (joins false after c) (alone false c) (count-some c) le k (joins-covered after c)
     (Bounded-alone m c total h (omega arith))))
 
@@ -166,7 +168,8 @@ Bounded-in_context m c total s high h =
     (cond-cases (λ u. IsLess u s) (is_joined_emoji s.after) s (if_kept s) (λ _. IsLess-self s) (λ _. IsLess-kept s)) h)
     (λ _. cond-cases (Bounded (m + n)) (c == 0xFE01) _ _ (λ _. Bounded-quote m n total s (if_kept s) some (IsLess-kept s) h)
     (λ _. cond-cases (Bounded (m + n)) (c == 0xFE0E) _ _ (λ _. Bounded-text m n total s (if_kept s) (IsLess-kept s) h)
-    (λ _. cond-cases (Bounded (m + n)) (s.text && is_text_presentation_base c) _ _ (λ _. record { bound = omega arith; covers = omega arith })
+    (λ _. cond-cases (Bounded (m + n)) (s.text && is_text_presentation_base c) _ _
+    (λ _. record { bound = omega arith; covers = omega arith })
     (λ _. cond-cases (Bounded (m + n)) (s.quote && is_quote c) _ _
     (λ y. let q = flag-true s.quote (and_parts s.quote (is_quote c) y).0 in record { bound = omega arith; covers = omega arith })
     (λ _. Bounded-past_selectors m c total s.after high (omega arith) f)))))
@@ -180,7 +183,8 @@ Bounded-past_emoji m c total s h =
     cond-cases (Bounded (m + n)) (c == 0x0A) _ _ (λ _. record { bound = omega arith; covers = omega arith })
     (λ _. cond-cases (Bounded (m + n)) ((c == 0x0D) && is_line_feed s.after) _ _ (λ _. record { bound = omega arith; covers = omega arith })
     (λ _. cond-cases (Bounded (m + n)) (nat_le c 0xA0) _ _ (λ _. record { bound = omega arith; covers = omega arith })
-    (λ high. cond-cases (Bounded (m + n)) (is_plain s) _ _ (λ _. Bounded-alone m c total high (omega arith)) (λ _. Bounded-in_context m c total s high h))))
+    (λ high. cond-cases (Bounded (m + n)) (is_plain s) _ _ (λ _. Bounded-alone m c total high (omega arith))
+    (λ _. Bounded-in_context m c total s high h))))
 
 joined_or_two : (b : Bool) → cond b 0 2 ≤ 2
 joined_or_two b = grind arith

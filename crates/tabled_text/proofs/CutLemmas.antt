@@ -4,14 +4,14 @@ use Rattle.tabled_text.proofs.Names.{IsLongestReached, IsParted, IsReached, IsSc
 use Rattle.tabled_text.proofs.Names.{List, [], and_from, and_parts, ap, append-nil, append_assoc, arith, cases_lt, char_count, chars}
 use Rattle.tabled_text.proofs.Names.{chars-append, chars-encodes, chars-nil, chars_past_char, cond, count_of, drop, drop_at, encode_utf8}
 use Rattle.tabled_text.proofs.Names.{encode_utf8_all, false, is_no_feed, last_line, last_of, length, length-append, length-take-le}
-use Rattle.tabled_text.proofs.Names.{lines_of, missing_columns, ne_eqb, not, refl, replicate, scalars-chars, subst, suc, sum_by_push, sym}
-use Rattle.tabled_text.proofs.Names.{take, take-append-le, take-take, take_at, true, zero, ℕ, ⊎_elim, ◌++◌, ◌+◌, ◌-◌, ◌<◌, ◌==◌, ◌∙◌, ◌∷◌}
-use Rattle.tabled_text.proofs.Names.{◌≡◌, ◌≤◌}
+use Rattle.tabled_text.proofs.Names.{lines_of, missing_columns, ne_eqb, not, refl, replicate, scalars-chars, subst, sum_by_push, sym, take}
+use Rattle.tabled_text.proofs.Names.{take-append-le, take-take, take_at, true, ℕ, ⊎_elim, ◌++◌, ◌+◌, ◌-◌, ◌<◌, ◌==◌, ◌∙◌, ◌∷◌, ◌≡◌, ◌≤◌}
 use Rattle.std.proofs.lemmas.List.Elements.{All-push}
 use Rattle.std.proofs.lemmas.List.{length_push}
 use Rattle.tabled_text.specs.Cut.{IsSplit, following}
 use lib.Utf8.{scalar, scalars}
-use Rattle.tabled_text.proofs.Bridge.{add_last, begins, lines_of-feed, lines_of-last, some_line}
+use Rattle.tabled_text.proofs.Basics.{list_all-copies}
+use Rattle.tabled_text.proofs.Bridge.{add_last, begins, lines_of-feed, lines_of-last, list_all-scalars, some_line}
 
 abbrev is_feed : ℕ → Bool
 is_feed c = c == 10
@@ -59,7 +59,9 @@ All-lines_push P cs y e h p =
     (subst (λ S. All P S → P (last_of S ++ y ∷ []) → All P (add_last S (y ∷ []))) (sym k.parts) (All-added P (y ∷ []) k.first k.rest) h p)
 
 pub All-last_line : (P : List ℕ → Type 0) (cs : List ℕ) → All P (lines_of cs) → P (last_line cs)
-All-last_line P cs h = let k = begins (lines_of cs) (some_line cs) in subst (λ S. All P S → P (last_of S)) (sym k.parts) (All-last_of P k.first k.rest) h
+All-last_line P cs h =
+    let k = begins (lines_of cs) (some_line cs) in
+    subst (λ S. All P S → P (last_of S)) (sym k.parts) (All-last_of P k.first k.rest) h
 
 pub count_of-push : (cs : List ℕ) (y : ℕ) → count_of (cs ++ y ∷ []) ≡ count_of cs + char_count y
 count_of-push cs y = sum_by_push char_count cs y
@@ -171,10 +173,6 @@ chars-push front y u s =
     ∙ ap (λ l. chars front ++ l) (chars_past_char (encode_utf8 y) [] y (IsUtf8-encode y s)
     (sym (append-nil (encode_utf8 y))) ∙ ap (λ l. y ∷ l) chars-nil)
 
-chars_after : (text front rest after : List ℕ) (y : ℕ) → text ≡ front ++ rest → IsUtf8 front → chars rest
-    ≡ y ∷ chars after → chars text ≡ chars front ++ y ∷ chars after
-chars_after text front rest after y e u f = ap chars e ∙ chars-append front rest u ∙ ap (λ l. chars front ++ l) f
-
 pub Walked-feed : {n columns : ℕ} {text rest : List ℕ} (after : List ℕ) (y : ℕ) → Walked n text rest columns
     → IsUtf8 rest → rest ≡ encode_utf8 y ++ after → chars rest ≡ y ∷ chars after → (columns ≡ n → ⊥) → y ≡ 10 → Walked n text after 0
 Walked-feed {n} {columns} {text} {rest} after y w v e f ne feed =
@@ -215,7 +213,8 @@ pub IsParted-wide : {n columns : ℕ} {text rest : List ℕ} (after : List ℕ) 
 IsParted-wide {n} {columns} {text} {rest} after y b f no_feed wide ne w same =
     let is = w.columns_are in
     let le = Walked-le w in
-    let e = chars_after text w.front rest after y w.parts w.utf8 f in
+    let e : chars text ≡ chars w.front ++ y ∷ chars after =
+    ap chars w.parts ∙ chars-append w.front rest w.utf8 ∙ ap (λ l. chars w.front ++ l) f in
     let k : n - columns ≡ n - count_of (last_line (chars w.front)) = omega arith in
     let nonzero : ((n - columns) == 0) ≡ false = ne_eqb (n - columns) 0 (λ z. omega arith) in
     subst (λ l. IsParted n (chars text) (chars l) (n - columns) (chars after)) (sym same) record {
@@ -268,28 +267,20 @@ pub front_boundary : {text : List ℕ} (front rest : List ℕ) → text ≡ fron
 front_boundary {text} front rest e u =
     subst (IsCharBoundary text) (sym (front_length front rest e)) (IsCharBoundary-at_seam text front rest e u)
 
-scalars-replicate : (n : ℕ) → scalars (replicate n 0xFFFD) ≡ true
-scalars-replicate zero = refl
-scalars-replicate (suc n) = scalars-replicate n
-
-pub chars-filled : (front : List ℕ) (n : ℕ) → IsUtf8 front
-    → chars (front ++ encode_utf8_all (replicate n 0xFFFD)) ≡ chars front ++ replicate n 0xFFFD
-chars-filled front n u = chars-append front (encode_utf8_all (replicate n 0xFFFD)) u ∙ ap
-    (λ l. chars front ++ l) (chars-encodes (replicate n 0xFFFD) (scalars-replicate n))
-
-replacements_utf8 : (n : ℕ) → IsUtf8 (encode_utf8_all (replicate n 0xFFFD))
-replacements_utf8 n = (replicate n 0xFFFD, (scalars-replicate n, refl))
-
 -- the beginning, filled up, is the cut text
 pub IsCut-filled : {n missing : ℕ} {text front answer after : List ℕ} → IsUtf8 front → IsParted n (chars text) (chars front) missing after
     → answer ≡ front ++ encode_utf8_all (replicate missing 0xFFFD) → IsCut n text answer
-IsCut-filled {n} {missing} {front = front} u p e = record {
-  front = chars front;
-  rest = p.rest;
-  longest = p.longest;
-  utf8 = subst IsUtf8 (sym e) (IsUtf8-append front (encode_utf8_all (replicate missing 0xFFFD)) u (replacements_utf8 missing));
-  characters = ap chars e ∙ chars-filled front missing u ∙ ap (λ k. chars front ++ replicate k 0xFFFD) p.columns;
-}
+IsCut-filled {n} {missing} {front = front} u p e =
+    let fill : List ℕ = replicate missing 0xFFFD in
+    let own : scalars fill ≡ true = sym (list_all-scalars fill) ∙ list_all-copies scalar 0xFFFD missing refl in
+    record {
+      front = chars front;
+      rest = p.rest;
+      longest = p.longest;
+      utf8 = subst IsUtf8 (sym e) (IsUtf8-append front (encode_utf8_all fill) u (fill, (own, refl)));
+      characters = ap chars e ∙ chars-append front (encode_utf8_all fill) u ∙ ap (λ l. chars front ++ l) (chars-encodes fill own)
+          ∙ ap (λ k. chars front ++ replicate k 0xFFFD) p.columns;
+    }
 
 -- with what follows
 pub IsSplit-filled : {n missing : ℕ} {text front answer after : List ℕ} → IsUtf8 front → IsUtf8 after

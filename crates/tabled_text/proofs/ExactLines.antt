@@ -104,7 +104,8 @@ pub longest_counted : (n : ℕ) (line front rest : List ℕ) → ((k : ℕ) → 
     → ((k : ℕ) → columns_of (take k line) ≡ count_of (take k line)) → IsLongestReached n line front rest → IsLongestFitting n line front
 longest_counted n line front rest one counted s =
     let begins : front ≡ take (length front) line = sym
-    (ap (take (length front)) s.parts ∙ take-append-le (length front) front rest (omega arith) ∙ take_all (length front) front (omega arith)) in
+    (ap (take (length front)) s.parts ∙ take-append-le (length front) front rest (omega arith)
+    ∙ take_all (length front) front (omega arith)) in
     let own : lines_of front ≡ front ∷ [] = subst (λ f. lines_of f ≡ f ∷ []) (sym begins) (one (length front)) in
     let same : columns_of front ≡ count_of front = subst (λ f. columns_of f ≡ count_of f) (sym begins) (counted (length front)) in
     let fits : count_of front ≤ n = All-head (λ l. count_of l ≤ n) front []
@@ -136,7 +137,8 @@ cut_longest n line answer plain cut =
       front = cut.front;
       rest = cut.rest;
       parts = cut.longest.parts;
-      longest = longest_counted n cs cut.front cut.rest (λ k. one_line (take k cs) (each k)) (λ k. width-count (take k cs) (each k)) cut.longest;
+      longest = longest_counted n cs cut.front cut.rest (λ k. one_line (take k cs) (each k))
+          (λ k. width-count (take k cs) (each k)) cut.longest;
       answered = cut.characters;
     }
 

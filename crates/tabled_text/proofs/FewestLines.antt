@@ -112,7 +112,8 @@ rows-append (c ∷ xs) ys = by_test (c == 10) (rows-append xs ys)
         → length (cond b ([] ∷ lines_of (xs ++ ys)) (onto_first c (lines_of (xs ++ ys)))) + 1
         ≡ length (cond b ([] ∷ lines_of xs) (onto_first c (lines_of xs))) + rows ys
     by_test true h = omega arith
-    by_test false h = omega (arith, h, length-onto c (lines_of (xs ++ ys)) (some_line (xs ++ ys)), length-onto c (lines_of xs) (some_line xs))
+    by_test false h =
+        omega (arith, h, length-onto c (lines_of (xs ++ ys)) (some_line (xs ++ ys)), length-onto c (lines_of xs) (some_line xs))
 
 rows-line : (xs rest : List ℕ) → list_all is_no_feed xs ≡ true → rows (xs ++ rest) ≡ rows rest
 rows-line xs rest h = omega (arith, rows-append xs rest, ap length (lines_of-feedless xs h))
@@ -129,7 +130,8 @@ rows-group : (n used : ℕ) (g : List TextUnit) (rest : List ℕ) → EachUnit F
 rows-group n used [] rest h = refl
 rows-group n used (u ∷ g) rest h =
     ap rows (append_assoc (shown n used u) (text_from n (used + u.width) g) rest)
-    ∙ rows-line (shown n used u) (text_from n (used + u.width) g ++ rest) (shown-feedless n used u h.0) ∙ rows-group n (used + u.width) g rest h.1
+    ∙ rows-line (shown n used u) (text_from n (used + u.width) g ++ rest) (shown-feedless n used u h.0)
+    ∙ rows-group n (used + u.width) g rest h.1
 
 -- as many breaks as groups, but for the first
 rows-groups : (n : ℕ) (g : List TextUnit) (gs : List (List TextUnit)) (rest : List ℕ)
@@ -174,7 +176,8 @@ rows-lines n words _ _ some p f = absurd f.1
 -- the lines of a wrapped text are the groups of the fullest breaking
 pub rows-wrapped : (n : ℕ) (words : Bool) (text answer : List ℕ) → (f : IsFullestText n words text answer)
     → length (lines_of answer) ≡ sum_by length f.broken
-rows-wrapped n words text answer f = ap rows f.answered ∙ rows-lines n words (lines_of text) f.broken (some_line text) (feedless-lines text) f.fullest
+rows-wrapped n words text answer f =
+    ap rows f.answered ∙ rows-lines n words (lines_of text) f.broken (some_line text) (feedless-lines text) f.fullest
 
 -- a text has as many lines as its characters do
 pub count-chars : (text : List ℕ) → IsUtf8 text → length (lines_of text) ≡ length (lines_of (chars text))

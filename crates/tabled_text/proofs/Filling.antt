@@ -231,9 +231,6 @@ put_word_bytes n used width b₀ b₁ b₂ word le u e f =
     (λ l. l ++ encode_utf8_all (chars word)) (sym (encodes-begin_text (nat_le (used + width) n)))
     ∙ sym (encodes-append (begin_text n used width) (chars word)) ∙ ap encode_utf8_all (sym whole))
 
-pub append_all-one : (n used : ℕ) (p : TextUnit) → append_text n used p ≡ append_all n used (p ∷ [])
-append_all-one n used p = sym (append-nil (append_text n used p))
-
 -- a word without a byte
 pub units_of_word-empty : (n : ℕ) (word : List ℕ) (b : Bool) → b ≡ (length word == 0) → b ≡ true → units_of_word n (chars word) ≡ []
 units_of_word-empty n word b e h =
@@ -257,7 +254,8 @@ units_of_word-short n word width b u e h w le =
 pub units_of_words-more : (n : ℕ) (word cs : List ℕ) → units_of_words n (word ∷ words_of cs)
     ≡ units_of_word n word ++ space ∷ units_of_words n (words_of cs)
 units_of_words-more n word cs =
-    subst (λ ws. units_of_words n (word ∷ ws) ≡ units_of_word n word ++ space ∷ units_of_words n ws) (sym (begins-split (λ c. c == 32) cs).parts) refl
+    subst (λ ws. units_of_words n (word ∷ ws) ≡ units_of_word n word ++ space ∷ units_of_words n ws)
+    (sym (begins-split (λ c. c == 32) cs).parts) refl
 
 pub space-is : unit_of (chars (32 ∷ [])) 1 ≡ space
 unfolding chars

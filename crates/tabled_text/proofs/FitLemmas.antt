@@ -57,7 +57,8 @@ module _ (q : ℕ → Bool) (P : TextUnit → Type 0) (made : IsMade q P) where
   EachUnit-words n [] h = tt
   EachUnit-words n (w ∷ []) h = EachUnit-word n w h.0
   EachUnit-words n (w ∷ x ∷ ws) h =
-      EachUnit-append P (units_of_word n w) (space ∷ units_of_words n (x ∷ ws)) (EachUnit-word n w h.0) (made.space, EachUnit-words n (x ∷ ws) h.1)
+      EachUnit-append P (units_of_word n w) (space ∷ units_of_words n (x ∷ ws)) (EachUnit-word n w h.0)
+      (made.space, EachUnit-words n (x ∷ ws) h.1)
 
   pub EachUnit-units : (n : ℕ) (words : Bool) (line : List ℕ) → list_all q line ≡ true → EachUnit P (units n words line)
   EachUnit-units n false line h = EachUnit-chars line h

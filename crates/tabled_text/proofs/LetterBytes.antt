@@ -5,12 +5,11 @@ use Rattle.tabled_text.proofs.Names.{drop-drop, encode_utf8_all, encodes-chars, 
 use Rattle.tabled_text.proofs.Names.{is_narrow_lead, is_no_feed, is_simple, is_wide_lead, lead_byte, length, length-drop, length-map}
 use Rattle.tabled_text.proofs.Names.{lines_of, list_all, list_all-append, map, nat_lt, nat_tests, or_cases, or_right, refl, replicate}
 use Rattle.tabled_text.proofs.Names.{str_width-simple, subst, suc, sum_by, sum_by-append, sum_by-cons, sym, take, take-add}
-use Rattle.tabled_text.proofs.Names.{take-append-drop, take_all, true, zero, ℕ, ⊎_elim, ◌%◌, ◌*◌, ◌++◌, ◌+◌, ◌-◌, ◌/◌, ◌||◌, ◌∙◌, ◌∷◌, ◌≡◌}
-use Rattle.tabled_text.proofs.Names.{◌≤◌}
+use Rattle.tabled_text.proofs.Names.{take-append-drop, take_all, text_columns, true, zero, ℕ, ⊎_elim, ◌%◌, ◌*◌, ◌++◌, ◌+◌, ◌-◌, ◌/◌, ◌||◌}
+use Rattle.tabled_text.proofs.Names.{◌∙◌, ◌∷◌, ◌≡◌, ◌≤◌}
 use Rattle.std.specs.Char.{encode_utf8}
 use Rattle.std.proofs.lemmas.List.{drop-append-le}
 use Rattle.std.proofs.lemmas.List.Sums.{sum_by-take-drop}
-use Rattle.std.proofs.lemmas.Simd.{chunk-drop}
 use Rattle.std.proofs.lemmas.Bool.{cond-false, cond-true}
 use Rattle.tabled_text.proofs.Basics.{all-halves, all-weaker}
 use Rattle.tabled_text.proofs.Bridge.{lines_of-chars, lines_of-feedless, text_columns-one}
@@ -18,9 +17,6 @@ use Rattle.tabled_text.proofs.LetterLemmas.{lead-outer, narrow-letter, wide-lett
 use Rattle.tabled_text.proofs.RunLemmas.{run-front}
 
 -- ---- lists of bytes
-
-pub letters-nil : AreLetters [] 0
-letters-nil = record { all = refl; columns = refl }
 
 pub letters-append : {front back : List ℕ} {m n : ℕ} → AreLetters front m → AreLetters back n → AreLetters (front ++ back) (m + n)
 letters-append {front} {back} {m} {n} p q = record {
@@ -37,11 +33,6 @@ letters-behind (suc k) n bytes h =
       all = (and_parts (is_letter_byte 0x80) (list_all is_letter_byte rest) h.all).1;
       columns = omega (arith, h.columns, sum_by-cons byte_columns 0x80 rest);
     }
-
--- a block, and what follows it
-pub letters-block : (bytes : List ℕ) (at m n : ℕ) → AreLetters (chunk at 16 bytes) m → AreLetters (drop (at + 16) bytes) n
-    → AreLetters (drop at bytes) (m + n)
-letters-block bytes at m n p q = subst (λ l. AreLetters l (m + n)) (sym (chunk-drop at 16 bytes)) (letters-append p q)
 
 -- the last block, filled up to a place
 pub letters-last : (bytes : List ℕ) (at start n : ℕ) → at + 16 ≡ length bytes → at ≤ start
@@ -132,9 +123,6 @@ inner-letters : (bytes : List ℕ) → list_all is_inner_byte bytes ≡ true →
 inner-letters = all-weaker is_inner_byte is_letter_byte
     (λ b h. or_right (is_narrow_lead b) (is_wide_lead b || is_inner_byte b) (or_right (is_wide_lead b) (is_inner_byte b) h))
 
-narrow-not-wide : (lead : ℕ) → is_narrow_lead lead ≡ true → is_wide_lead lead ≡ false
-narrow-not-wide lead h = grind (arith, nat_tests)
-
 -- a character whose bytes are those of letters is a letter of as many columns
 pub letter-encoded : (c : ℕ) → list_all is_letter_byte (encode_utf8 c) ≡ true → IsLetter c (sum_by byte_columns (encode_utf8 c))
 letter-encoded c h =
@@ -146,7 +134,9 @@ letter-encoded c h =
     omega (arith, ap (sum_by byte_columns) e.is, sum_by-cons byte_columns lead e.inner, inner-none e.inner e.within) in
     let kind : byte_columns lead ≡ cond (is_wide_lead lead) 2 1 = cond-false (is_inner_byte lead) 0 _ outer in
     ⊎_elim
-    (λ narrow. subst (IsLetter c) (sym (sum ∙ kind ∙ cond-false (is_wide_lead lead) 2 1 (narrow-not-wide lead narrow))) (narrow-letter c narrow))
+    (λ narrow.
+    let thin : is_wide_lead lead ≡ false = grind (arith, nat_tests) in
+    subst (IsLetter c) (sym (sum ∙ kind ∙ cond-false (is_wide_lead lead) 2 1 thin)) (narrow-letter c narrow))
     (λ other. ⊎_elim
     (λ wide. subst (IsLetter c) (sym (sum ∙ kind ∙ cond-true (is_wide_lead lead) 2 1 wide)) (wide-letter c wide))
     (λ inner. let clash : true ≡ false = sym inner ∙ outer in cc)
@@ -220,6 +210,9 @@ pub line-alone : (line : List ℕ) (n : ℕ) → IsLine line n → length (lines
 line-alone line n h =
     let e : length (map chars (lines_of line)) ≡ 1 = ap length (sym (lines_of-chars line h.utf8) ∙ lines_of-feedless (chars line) h.feedless) in
     sym (length-map (lines_of line) chars) ∙ e
+
+pub line-columns : {text : List ℕ} {n : ℕ} → IsLine text n → n ≡ text_columns text
+line-columns {text} {n} line = sym (text_columns-one text (line-alone text n line) ∙ line.columns)
 
 -- and an exact one
 pub letters-exact : (text : List ℕ) → IsUtf8 text → list_all is_letter_byte text ≡ true → IsExactLine text

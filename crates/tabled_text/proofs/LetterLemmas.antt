@@ -36,13 +36,15 @@ are-narrow : (c : ℕ) → c ≤ 0x10_FFFF → (not (in_ranges narrow_ranges c) 
 unfolding tables kind_stepped is_letter_kind
 are-narrow c within =
     Stepped-always (λ c. not (in_ranges narrow_ranges c) || is_letter_kind 1 (kind c))
-    (zip_stepped (λ inside k. not inside || is_letter_kind 1 k) (in_ranges narrow_ranges) kind (of_ranges narrow_ranges refl) kind_stepped) refl c within
+    (zip_stepped (λ inside k. not inside || is_letter_kind 1 k) (in_ranges narrow_ranges) kind (of_ranges narrow_ranges refl) kind_stepped)
+    refl c within
 
 are-wide : (c : ℕ) → c ≤ 0x10_FFFF → (not (in_ranges wide_ranges c) || is_letter_kind 2 (kind c)) ≡ true
 unfolding tables kind_stepped is_letter_kind
 are-wide c within =
     Stepped-always (λ c. not (in_ranges wide_ranges c) || is_letter_kind 2 (kind c))
-    (zip_stepped (λ inside k. not inside || is_letter_kind 2 k) (in_ranges wide_ranges) kind (of_ranges wide_ranges refl) kind_stepped) refl c within
+    (zip_stepped (λ inside k. not inside || is_letter_kind 2 k) (in_ranges wide_ranges) kind (of_ranges wide_ranges refl) kind_stepped)
+    refl c within
 
 -- what a test of ranges lets through
 passed : (inside ok : Bool) → (not inside || ok) ≡ true → inside ≡ true → ok ≡ true

@@ -88,7 +88,8 @@ module _ (n columns : ℕ) (text piece rest : List ℕ) (h : list_all is_letter_
       let fits = p.fits in
       let wide = most c cs e in
       let bytes : rest ≡ encode_utf8 c ++ encode_utf8_all cs = sym (encodes-chars rest p.rest_utf8) ∙ ap encode_utf8_all e in
-      let own = letter-encoded c (all-halves is_letter_byte (encode_utf8 c) (encode_utf8_all cs) (ap (list_all is_letter_byte) (sym bytes) ∙ both.1)).0 in
+      let own = letter-encoded c
+      (all-halves is_letter_byte (encode_utf8 c) (encode_utf8_all cs) (ap (list_all is_letter_byte) (sym bytes) ∙ both.1)).0 in
       let few : char_count c ≤ 2 = let columns_are = own.columns in let narrow = own.few in omega arith in
       let need = needed-narrow n (unit_of_char c) (omega arith) in
       let whole : append_all n 0 (map unit_of_char (chars text)) ≡ chars piece ++ 10 ∷ append_all n 0 (map unit_of_char (chars rest)) =
@@ -99,7 +100,8 @@ module _ (n columns : ℕ) (text piece rest : List ℕ) (h : list_all is_letter_
         some = elim (cases_lt 0 (length piece)) [
           | inl some ↦ some
           | inr none ↦
-              let nothing : count_of (chars piece) ≡ 0 = ap (λ l. count_of (chars l)) (nil_from_length piece (omega arith)) ∙ ap count_of chars-nil in
+              let nothing : count_of (chars piece) ≡ 0 = ap (λ l. count_of (chars l)) (nil_from_length piece (omega arith))
+              ∙ ap count_of chars-nil in
               absurd (omega arith)
         ];
         written = line-more n text piece rest (chars piece) whole (encodes-chars piece p.utf8);

@@ -226,7 +226,9 @@ module _ (c t own m k : ℕ) (whole : t ≡ m) (beginning : own ≡ k) where
 
   pub vowels-pick : (a b d e : Bool) → (d ≡ true → added own (alone false c) ≡ (own + 1, before KiratAi))
       → Steps c m k (added t (alone false c)) (added own (alone false c))
-      → Steps c m k (joined_or t (first_of (cond a (Some (Same, Nothing)) (cond b (Some (Same, KiratAi)) (cond d (Some (One, KiratE)) (cond e (Some (Same, Nothing)) None)))) (first_of None None)) (alone false c)) (joined_or own (first_of (cond a (Some (Same, Nothing)) None) (first_of None None)) (alone false c))
+      → Steps c m k (joined_or t (first_of (cond a (Some (Same, Nothing)) (cond b (Some (Same, KiratAi)) (cond d (Some (One, KiratE))
+      (cond e (Some (Same, Nothing)) None)))) (first_of None None)) (alone false c))
+      (joined_or own (first_of (cond a (Some (Same, Nothing)) None) (first_of None None)) (alone false c))
   vowels-pick true b d e vowel rest = let some = count-some c in lost (omega arith)
   vowels-pick false true d e vowel rest = let some = count-some c in lost (omega arith)
   vowels-pick false false true e vowel rest =

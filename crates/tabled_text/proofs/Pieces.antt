@@ -169,7 +169,8 @@ reached-printable : (n : ℕ) (cs : List ℕ) → is_printable cs ≡ true → l
 reached-printable n cs h le = record {
   fits = subst (All (λ line. count_of line ≤ n)) (sym (printable-line cs h))
       (All-cons (λ line. count_of line ≤ n) cs [] (omega (arith, count_of-printable cs h)) (All-nil (λ line. count_of line ≤ n)));
-  shorter = λ k l. omega (arith, last-printable (take k cs) (all-parts (is_in_range 0x20 0x7E) k cs h).0, length-take-le k cs (omega arith));
+  shorter = λ k l. omega
+      (arith, last-printable (take k cs) (all-parts (is_in_range 0x20 0x7E) k cs h).0, length-take-le k cs (omega arith));
 }
 
 walked-printable : (n : ℕ) (text : List ℕ) → is_printable (take n text) ≡ true → n ≤ length text → Walked n text (drop n text) n

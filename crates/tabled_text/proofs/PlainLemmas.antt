@@ -111,9 +111,9 @@ record IsMissed (low high : ℕ) : Type 0 where
   emoji : misses low high emoji_presentation_ranges ≡ true
   groups : misses_rows low high joining_group_rows ≡ true
   names : misses_rows low high named_rows ≡ true
-  varied : misses low high emoji_variation_base_ranges ≡ true
+  forms : misses low high emoji_variation_base_ranges ≡ true
   bases : misses low high emoji_modifier_base_ranges ≡ true
-  ignored : misses low high default_ignorable_code_point_ranges ≡ true
+  hidden : misses low high default_ignorable_code_point_ranges ≡ true
 
 is_simple_kind-missed : (low high : ℕ) → IsMissed low high → (c : ℕ) → low ≤ c → c ≤ high → is_simple_kind (kind c) ≡ true
 unfolding kind named_kind unnamed_kind letter_kind width_kind is_regional_indicator is_emoji_modifier is_emoji_presentation joining_group
@@ -132,20 +132,20 @@ sequence_tables = tt
 missed : EachRange IsMissed
 unfolding sequence_tables emoji_variation_base_ranges emoji_modifier_base_ranges default_ignorable_code_point_ranges
 missed = record {
-  signs = record { flags = refl; tones = refl; emoji = refl; groups = refl; names = refl; varied = refl; bases = refl; ignored = refl };
-  dollar = record { flags = refl; tones = refl; emoji = refl; groups = refl; names = refl; varied = refl; bases = refl; ignored = refl };
-  plus = record { flags = refl; tones = refl; emoji = refl; groups = refl; names = refl; varied = refl; bases = refl; ignored = refl };
-  letters = record { flags = refl; tones = refl; emoji = refl; groups = refl; names = refl; varied = refl; bases = refl; ignored = refl };
-  latin = record { flags = refl; tones = refl; emoji = refl; groups = refl; names = refl; varied = refl; bases = refl; ignored = refl };
-  cyrillic = record { flags = refl; tones = refl; emoji = refl; groups = refl; names = refl; varied = refl; bases = refl; ignored = refl };
-  dashes = record { flags = refl; tones = refl; emoji = refl; groups = refl; names = refl; varied = refl; bases = refl; ignored = refl };
-  low_quotes = record { flags = refl; tones = refl; emoji = refl; groups = refl; names = refl; varied = refl; bases = refl; ignored = refl };
-  dots = record { flags = refl; tones = refl; emoji = refl; groups = refl; names = refl; varied = refl; bases = refl; ignored = refl };
-  boxes = record { flags = refl; tones = refl; emoji = refl; groups = refl; names = refl; varied = refl; bases = refl; ignored = refl };
-  blocks = record { flags = refl; tones = refl; emoji = refl; groups = refl; names = refl; varied = refl; bases = refl; ignored = refl };
-  braille = record { flags = refl; tones = refl; emoji = refl; groups = refl; names = refl; varied = refl; bases = refl; ignored = refl };
-  ideographs = record { flags = refl; tones = refl; emoji = refl; groups = refl; names = refl; varied = refl; bases = refl; ignored = refl };
-  replacement = record { flags = refl; tones = refl; emoji = refl; groups = refl; names = refl; varied = refl; bases = refl; ignored = refl };
+  signs = record { flags = refl; tones = refl; emoji = refl; groups = refl; names = refl; forms = refl; bases = refl; hidden = refl };
+  dollar = record { flags = refl; tones = refl; emoji = refl; groups = refl; names = refl; forms = refl; bases = refl; hidden = refl };
+  plus = record { flags = refl; tones = refl; emoji = refl; groups = refl; names = refl; forms = refl; bases = refl; hidden = refl };
+  letters = record { flags = refl; tones = refl; emoji = refl; groups = refl; names = refl; forms = refl; bases = refl; hidden = refl };
+  latin = record { flags = refl; tones = refl; emoji = refl; groups = refl; names = refl; forms = refl; bases = refl; hidden = refl };
+  cyrillic = record { flags = refl; tones = refl; emoji = refl; groups = refl; names = refl; forms = refl; bases = refl; hidden = refl };
+  dashes = record { flags = refl; tones = refl; emoji = refl; groups = refl; names = refl; forms = refl; bases = refl; hidden = refl };
+  low_quotes = record { flags = refl; tones = refl; emoji = refl; groups = refl; names = refl; forms = refl; bases = refl; hidden = refl };
+  dots = record { flags = refl; tones = refl; emoji = refl; groups = refl; names = refl; forms = refl; bases = refl; hidden = refl };
+  boxes = record { flags = refl; tones = refl; emoji = refl; groups = refl; names = refl; forms = refl; bases = refl; hidden = refl };
+  blocks = record { flags = refl; tones = refl; emoji = refl; groups = refl; names = refl; forms = refl; bases = refl; hidden = refl };
+  braille = record { flags = refl; tones = refl; emoji = refl; groups = refl; names = refl; forms = refl; bases = refl; hidden = refl };
+  ideographs = record { flags = refl; tones = refl; emoji = refl; groups = refl; names = refl; forms = refl; bases = refl; hidden = refl };
+  replacement = record { flags = refl; tones = refl; emoji = refl; groups = refl; names = refl; forms = refl; bases = refl; hidden = refl };
 }
 
 is_simple-high : (low high : ℕ) → IsMissed low high → 0xA0 < low → (c : ℕ) → is_in_range low high c ≡ true → is_simple c ≡ true
@@ -216,9 +216,9 @@ unmarked-missed low high m c h =
     let u = leb-true c high parts.1 in
     let group = value_in-missed NoJoiningGroup low high joining_group_rows m.groups c l u in
     record {
-      variation = in_ranges-missed low high emoji_variation_base_ranges m.varied c l u;
+      variation = in_ranges-missed low high emoji_variation_base_ranges m.forms c l u;
       base = in_ranges-missed low high emoji_modifier_base_ranges m.bases c l u;
-      ignorable = in_ranges-missed low high default_ignorable_code_point_ranges m.ignored c l u;
+      ignorable = in_ranges-missed low high default_ignorable_code_point_ranges m.hidden c l u;
       lam = ap (λ g. joining_group_eq g Lam) group;
     }
 

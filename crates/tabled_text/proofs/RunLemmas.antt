@@ -41,7 +41,8 @@ pub all-later : (test : ℕ → Bool) (xs : List ℕ) (earlier start : ℕ) → 
     → list_all test (drop start xs) ≡ true
 all-later test xs earlier start o h =
     let place : earlier + (start - earlier) ≡ start = omega arith in
-    ap (list_all test) (sym (drop-drop (start - earlier) earlier xs ∙ ap (λ n. drop n xs) place)) ∙ (all-parts test (start - earlier) (drop earlier xs) h).1
+    ap (list_all test) (sym (drop-drop (start - earlier) earlier xs ∙ ap (λ n. drop n xs) place))
+    ∙ (all-parts test (start - earlier) (drop earlier xs) h).1
 
 -- the bytes before the end of a run pass
 pub run-front : (test : ℕ → Bool) (xs : List ℕ) (end : ℕ) → end ≤ length xs → ((k : ℕ) → 0 ≤ k → k < end → test (get_or xs k 0) ≡ true)

@@ -2,9 +2,9 @@
 use Rattle.tabled_text.proofs.Names.{All, All-cons, All-nil, Bor, IsFirstAt, IsSplitAt, IsUtf8, IsUtf8-append, IsUtf8-from_ascii, List}
 use Rattle.tabled_text.proofs.Names.{None, Option, Some, [], ap, arith, cases_Bool, chars, chars-append, chars_past_char, drop}
 use Rattle.tabled_text.proofs.Names.{encode_ascii, encode_utf8, encode_utf8_all, encodes-chars, eq-eqb, eqb, eqb-true, false, get_or}
-use Rattle.tabled_text.proofs.Names.{get_or-take, get_or_default, length, length-append, length-drop, length-take-le, lines_in, lines_of}
-use Rattle.tabled_text.proofs.Names.{lit<, ne_eqb, refl, slice_split_none, split_at, subst, suc, sym, take, take_all, words_in, words_of}
-use Rattle.tabled_text.proofs.Names.{zero, ℕ, ⊎_elim, ◌++◌, ◌+◌, ◌-◌, ◌<◌, ◌∙◌, ◌∷◌, ◌≡◌}
+use Rattle.tabled_text.proofs.Names.{get_or-take, get_or_default, length, length-append, length-take-le, lines_in, lines_of, lit<, ne_eqb}
+use Rattle.tabled_text.proofs.Names.{refl, slice_split_none, split_at, subst, suc, sym, take, take_all, words_in, words_of, zero, ℕ, ⊎_elim}
+use Rattle.tabled_text.proofs.Names.{◌++◌, ◌+◌, ◌-◌, ◌<◌, ◌∙◌, ◌∷◌, ◌≡◌}
 use Rattle.std.proofs.lemmas.List.{get_or-append_right}
 use Rattle.std.proofs.lemmas.List.Splits.{slice_split_at}
 
@@ -100,7 +100,3 @@ words-split text front (Some rest) s =
     ap words_of spelled
     ∙ slice_split_at (λ b. eqb b 32) (chars front) 32 (chars rest.now)
     (all-chars 32 small front s.utf8 (all-front 32 text front (Some rest) s)) (eq-eqb 32 32 refl)
-
-pub shorter-split : (text front rest : List ℕ) → length front < length text → rest ≡ drop (length front + 1) text
-    → length rest < length text
-shorter-split text front rest l e = omega (arith, ap length e, length-drop (length front + 1) text)

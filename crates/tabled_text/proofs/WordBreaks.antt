@@ -100,7 +100,8 @@ breaks-before n line some h long at =
       some = some;
       end = omega arith;
       rest = ap (λ l. append_all n 0 (kept_units n l)) whole ∙ ap (append_all n 0) (units-around n front ys)
-          ∙ ended n front (space ∷ kept_units n ys) space some (all-parts (is_in_range 0x20 0x7E) n line h).0 (omega arith) first (omega (arith, need))
+          ∙ ended n front (space ∷ kept_units n ys) space some (all-parts (is_in_range 0x20 0x7E) n line h).0 (omega arith) first
+          (omega (arith, need))
           ∙ ap (λ us. front ++ 10 ∷ append_all n 0 us) (sym (units-around n [] ys))
           ∙ ap (λ l. front ++ 10 ∷ append_all n 0 (kept_units n l)) (sym back);
     }
@@ -298,7 +299,8 @@ pub breaks-word : (n k : ℕ) (line word : List ℕ) (after : Option (Bor (List 
     → BreaksAt n true line k
 breaks-word n k line word after some h le long at s short_word wide =
     let back = all-parts (is_in_range 0x20 0x7E) k line h in
-    let own : is_printable word ≡ true = ap is_printable s.front_is ∙ (all-parts (is_in_range 0x20 0x7E) (length word) (drop k line) back.1).0 in
+    let own : is_printable word ≡ true = ap is_printable s.front_is
+    ∙ (all-parts (is_in_range 0x20 0x7E) (length word) (drop k line) back.1).0 in
     let words : words_of (drop k line) ≡ word ∷ words_in after =
     ap words_of (sym (chars-printable (drop k line) back.1)) ∙ words-split (drop k line) word after s
     ∙ ap (λ l. l ∷ words_in after) (chars-printable word own) in

@@ -1,9 +1,9 @@
-use Rattle.tabled_text.proofs.Names.{AreLetters, arith, subst, sym, take-add, ◌+◌}
-use Rattle.tabled_text.proofs.LetterBytes.{letters-append, letters-nil}
+use Rattle.tabled_text.proofs.Names.{AreLetters, arith, refl, subst, sym, take-add, ◌+◌}
+use Rattle.tabled_text.proofs.LetterBytes.{letters-append}
 use Rattle.tabled_text.proofs.letters.letter_blocks.Goals as goal
 
 pub whole-init : goal.whole-init
-whole-init c = record { end = omega arith; letters = letters-nil; fits = omega arith }
+whole-init c = record { end = omega arith; letters = record { all = refl; columns = refl }; fits = omega arith }
 
 pub whole-preserved : goal.whole-preserved
 whole-preserved c =

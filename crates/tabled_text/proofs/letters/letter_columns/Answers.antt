@@ -1,5 +1,6 @@
-use Rattle.tabled_text.proofs.Names.{AreLetters, ap, arith, drop, length, length-chunk, length-drop, subst, ◌+◌, ◌≡◌}
-use Rattle.tabled_text.proofs.LetterBytes.{letters-block, letters-bound}
+use Rattle.tabled_text.proofs.Names.{AreLetters, ap, arith, drop, length, length-chunk, length-drop, subst, sym, ◌+◌, ◌≡◌}
+use Rattle.std.proofs.lemmas.Simd.{chunk-drop}
+use Rattle.tabled_text.proofs.LetterBytes.{letters-append, letters-bound}
 use Rattle.tabled_text.proofs.letters.letter_columns.Goals as goal
 
 pub overflow_add-columns : goal.overflow_add-columns
@@ -19,7 +20,8 @@ whole-preserved c =
       before = λ n h.
           let sum : c.whole.columns + (count + n) ≡ c.whole.columns + count + n = omega arith in
           subst (AreLetters (drop c.args.start bytes)) sum
-          (c.whole.invariant.before (count + n) (letters-block bytes at count n (subst (λ l. AreLetters l count) c.block_at.ensures c.in_ok-count.ensures) h));
+          (c.whole.invariant.before (count + n) (subst (λ l. AreLetters l (count + n)) (sym (chunk-drop at 16 bytes))
+          (letters-append (subst (λ l. AreLetters l count) c.block_at.ensures c.in_ok-count.ensures) h)));
     }
 
 pub overflow_add-result : goal.overflow_add-result

@@ -1,6 +1,5 @@
 use Rattle.tabled_text.proofs.Names.{ap, arith, drop, is_in_range, length, length-drop, list_all, sym, true, ◌∙◌, ◌≡◌}
-use Rattle.tabled_text.proofs.Bridge.{text_columns-one}
-use Rattle.tabled_text.proofs.LetterBytes.{line-alone}
+use Rattle.tabled_text.proofs.LetterBytes.{line-alone, line-columns}
 use Rattle.tabled_text.proofs.PlainLines.{plain_line-lines, plain_line-printable, text_columns-plain_line}
 use Rattle.tabled_text.proofs.measure.tail_measures.Goals as goal
 
@@ -20,10 +19,7 @@ returns-then-is_printable_tail-clause-lines c =
     sym (ap length (plain_line-lines (plain_line-printable (drop c.args.start c.args.text.now) (printable c))))
 
 pub returns-in-Some-clause-columns : goal.returns-in-Some-clause-columns
-returns-in-Some-clause-columns c =
-    let tail = drop c.args.start c.args.text.now in
-    let line = c.in-Some.ensures in
-    sym (text_columns-one tail (line-alone tail c.in-Some.columns line) ∙ line.columns)
+returns-in-Some-clause-columns c = line-columns c.in-Some.ensures
 
 pub returns-in-Some-clause-lines : goal.returns-in-Some-clause-lines
 returns-in-Some-clause-lines c = sym (line-alone (drop c.args.start c.args.text.now) c.in-Some.columns c.in-Some.ensures)

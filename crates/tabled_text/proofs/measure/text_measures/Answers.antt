@@ -1,6 +1,5 @@
 use Rattle.tabled_text.proofs.Names.{ap, arith, is_in_range, length, list_all, sym, true, ◌∙◌, ◌≡◌}
-use Rattle.tabled_text.proofs.Bridge.{text_columns-one}
-use Rattle.tabled_text.proofs.LetterBytes.{line-alone}
+use Rattle.tabled_text.proofs.LetterBytes.{line-alone, line-columns}
 use Rattle.tabled_text.proofs.PlainLines.{plain_line-lines, plain_line-printable, text_columns-plain_line}
 use Rattle.tabled_text.proofs.RunLemmas.{run-all}
 use Rattle.tabled_text.proofs.measure.text_measures.Goals as goal
@@ -18,10 +17,7 @@ pub returns-then-run-text-clause-lines : goal.returns-then-run-text-clause-lines
 returns-then-run-text-clause-lines c = sym (ap length (plain_line-lines (plain_line-printable c.args.text.now (printable c))))
 
 pub returns-in-Some-clause-columns : goal.returns-in-Some-clause-columns
-returns-in-Some-clause-columns c =
-    let text = c.args.text.now in
-    let line = c.in-Some.ensures.line in
-    sym (text_columns-one text (line-alone text c.in-Some.columns line) ∙ line.columns)
+returns-in-Some-clause-columns c = line-columns c.in-Some.ensures.line
 
 pub returns-in-Some-clause-lines : goal.returns-in-Some-clause-lines
 returns-in-Some-clause-lines c = sym (line-alone c.args.text.now c.in-Some.columns c.in-Some.ensures.line)

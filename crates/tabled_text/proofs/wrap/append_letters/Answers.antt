@@ -19,7 +19,8 @@ lines-preserved g c =
           (subst (λ x. g.S.Sink.adds c.lines.out x t) whole
           (g.met.S.Sink.adds_more c.lines.out c.append_str.new.self t piece (encode_utf8 10 ++ next) c.in_ok-append_str.ensures
           (g.met.S.Sink.adds_more c.append_str.new.self c.append_char.new.self t (encode_utf8 10) next c.in_ok-append_char.ensures k)));
-      columns = omega (arith, ap text_columns written, text_columns-feed piece next, line.takes, c.max-widest.ensures, c.lines.invariant.columns);
+      columns = omega
+          (arith, ap text_columns written, text_columns-feed piece next, line.takes, c.max-widest.ensures, c.lines.invariant.columns);
       counted = omega (arith, ap (λ l. length (lines_of l)) written, count_lines-feed piece next, line.one, c.lines.invariant.counted);
       few = omega (arith, c.lines.invariant.few, line.shorter some);
       letters = line.letters;

@@ -1,5 +1,5 @@
-use Rattle.tabled_text.proofs.Names.{IfOk, OnOk, ap, append_all, encode_utf8_all, subst, sym, used_after, ◌≡◌}
-use Rattle.tabled_text.proofs.Filling.{append_all-one, units_of_word-empty, units_of_word-short}
+use Rattle.tabled_text.proofs.Names.{IfOk, OnOk, ap, append-nil, append_all, encode_utf8_all, subst, sym, used_after, ◌≡◌}
+use Rattle.tabled_text.proofs.Filling.{units_of_word-empty, units_of_word-short}
 use Rattle.tabled_text.proofs.wrap.append_unit.Goals as goal
 
 pub returns-then-is_empty-clause-used : goal.returns-then-is_empty-clause-used
@@ -25,4 +25,4 @@ returns-then-width-n-clause-text g c =
     c.is_empty.ensures c.if-is_empty.false c.line_width-width.ensures.value c.if-width-n.true in
     subst (λ k. OnOk c.append_word.result (g.S.Sink.adds c.args.out.now (encode_utf8_all (append_all c.args.n c.args.used k)) c.append_word.new.out)) (sym one)
     (subst (λ t. OnOk c.append_word.result (g.S.Sink.adds c.args.out.now (encode_utf8_all t) c.append_word.new.out))
-    (append_all-one c.args.n c.args.used _) c.append_word.ensures.text)
+    (sym (append-nil _)) c.append_word.ensures.text)
