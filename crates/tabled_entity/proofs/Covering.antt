@@ -1,29 +1,7 @@
 -- The change at the latest of the places for a cell's entities is the first that covers the cell.
-use Rattle.std.proofs.Common.{
-  ◌≡◌,
-  ℕ,
-  suc,
-  ◌-◌,
-  ◌<◌,
-  nat_eq,
-  ◌&&◌,
-  true,
-  false,
-  cond,
-  List,
-  [],
-  ◌∷◌,
-  length,
-  Option,
-  Some,
-  None,
-  refl,
-  ap,
-  ◌∙◌,
-  arith,
-  get_or,
-}
-use Rattle.tabled_entity.proofs.Names.{Cell, Column, Entity, Global, Row, first_covering, last_for, later, latest, same}
+use Rattle.tabled_entity.proofs.Names.{Cell, Column, Entity, Global, List, None, Option, Row, Some, [], ap, arith, false, first_covering}
+use Rattle.tabled_entity.proofs.Names.{get_or, last_for, later, latest, length, refl, same, suc, ℕ, ◌-◌, ◌<◌, ◌∙◌, ◌∷◌, ◌≡◌}
+use Rattle.std.proofs.Common.{cond, nat_eq, true, ◌&&◌}
 use Rattle.tabled_entity.specs.Changes.{covers}
 
 -- a place before the end, if there is one

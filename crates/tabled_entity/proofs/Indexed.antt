@@ -1,10 +1,9 @@
 -- What a map of changes finds by its places is the latest setting that covers a cell.
-use Rattle.tabled_entity.proofs.Names.{Cell, Column, Entity, Global, IsIndexed, List, None, Option, Row, Some, [], ap, arith, false}
+use Rattle.tabled_entity.proofs.Names.{Cell, Column, Entity, Global, IsIndexed, List, None, Option, Row, Some, [], ap, arith}
 use Rattle.tabled_entity.proofs.Names.{first_covering, get_or, last_for, later, latest, length, length-reverse, refl, reverse, same}
 use Rattle.tabled_entity.proofs.Names.{slice_get-get_or, subst, suc, sym, value_of, zero, ℕ, ◌-◌, ◌<◌, ◌∙◌, ◌∷◌, ◌≡◌}
-use Rattle.std.proofs.Common.{cond, is_some}
+use Rattle.std.proofs.Common.{cond}
 use Rattle.std.proofs.lemmas.List.{reverse-reverse, get_or-reverse}
-use Rattle.std.proofs.lemmas.Bool.{both_ways}
 use Rattle.std.specs.Option.{option_map, unwrap_or}
 use Rattle.tabled_entity.specs.declared.row_values.ChangeIndex.{ChangeIndex}
 use Rattle.tabled_entity.specs.Changes.{if_unparted}
@@ -67,11 +66,8 @@ indexed-more old new items entity value place indexed placed is =
           ∙ ap (cond (same entity other) (Some (length (reverse items)))) (indexed.found other);
     }
 
-some-none : (n : ℕ) → Some n ≡ None → ⊥
-some-none n h = both_ways false refl (ap is_some (sym h))
-
 first-part : {T : Type 0} (entity : Entity) (value : T) (earlier : List (Entity × T)) → AreParts ((entity, value) ∷ earlier) → IsPart entity
-first-part Global value earlier h = absurd (some-none (length earlier) h)
+first-part Global value earlier h = cc
 first-part (Row r) value earlier h = tt
 first-part (Column c) value earlier h = tt
 first-part (Cell r c) value earlier h = tt

@@ -2,7 +2,7 @@
 use Rattle.tabled_entity.proofs.Names.{List, None, Option, Some, [], ap, arith, false, get_or, length, refl, slice_get-get_or, suc, sym}
 use Rattle.tabled_entity.proofs.Names.{zero, ℕ, ◌+◌, ◌-◌, ◌<◌, ◌∙◌, ◌∷◌, ◌≡◌}
 use Rattle.std.proofs.Common.{◌==◌, ◌&&◌, true, if◌then◌else◌, Result, Ok, Err, OnOk, OnErr, inl, inr, nat_lt, slice_get, slice_set}
-use Rattle.std.proofs.lemmas.Bool.{cases_Bool, cases_eq, eqb-true, ltb-true}
+use Rattle.std.proofs.lemmas.Bool.{cases_Bool, cases_eq, eqb-true}
 use Rattle.std.proofs.lemmas.Bool.Decides.{nat_tests}
 use Rattle.std.specs.Option.{option_and_then, option_or}
 use Rattle.std.specs.Vec.{with_item}
@@ -63,11 +63,7 @@ module _ (old : RunMap (RunMap ℕ)) (index : ℕ) (within : index < length old.
   row-there cells is =
       let row = old.first + index in
       let at : row - old.first ≡ index = omega arith in
-      let from : nat_lt row old.first ≡ false =
-      (elim (cases_Bool (nat_lt row old.first)) [
-        | inl less ↦ let under = ltb-true row old.first less in absurd (omega (arith, under))
-        | inr from ↦ from
-      ]) in
+      let from : nat_lt row old.first ≡ false = grind (arith, nat_tests) in
       ap (λ o. option_or o (in_others old row))
       (ap (λ t. if t then None else slice_get old.run.items (row - old.first)) from
       ∙ ap (slice_get old.run.items) at
