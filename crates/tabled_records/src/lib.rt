@@ -1,7 +1,6 @@
 //! Records that borrow or share their texts, views of records, and the records of an iterator.
 //!
 //! Records that store texts:
-//!
 //! - `row_ranges.rt`: `RowRanges`, rows as ranges of a list of texts, and `Pairs`, a list of pairs
 //!   that takes half the memory while the numbers are small.
 //! - `joined_records.rt`: `LentRows`, rows whose cells borrow one text, which `text_rows` finds in
@@ -11,17 +10,13 @@
 //! - `flat_rows.rt`: `FlatRows`, rows whose cells are in one list.
 //!
 //! Records that make their cells on demand:
-//!
 //! - `empty.rt`: `EmptyRecords`, whose cells are all empty.
 //! - `iter_records.rt`: `IterRecords`, the records of an iterator.
 //!
 //! Views that are read row by row:
-//!
 //! - `limits.rt`: `LimitRows`, `SkipRows` and `LimitColumns`, a part of the rows or cells.
 //! - `truncate.rt`: `TruncateContent`, cells that are cut to the widths of their columns.
-//! - `buffer.rt`: `BufRecords`, records with some rows read ahead.
-//!
-//! - `reading.rt`: reads the next rows and cells of an iterator.
+//! - `buffer.rt`: `BufRecords`, records with some rows read ahead; `reading.rt` reads them.
 #![tactic(auto)]
 
 mod buffer;

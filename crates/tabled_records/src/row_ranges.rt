@@ -1,6 +1,6 @@
 //! Rows as ranges of a list of texts, and pairs of numbers in half the memory.
 ghost use Rattle.std.specs.Prelude.{◌≡◌, ◌<◌, ◌++◌, [], ◌∷◌, IfErr, IfSome, OnErr, OnOk};
-ghost use Rattle.std.specs.Prelude.{◌^◌, List, MatchOption, length, ℕ};
+ghost use Rattle.std.specs.Prelude.{◌^◌, MatchOption, length};
 ghost use Rattle.std.specs.List.{slice_index_or};
 ghost use Rattle.tabled_base.specs.declared.error.TableError.TheVariants.{Memory};
 ghost use Rattle.tabled_base.specs.Cells.{IsInside, cell_at};
@@ -40,16 +40,6 @@ fn small(pair: (usize, usize)) -> Option<(u32, u32)>
     }
 }
 
-/// Returns the pair at an index.
-#[inline(always)]
-fn wide(small: &[(u32, u32)], place: usize) -> (usize, usize)
-    requires { place < length small.now }
-    ensures { (more : List (ℕ × ℕ)) → result ≡ slice_index_or (small.now ++ more) place result }
-{
-    let (first, second) = small[place];
-    (first as usize, second as usize)
-}
-
 impl Pairs {
     /// Makes an empty list.
     pub fn new(alloc: Global) -> Pairs
@@ -76,7 +66,10 @@ impl Pairs {
         ensures { result ≡ slice_index_or self.now place result }
     {
         match place.checked_sub(self.small.len()) {
-            None => wide(&self.small, place),
+            None => {
+                let (first, second) = self.small[place];
+                (first as usize, second as usize)
+            }
             Some(behind) => self.great[behind],
         }
     }
