@@ -27,6 +27,12 @@ pub adds-pushed : {T : Type 0} (r : Result T TableError) (made : List ℕ → Ty
 adds-pushed (Ok x) made text old new h is = record { text = text; is_made = is; added = h }
 adds-pushed (Err e) made text old new h is = tt
 
+-- a text that was added is as another relation says too
+pub adds-as : {T : Type 0} (r : Result T TableError) (first second : List ℕ → Type 0) (old new : Written)
+    → OnOk r (AddsText first old new) → ((text : List ℕ) → first text → second text) → OnOk r (AddsText second old new)
+adds-as (Ok x) first second old new h so = record { text = h.text; is_made = so h.text h.is_made; added = h.added }
+adds-as (Err e) first second old new h so = tt
+
 -- ---- lists with one more item
 
 each-more : {X : Type 0} (P : ℕ → X → Type 0) (xs : List X) (d x : X) (n : ℕ) → length xs ≡ n

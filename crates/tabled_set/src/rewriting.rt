@@ -1,5 +1,5 @@
 //! Writes records anew, row by row, with some of their cells changed.
-ghost use Rattle.std.specs.Prelude.{◌≡◌, ◌<◌, [], IfErr, IfOk, OnOk, length, true};
+ghost use Rattle.std.specs.Prelude.{◌≡◌, ◌++◌, ◌<◌, [], IfErr, IfOk, OnOk, length, true};
 ghost use Rattle.tabled_set.specs.Common.{IsInside, Memory, cell_at};
 ghost use Rattle.tabled_set.specs.CellChanges.{AddsRow, AddsText, AreChanged, leaves};
 
@@ -8,6 +8,28 @@ use std::alloc::Global;
 use tabled_base::{PeekableRecords, Position, TableError};
 use tabled_records::{JoinedRecords, RecordsWriter};
 use tabled_text::text_measures;
+
+/// Adds a text that is joined of two. It is made in `out`, unless the second is empty.
+fn push_ended(
+    writer: &mut RecordsWriter,
+    front: &str,
+    ending: &str,
+    out: &mut String,
+) -> Result<(), TableError>
+    ensures ok { OnOk result (AddsText (λ text. text ≡ front.now ++ ending.now)
+        writer.old writer.new) }
+    ensures only { IfErr result (λ e. e ≡ Memory) }
+{
+    if ending.is_empty() {
+        let (columns, lines) = text_measures(front);
+        return writer.push(front, columns, lines);
+    }
+    out.clear();
+    out.push_str(front)?;
+    out.push_str(ending)?;
+    let (columns, lines) = text_measures(out.as_str());
+    writer.push(out.as_str(), columns, lines)
+}
 
 impl<'a, T: TextTransform, M: ContentSizes> Change<'a, T, M> {
     /// Adds what becomes of a cell: its text, or the changed text if it has a content size and
@@ -43,11 +65,7 @@ impl<'a, T: TextTransform, M: ContentSizes> Change<'a, T, M> {
             return writer.push(text, columns, lines);
         }
         let (front, _) = text.split_at(kept.bytes);
-        out.clear();
-        out.push_str(front)?;
-        out.push_str(kept.ending)?;
-        let (columns, lines) = text_measures(out.as_str());
-        writer.push(out.as_str(), columns, lines)
+        push_ended(writer, front, kept.ending, out)
     }
 
     /// Adds what becomes of a row.

@@ -1,7 +1,7 @@
-use Rattle.tabled_set.proofs.Names.{ap, cell_at, leaves, subst, sym, true, ◌++◌, ◌∙◌, ◌≡◌}
+use Rattle.tabled_set.proofs.Names.{ap, cell_at, subst, sym, true, ◌++◌, ◌∙◌, ◌≡◌}
 use Rattle.tabled_set.specs.CellChanges.{is_taken}
 use Rattle.tabled_set.specs.Truncated.{ended_text}
-use Rattle.tabled_set.proofs.RewrittenRecords.{adds-pushed, leaves-made}
+use Rattle.tabled_set.proofs.RewrittenRecords.{adds-as, leaves-made}
 use Rattle.tabled_set.proofs.resize.Change.push_cell.Goals as goal
 
 pub returns-clause-ok : goal.returns-clause-ok
@@ -16,10 +16,7 @@ returns-clause-ok g c =
     let taken : is_taken by.cell_filter n cell ≡ true =
     cc (c.if-not-takes.false, c.takes.ensures, c.get_measured-columns.ensures.columns, c.get_measured-columns.ensures.lines) in
     let made = subst (λ t. makes n t (ended_text kept text)) c.get_measured-columns.ensures.text c.in-Some-beginning.ensures.made in
-    let is = c.as_str-3.ensures.value ∙ c.in_ok-push_str-2.ensures.bytes
-    ∙ ap (λ l. l ++ ending)
-    (c.in_ok-push_str.ensures.bytes ∙ ap (λ l. l ++ c.split_at.result.0.now) c.clear.ensures.bytes ∙ c.split_at.ensures.front) in
-    adds-pushed c.push-2.result
-    (leaves by.cell_filter makes (g.M.ContentSizes.content_size_at by.content_sizes.now) c.args.at.row c.args.at.column cell)
-    c.as_str-3.result.now _ _ c.push-2.ensures.ok
-    (leaves-made by.cell_filter makes _ n cell _ (sym c.content_size.ensures ∙ c.in-Some.is) taken (subst (makes n cell) (sym is) made))
+    adds-as c.push_ended.result _ _ _ _ c.push_ended.ensures.ok
+    (λ after is.
+    leaves-made by.cell_filter makes _ n cell after (sym c.content_size.ensures ∙ c.in-Some.is) taken
+    (subst (makes n cell) (sym (is ∙ ap (λ l. l ++ ending) c.split_at.ensures.front)) made))
