@@ -31,7 +31,7 @@ use Rattle.tabled_text.proofs.Ends.{
 }
 use Rattle.tabled_config.specs.declared.alignment.AlignmentHorizontal.TheVariants as horizontal
 use Rattle.tabled_line.specs.Apart.{ArePaddedLeft, HoldsTexts, IsApartRow, IsApartStyle}
-use Rattle.tabled_line.proofs.Bars.{bar-sum, later-bar}
+use Rattle.tabled_line.proofs.Bars.{bar-before, bar-sum}
 use Rattle.tabled_line.proofs.Blocks.{block-above, block-text, block-below}
 use Rattle.tabled_line.proofs.Joined.{each-begins, each-closes}
 
@@ -167,10 +167,6 @@ bar-there : (b : Bool) (c : ℕ) (line : List ℕ) → b ≡ true → IsSeparato
 bar-there true c line h p = begins-framed line (frame-piece true c p) (omega arith)
 bar-there false c line h p = cc
 
-bar-later : (r : Frame) (i : ℕ) → 0 < i → r.inner.there ≡ true → has_bar r i ≡ true
-bar-later r zero z h = absurd (omega arith)
-bar-later r (suc i) z h = later-bar i r.inner.there ∙ h
-
 -- ---- the cells of a line
 
 -- the columns of the cells and of the vertical lines between them
@@ -220,7 +216,7 @@ cells-apart row index p q m v =
     let own : (i : ℕ) → i < n → IsLine (cell_piece row index i) (w i) = λ i k.
     bar-line (has_bar r i) c (row.columns.width i) _ v (block_at row index i p q m k).line in
     ⊎_elim
-    (λ inner. line-as (each-begins (cell_piece row index) w n own (λ i z k. bar-there (has_bar r i) c _ (bar-later r i z inner) v))
+    (λ inner. line-as (each-begins (cell_piece row index) w n own (λ i z k. bar-there (has_bar r i) c _ (bar-before r i z ∙ inner) v))
     (bar-sum r row.columns.width n))
     (λ o. ⊎_elim (cells-padded row index p q m)
     (λ rights. line-as

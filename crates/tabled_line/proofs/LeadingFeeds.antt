@@ -1,8 +1,7 @@
 -- Lines that go out in one piece with the line feed before them.
-use Rattle.tabled_line.proofs.Names.{Bool, Err, IsCharBoundary, IsCharBoundary-after_ascii, IsUtf8, IsUtf8-append, IsUtf8-drop, List, Ok}
-use Rattle.tabled_line.proofs.Names.{Result, Sent, Stops, TableError, Writes, WritesLines, [], ap, append-nil, arith, break, common_steps}
-use Rattle.tabled_line.proofs.Names.{drop, get_or, length, lines_after, lit<, refl, subst, suc, sym, true, ℕ, ◌++◌, ◌-◌, ◌<◌, ◌∙◌, ◌∷◌, ◌≡◌}
-use borrow.Rule.Slice.PartMut.{mid_of}
+use Rattle.tabled_line.proofs.Names.{Bool, Err, IsCharBoundary, IsCharBoundary-after_ascii, IsUtf8, List, Ok, Result, Sent, Stops, TableError}
+use Rattle.tabled_line.proofs.Names.{Writes, WritesLines, [], ap, append-nil, arith, break, drop, get_or, length, lines_after, lit<, subst}
+use Rattle.tabled_line.proofs.Names.{suc, sym, true, ℕ, ◌++◌, ◌<◌, ◌∙◌, ◌∷◌, ◌≡◌}
 use Rattle.tabled_line.proofs.Sending.{sends-along}
 
 -- a line that went out with what leads to it
@@ -17,23 +16,9 @@ lines_after-boundary text u e =
     let long : 0 < length text = (let s = ap length e in omega arith) in
     IsCharBoundary-after_ascii text 0 u long (subst (λ t. get_or t 0 0 < 128) (sym e) (lit< tt))
 
-pub lines_after-rest : (line : List ℕ) → IsUtf8 (10 ∷ line) → IsUtf8 line
-lines_after-rest line u = IsUtf8-drop (10 ∷ line) 1 u (lines_after-boundary (10 ∷ line) u refl)
-
-feed : IsUtf8 (10 ∷ [])
-unfolding lib.Utf8.encode
-feed = ((10 ∷ []), (refl, refl))
-
-pub lines_after-whole : (line : List ℕ) → IsUtf8 line → IsUtf8 (10 ∷ line)
-lines_after-whole line u = IsUtf8-append (10 ∷ []) line feed u
-
 pub lines_after-parts : (text line : List ℕ) → text ≡ 10 ∷ line → text ≡ 10 ∷ drop 1 text
 lines_after-parts text line e = e ∙ ap (λ u. 10 ∷ drop 1 u) (sym e)
 
 -- what was put behind a line feed, with that
 pub lines_after-length : (e l n a : List ℕ) → e ≡ [] → n ≡ e ++ (10 ∷ []) → a ≡ n ++ l → length a ≡ suc (length l)
 lines_after-length e l n a none first one = ap length (one ∙ ap (λ u. u ++ l) (first ∙ ap (λ u. u ++ (10 ∷ [])) none))
-
--- what stands behind the line feed
-pub lines_after-mid : (old line : List ℕ) → old ≡ 10 ∷ line → mid_of 1 (length old - 1) old ≡ line
-lines_after-mid old line e = grind (arith, common_steps)

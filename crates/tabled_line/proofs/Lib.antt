@@ -1,6 +1,7 @@
 pub mod Names
 pub mod PlacementFacts
 pub mod ApartLines
+pub mod Appended
 pub mod Bars
 pub mod Blocks
 pub mod Contents
@@ -8,8 +9,6 @@ pub mod Each
 pub mod Fills
 pub mod SeparatorTexts
 pub mod Joined
-pub mod LaidSlots
-pub mod Laying
 pub mod Leading
 pub mod LeadingFeeds
 pub mod Moving

@@ -1,5 +1,6 @@
 -- The pieces of a cell whose text stands between spaces.
-use Rattle.tabled_line.proofs.Names.{List, PlacedText, RowSheet, ap, append_assoc, cell_piece, fill, has_bar, piece, ℕ, ◌++◌, ◌∙◌, ◌≡◌}
+use Rattle.tabled_line.proofs.Names.{List, PlacedText, RowSheet, [], ap, append_assoc, arith, cell_piece, fill, has_bar, length, piece, refl}
+use Rattle.tabled_line.proofs.Names.{ℕ, ◌++◌, ◌∙◌, ◌∷◌, ◌≡◌}
 use Rattle.tabled_line.specs.PlacedText.{IsPlacedText}
 
 -- spaces and the cell: the spaces, the vertical line and the spaces before the text, the text, and the spaces behind it
@@ -13,3 +14,7 @@ spaced-parts row index column placed n h =
   where
     regroup : (a b c d : List ℕ) → a ++ (b ++ (c ++ d)) ≡ (a ++ (b ++ c)) ++ d
     regroup a b c d = simp append_assoc
+
+pub no-text : (text : List ℕ) → length text ≡ 0 → [] ≡ text
+no-text [] h = refl
+no-text (x ∷ xs) h = absurd (omega (arith, h))

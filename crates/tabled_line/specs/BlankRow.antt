@@ -1,5 +1,5 @@
--- Blank rows of one line, which texts are copied into.
-use Rattle.std.specs.Prelude.{◌≡◌, ℕ, List, ◌++◌, Some, length}
+-- Blank rows of one line.
+use Rattle.std.specs.Prelude.{ℕ, ◌+◌, List, Some, length}
 use Rattle.tabled_config.specs.declared.borders.HorizontalLine.{HorizontalLine}
 use Rattle.tabled_config.specs.declared.borders.Frame.{Frame}
 use Rattle.tabled_line.specs.Row.{ColumnSheet, left_edge, rule_line}
@@ -13,13 +13,6 @@ blank_line f = record { main = Some 32; left = Some f.left.main; intersection = 
 abbrev pub blank_row : ColumnSheet → List ℕ
 blank_row columns = rule_line columns (blank_line columns.frame)
 
--- the offset of its first cell, in bytes
+-- the offset of its first cell behind a line feed, in bytes
 abbrev pub first_offset : ColumnSheet → ℕ
-first_offset columns = length (left_edge columns.frame columns.frame.left.main)
-
--- a piece is at an offset in some bytes
-pub record StandsAt (bytes : List ℕ) (place : ℕ) (piece : List ℕ) : Type 0 where
-  pub front : List ℕ
-  pub back : List ℕ
-  pub whole : bytes ≡ front ++ (piece ++ back)
-  pub begins : place ≡ length front
+first_offset columns = 1 + length (left_edge columns.frame columns.frame.left.main)

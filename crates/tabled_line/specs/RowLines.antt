@@ -3,7 +3,10 @@ use Rattle.std.specs.Prelude.{◌≡◌, ◌<◌, ◌⊎◌, ℕ, false, true}
 use Rattle.tabled_config.specs.declared.alignment.AlignmentVertical.TheVariants as vertical
 use Rattle.tabled_config.specs.declared.spanned.CellStyle.{CellStyle}
 use Rattle.tabled_line.specs.Cursors.{AreAt, IsTextLine}
-use Rattle.tabled_line.specs.Row.{RowSheet}
+use Rattle.tabled_line.specs.Fill.{fill}
+use Rattle.tabled_line.specs.Row.{RowSheet, block_line}
+use Rattle.tabled_line.specs.declared.cursor.CellLine.{CellLine}
+use Rattle.tabled_line.specs.declared.cursor.CellLine.TheVariants.{Blank, Text, Unknown}
 use Rattle.tabled_line.specs.declared.cursor.TextLine.{TextLine}
 use Rattle.tabled_line.specs.declared.cursor.RowLine.{RowLine}
 
@@ -28,3 +31,9 @@ pub record IsRowLine (row : RowSheet) (line : RowLine) : Type 0 where
 pub record IsCellText (row : RowSheet) (index column : ℕ) (line : TextLine) : Type 0 where
   pub line_is : IsTextLine (row.text column) index line
   pub alone : IsTop (row.style column) ⊎ ((row.height ≡ 1) × (line.widest ≡ line.columns))
+
+-- what is known of a cell in line `index` of the row is true
+abbrev pub IsCellLine : RowSheet → ℕ → ℕ → CellLine → Type 0
+IsCellLine row index column (Text line) = IsCellText row index column line
+IsCellLine row index column Blank = block_line row index column ≡ fill 32 (row.columns.width column)
+IsCellLine row index column Unknown = Unit {0}

@@ -1,5 +1,5 @@
 -- Row templates, and their slots: where the cells of a row begin.
-use Rattle.std.specs.Prelude.{◌≡◌, ◌∷◌, ℕ, zero, suc, ◌+◌, List, IsUtf8, length, map, string_bytes}
+use Rattle.std.specs.Prelude.{◌≡◌, ◌∷◌, ℕ, zero, suc, ◌+◌, ◌≤◌, List, IsUtf8, length, map, string_bytes, take}
 use Rattle.std.specs.List.{range_with_len}
 use Rattle.tabled_line.specs.BlankRow.{blank_row, first_offset}
 use Rattle.tabled_line.specs.declared.row_template.BlankRow.{BlankRow}
@@ -7,7 +7,7 @@ use Rattle.tabled_line.specs.declared.row_template.RowTemplate.{RowTemplate}
 use Rattle.tabled_line.specs.declared.row_template.Slot.{Slot}
 use Rattle.tabled_line.specs.Row.{ColumnSheet, RowSheet, piece, row_line}
 
--- the offset of a column's cell, in bytes: each cell before it takes as many bytes as columns, and
+-- the offset of a column's cell behind a line feed, in bytes: each cell before it takes as many bytes as columns, and
 -- the bytes of a vertical line follow
 abbrev pub offset_at : ColumnSheet → ℕ → ℕ
 offset_at columns zero = first_offset columns
@@ -30,7 +30,8 @@ pub record IsBlankOf (columns : ColumnSheet) (blank : BlankRow) : Type 0 where
 abbrev pub IsTemplateOf : ColumnSheet → RowTemplate → Type 0
 IsTemplateOf columns template = IsBlankOf columns template.blank
 
--- the line of the template is line `index` of a row, with a line feed before it
-pub record IsFilled (row : RowSheet) (index : ℕ) (template : RowTemplate) : Type 0 where
-  pub line : template.line.items ≡ 10 ∷ row_line row index
-  pub utf8 : IsUtf8 template.line.items
+-- the first `end` of these bytes are line `index` of a row, with a line feed before it
+pub record IsFilled (row : RowSheet) (index : ℕ) (bytes : List ℕ) (end : ℕ) : Type 0 where
+  pub within : end ≤ length bytes
+  pub line : take end bytes ≡ 10 ∷ row_line row index
+  pub utf8 : IsUtf8 (take end bytes)

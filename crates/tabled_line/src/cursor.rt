@@ -1,22 +1,15 @@
 //! A line of a row, and the lines of the texts in it, which cursors keep, so that no text is
 //! searched from its start for each line.
-ghost use Rattle.std.specs.Prelude.{IfSome, List, length, true, ℕ, ◌-◌, ◌<◌, ◌≡◌, ◌≤◌};
+ghost use Rattle.std.specs.Prelude.{List, length, true, ℕ, ◌-◌, ◌<◌, ◌≡◌, ◌≤◌};
 ghost use Rattle.tabled_config.specs.RowStyles.{style_in};
 ghost use Rattle.tabled_line.specs.Block.{fill_above};
 ghost use Rattle.tabled_line.specs.Cursors.{AreAt, IsAhead, IsAt, IsCursor, cursor_of, nowhere};
-ghost use Rattle.tabled_line.specs.Fill.{fill};
-ghost use Rattle.tabled_line.specs.Row.{RowSheet, block_line};
-ghost use Rattle.tabled_line.specs.RowLines.{AreTop, IsCellText, IsRowLine, IsTop};
+ghost use Rattle.tabled_line.specs.Row.{RowSheet};
+ghost use Rattle.tabled_line.specs.RowLines.{AreTop, IsCellLine, IsRowLine, IsTop};
 
 use crate::cell_block::{CellBlock, Content, next_line};
 use crate::row::Row;
 use tabled_config::{AlignmentVertical, CellStyle, RowStyles};
-
-/// The number of cursors on the stack for rows of at most this many cells.
-pub const FEW_CURSORS: usize = 64;
-
-/// The most cursors on the stack. Columns after these have none, unless the caller allocates more.
-pub const MANY_CURSORS: usize = 1_024;
 
 /// A line of a text, its width in columns, and the width of the whole text.
 #[derive(Clone, Copy)]
@@ -24,6 +17,18 @@ pub(crate) struct TextLine<'a> {
     pub text: &'a str,
     pub columns: usize,
     pub widest: usize,
+}
+
+/// What a cell has in a line of a row.
+#[derive(Clone, Copy)]
+pub(crate) enum CellLine<'a> {
+    /// A line of its text.
+    Text(TextLine<'a>),
+    /// Spaces, since its text ends above.
+    Blank,
+    /// It isn't known: the lines of the text may be aligned one by one, fills other than spaces may
+    /// be below it, it has several lines in a row of one, or it has no cursor.
+    Unknown,
 }
 
 /// The line of a text in a line of a row, and the text after it.
@@ -134,50 +139,35 @@ impl<'s, 'a> RowLine<'s, 'a> {
         }
     }
 
-    /// Whether a cell is known to be blank in this line, since its text ends above it.
+    /// Returns what a cell has in this line.
     #[inline(always)]
-    pub fn is_blank(&self, column: usize) -> bool
-        ensures { (row : RowSheet) → IsRowLine row self.now → column < row.columns.count
-            → result ≡ true
-            → block_line row self.now.index column ≡ fill 32 (row.columns.width column) }
-    {
-        if !self.top || column >= self.cursors.len() {
-            return false;
-        }
-        self.cursors[column].line.is_none()
-    }
-
-    /// Returns the line of the text of a cell, if it has one here. `None` also if the lines of the
-    /// text may be aligned one by one, fills other than spaces may be below it, or it has several
-    /// lines in a row of one.
-    #[inline(always)]
-    pub fn text_line<R: Row<'a>>(&self, row: &R, column: usize) -> Option<TextLine<'a>>
+    pub fn cell_line<R: Row<'a>>(&self, row: &R, column: usize) -> CellLine<'a>
         requires known { IsRowLine (R.sheet row.now) self.now }
         requires inside { column < (R.sheet row.now).columns.count }
-        ensures { IfSome result (IsCellText (R.sheet row.now) self.now.index column) }
+        ensures { IsCellLine (R.sheet row.now) self.now.index column result }
     {
         if self.height == 1 {
             let content = row.content(column);
             if content.lines != 1 {
-                return None;
+                return CellLine::Unknown;
             }
-            return Some(TextLine {
+            return CellLine::Text(TextLine {
                 text: content.text,
                 columns: content.columns,
                 widest: content.columns,
             });
         }
         if !self.top || column >= self.cursors.len() {
-            return None;
+            return CellLine::Unknown;
         }
         let cursor = &self.cursors[column];
         match cursor.line {
-            Some((text, columns)) => Some(TextLine {
+            Some((text, columns)) => CellLine::Text(TextLine {
                 text,
                 columns,
                 widest: cursor.widest,
             }),
-            None => None,
+            None => CellLine::Blank,
         }
     }
 

@@ -47,7 +47,7 @@ mod text_sink;
 
 pub use borders::{TableColumns, count_drawn, write_bar, write_left_edge, write_right_edge};
 pub use cell_block::{CellBlock, Content, before_text};
-pub use cursor::{Cursor, FEW_CURSORS, MANY_CURSORS};
+pub use cursor::Cursor;
 pub use line_printer::{LinePrinter, write_break};
 pub use new_config::new_compact_config;
 pub use padding::{write_char, write_fill, write_padded_text};

@@ -240,9 +240,9 @@ impl<C: TableColumns> LinePrinter<C> {
         ensures kept { IsCacheOf (C.sheet self.new.columns) self.new.kept }
     {
         if let Some(template) = &mut self.kept.row
-            && template.fill_line(row, line)
+            && let Some(end) = template.fill_line(row, line)
         {
-            return write_feed_and_line(sink, &mut self.begun, template.text());
+            return write_feed_and_line(sink, &mut self.begun, template.text(end));
         }
         write_unfilled_line(sink, &mut self.begun, row, line)
     }

@@ -6,7 +6,7 @@ ghost use Rattle.tabled_line.specs.Placements.{IsPlacementIn, IsUniform};
 ghost use Rattle.tabled_line.specs.RowLines.{IsRowLine};
 
 use crate::cell_block::before_text;
-use crate::cursor::RowLine;
+use crate::cursor::{CellLine, RowLine};
 use crate::row::Row;
 use tabled_config::{AlignmentHorizontal, CellStyle, Indent, RowStyles, Sides};
 
@@ -151,7 +151,7 @@ impl<'a> RowPlacements for RowStyles<'a> {
 }
 
 /// Places the line of the text of a cell in a column of `width` columns. `None` if there is no
-/// placement, the text doesn't fit, or `RowLine::text_line` returns no line.
+/// placement, the text doesn't fit, or the line of the cell isn't known.
 #[inline(always)]
 pub(crate) fn place_text<'c, R: Row<'c>, A: RowPlacements>(
     row: &R,
@@ -166,22 +166,24 @@ pub(crate) fn place_text<'c, R: Row<'c>, A: RowPlacements>(
     requires line { IsRowLine (R.sheet row.now) line.now }
     ensures { IfSome result (IsPlacedText (R.sheet row.now) line.now.index column) }
 {
-    if line.is_blank(column) {
-        return Some(PlacedText {
+    match line.cell_line(row, column) {
+        CellLine::Text(text_line) => {
+            let placement = placements.at(column, width)?;
+            let free = placement.content_width.checked_sub(text_line.widest)?;
+            let before = placement.before + before_text(placement.horizontal, free);
+            Some(PlacedText {
+                before,
+                text: text_line.text,
+                columns: text_line.columns,
+                behind: width - before - text_line.columns,
+            })
+        }
+        CellLine::Blank => Some(PlacedText {
             before: 0,
             text: "",
             columns: 0,
             behind: width,
-        });
+        }),
+        CellLine::Unknown => None,
     }
-    let placement = placements.at(column, width)?;
-    let text_line = line.text_line(row, column)?;
-    let free = placement.content_width.checked_sub(text_line.widest)?;
-    let before = placement.before + before_text(placement.horizontal, free);
-    Some(PlacedText {
-        before,
-        text: text_line.text,
-        columns: text_line.columns,
-        behind: width - before - text_line.columns,
-    })
 }

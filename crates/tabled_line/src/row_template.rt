@@ -1,11 +1,10 @@
-//! Row templates: a blank row with its vertical lines and edges is built once, and the texts of
-//! each line of a row are put into it. Texts with as many bytes as columns are copied over a copy of
-//! the blank row. If a text has more, the line is built by appending.
-ghost use Rattle.std.specs.Prelude.{◌≡◌, ◌+◌, ◌<◌, ◌≤◌, ◌^◌, ◌++◌, [], ◌∷◌, length, take, drop, ℕ};
-ghost use Rattle.std.specs.Prelude.{IfOk, IfSome, IsUtf8, string_bytes, true};
+//! Row templates: a blank row with its vertical lines and edges is built once. A line of a row is
+//! its texts and the parts of the blank row between them.
+ghost use Rattle.std.specs.Prelude.{IfOk, IfSome, IsUtf8, [], drop, length, string_bytes, take, ℕ};
+ghost use Rattle.std.specs.Prelude.{◌++◌, ◌+◌, ◌≡◌, ◌≤◌, ◌∷◌};
 ghost use Rattle.tabled_line.specs.BlankRow.{blank_row, first_offset};
 ghost use Rattle.tabled_line.specs.Slots.{AreSlots, IsBlankOf, IsFilled, IsTemplateOf};
-ghost use Rattle.tabled_line.specs.Row.{piece, row_line};
+ghost use Rattle.tabled_line.specs.Row.{piece};
 ghost use Rattle.tabled_line.specs.RowLines.{IsRowLine};
 
 use crate::borders::{TableColumns, write_left_edge, write_right_edge, write_rule_pieces};
@@ -21,6 +20,10 @@ use tabled_config::{HorizontalLine, VerticalLine};
 /// memory, and a table can be wider than memory is large.
 const MOST_COLUMNS: usize = 65_536;
 
+/// The bytes of the buffer for each byte of the blank row. A longer line is written without the
+/// template.
+const BYTES_PER_COLUMN: usize = 16;
+
 /// Whether the columns and the side margins are short enough for a template. This decides what is
 /// cached, not what is printed.
 fn is_short<C: TableColumns>(columns: &C) -> bool {
@@ -35,8 +38,7 @@ fn is_short<C: TableColumns>(columns: &C) -> bool {
     taken <= MOST_COLUMNS
 }
 
-/// Writes a line feed and a blank row. Returns the offset of the first cell, in bytes after the
-/// line feed.
+/// Writes a line feed and a blank row. Returns the offset of the first cell, in bytes.
 fn write_blank<C: TableColumns>(blank: &mut String, columns: &C) -> Result<usize, TableError>
     requires empty { string_bytes blank.old ≡ [] }
     ensures row { IfOk result (λ _. string_bytes blank.new ≡ 10 ∷ blank_row (C.sheet columns.now)) }
@@ -45,7 +47,7 @@ fn write_blank<C: TableColumns>(blank: &mut String, columns: &C) -> Result<usize
     let frame = columns.frame();
     blank.write_text("\n")?;
     write_left_edge(blank, frame, frame.left.main)?;
-    let start = blank.as_str().len() - 1;
+    let start = blank.as_str().len();
     let line = HorizontalLine {
         main: Some(' '),
         left: Some(frame.left.main),
@@ -96,102 +98,125 @@ pub(crate) struct BlankRow {
     slots: Vec<Slot>,
 }
 
-/// Copies a text over the bytes from `place` on.
+/// The bytes that are copied at once.
+const BLOCK: usize = 16;
+
+/// Copies bytes over those of a line from `place` on.
 #[inline(always)]
-fn copy_at(line: &mut [u8], place: usize, text: &str)
-    requires { place + length text.now ≤ length line.old }
-    ensures copied { line.new ≡ take place line.old
-        ++ (text.now ++ drop (place + length text.now) line.old) }
-    ensures text { IsUtf8 text.now }
+fn copy_at(line: &mut [u8], place: usize, bytes: &[u8])
+    requires { place + length bytes.now ≤ length line.old }
+    ensures length { length line.new ≡ length line.old }
+    ensures rest { drop (place + length bytes.now) line.new
+        ≡ drop (place + length bytes.now) line.old }
+    ensures copied { (count : ℕ) → count ≤ length bytes.now
+        → take (place + count) line.new ≡ take place line.old ++ take count bytes.now }
 {
-    let end = place + text.len();
-    line[place..end].copy_from_slice(text.as_bytes());
+    line[place..place + bytes.len()].copy_from_slice(bytes);
 }
 
-/// Copies the texts in a line of a row over a blank row, at their placements. Returns `false` if a
-/// text has no placement, doesn't fit, or hasn't as many bytes as columns.
+/// Copies the first `count` bytes of a part of the blank row over those of a line from `place` on. A
+/// few are copied in one block, which the next text overwrites.
+#[inline(always)]
+fn copy_part(line: &mut [u8], place: usize, part: &[u8], count: usize)
+    requires fits { place + length part.now ≤ length line.old }
+    requires count { count ≤ length part.now }
+    ensures length { length line.new ≡ length line.old }
+    ensures copied { take (place + count) line.new ≡ take place line.old ++ take count part.now }
+{
+    if count <= BLOCK && part.len() >= BLOCK {
+        copy_at(line, place, &part[..BLOCK]);
+    } else {
+        copy_at(line, place, &part[..count]);
+    }
+}
+
+/// Fills a buffer with a line of a row: copies the texts, at their placements, over a copy of the
+/// blank row. Returns its length in bytes. `None` if a text has no placement, doesn't fit, or hasn't
+/// as many bytes as columns.
 #[inline(always)]
 fn overlay_texts<'a, R: Row<'a>, A: RowPlacements>(
     line: &mut [u8],
-    slots: &[Slot],
-    row: &R,
-    placements: &A,
-    at: &RowLine<'_, 'a>,
-) -> bool
-    requires at { IsRowLine (R.sheet row.now) at.now }
-    requires blank { line.old ≡ blank_row (R.sheet row.now).columns }
-    requires slots { AreSlots (R.sheet row.now).columns slots.now }
-    requires describes { A.describes placements.now (R.sheet row.now) }
-    ensures laid { result ≡ true → line.new ≡ row_line (R.sheet row.now) at.now.index }
-    ensures utf8 { IsUtf8 line.old → IsUtf8 line.new }
-{
-    'texts: for column in 0..slots.len() {
-        let slot = slots[column];
-        let Some(placed) = place_text(row, placements, at, column, slot.width) else {
-            return false;
-        };
-        if placed.text.len() != placed.columns {
-            return false;
-        }
-        copy_at(line, slot.place + placed.before, placed.text);
-    }
-    true
-}
-
-/// Appends a part of a blank row and a text. `None`: an allocation failed.
-#[inline(always)]
-fn append_text(line: &mut Vec<u8>, part: &[u8], text: &str) -> Option<()>
-    ensures appended { IfSome result
-        (λ _. line.new.items ≡ line.old.items ++ (part.now ++ text.now)) }
-    ensures text { IsUtf8 text.now }
-{
-    line.extend_from_slice(part).ok()?;
-    line.extend_from_slice(text.as_bytes()).ok()
-}
-
-/// Appends a line of a row to an empty one, with a line feed before it: the texts, at their
-/// placements, and what the blank row has between them. `None` if a text has no placement or
-/// doesn't fit, a column has no width, or an allocation failed.
-fn append_texts<'a, R: Row<'a>, A: RowPlacements>(
-    line: &mut Vec<u8>,
     blank: &BlankRow,
     row: &R,
     placements: &A,
     at: &RowLine<'_, 'a>,
-) -> Option<()>
+) -> Option<usize>
     requires at { IsRowLine (R.sheet row.now) at.now }
-    requires empty { line.old.items ≡ [] }
     requires blank { IsBlankOf (R.sheet row.now).columns blank.now }
     requires describes { A.describes placements.now (R.sheet row.now) }
-    ensures laid { IfSome result
-        (λ _. line.new.items ≡ 10 ∷ row_line (R.sheet row.now) at.now.index) }
-    ensures utf8 { IfSome result (λ _. IsUtf8 line.new.items) }
+    ensures { IfSome result (IsFilled (R.sheet row.now) at.now.index line.new) }
 {
     let bytes = blank.text.as_bytes();
     let slots = blank.slots.as_slice();
-    // The end of the bytes that were copied, or that a text took the place of.
-    let mut passed = 0;
+    if line.len() < bytes.len() {
+        return None;
+    }
+    copy_at(line, 0, bytes);
     'texts: for column in 0..slots.len() {
         let slot = slots[column];
         let placed = place_text(row, placements, at, column, slot.width)?;
+        if placed.text.len() != placed.columns {
+            return None;
+        }
+        copy_at(line, slot.place + placed.before, placed.text.as_bytes());
+    }
+    Some(bytes.len())
+}
+
+/// Fills a buffer with a line of a row: appends the texts, at their placements, and what the blank
+/// row has between them. Returns its length in bytes. `None` if a text has no placement or doesn't
+/// fit, a column with a text has no width, or the buffer is too small.
+#[inline(never)]
+fn append_texts<'a, R: Row<'a>, A: RowPlacements>(
+    line: &mut [u8],
+    blank: &BlankRow,
+    row: &R,
+    placements: &A,
+    at: &RowLine<'_, 'a>,
+) -> Option<usize>
+    requires at { IsRowLine (R.sheet row.now) at.now }
+    requires blank { IsBlankOf (R.sheet row.now).columns blank.now }
+    requires describes { A.describes placements.now (R.sheet row.now) }
+    ensures { IfSome result (IsFilled (R.sheet row.now) at.now.index line.new) }
+{
+    // A copy, so that the fields are read once.
+    let here = *at;
+    let bytes = blank.text.as_bytes();
+    let slots = blank.slots.as_slice();
+    // The bytes of the buffer that are left if each further text has as many bytes as columns.
+    let mut spare = line.len().checked_sub(bytes.len())?;
+    // The end of the line so far, and of the bytes of the blank row that it has or that a text took
+    // the place of.
+    let mut end = 0;
+    let mut passed = 0;
+    'texts: for column in 0..slots.len() {
+        let slot = slots[column];
+        let placed = place_text(row, placements, &here, column, slot.width)?;
+        if placed.text.is_empty() && placed.columns == 0 {
+            continue;
+        }
         if slot.width == 0 {
             return None;
         }
-        // Slots count from after the line feed.
-        let start = 1 + slot.place + placed.before;
-        append_text(line, &bytes[passed..start], placed.text)?;
+        spare = (spare + placed.columns).checked_sub(placed.text.len())?;
+        let start = slot.place + placed.before;
+        let count = start - passed;
+        let begin = end + count;
+        copy_part(line, end, &bytes[passed..], count);
+        copy_at(line, begin, placed.text.as_bytes());
+        end = begin + placed.text.len();
         passed = start + placed.columns;
     }
-    line.extend_from_slice(&bytes[passed..]).ok()?;
-    Some(())
+    let rest = &bytes[passed..];
+    copy_at(line, end, rest);
+    Some(end + rest.len())
 }
 
-/// A blank row that is built once, and the last line that was filled in. Both have a line feed
-/// before them.
+/// A blank row that is built once, and a buffer for lines. Lines have a line feed before them.
 #[derive(Drop)]
 pub(crate) struct RowTemplate {
     blank: BlankRow,
-    line: Vec<u8>,
+    buffer: Vec<u8>,
     /// Whether a text of the last line had more bytes than columns. The next line is mostly alike,
     /// and appended at once then.
     appends: bool,
@@ -210,114 +235,66 @@ impl RowTemplate {
         let mut slots = Vec::new(alloc);
         let start = write_blank(&mut text, columns).ok()?;
         list_slots(&mut slots, columns, start)?;
+        let most = text.as_str().len().checked_mul(BYTES_PER_COLUMN)?;
         Some(RowTemplate {
+            buffer: vec![in alloc; 0; most].ok()?,
             blank: BlankRow { text, slots },
-            line: Vec::new(alloc),
             appends: false,
         })
     }
 
-    /// Fills in a line whose texts have as many bytes as columns.
-    #[inline(always)]
-    fn overlay<'a, R: Row<'a>, A: RowPlacements>(
-        &mut self,
-        row: &R,
-        placements: &A,
-        at: &RowLine<'_, 'a>,
-    ) -> bool
-        requires known { IsTemplateOf (R.sheet row.now).columns self.old }
-        requires at { IsRowLine (R.sheet row.now) at.now }
-        requires describes { A.describes placements.now (R.sheet row.now) }
-        ensures blank { self.new.blank ≡ self.old.blank }
-        ensures laid { result ≡ true
-            → self.new.line.items ≡ 10 ∷ row_line (R.sheet row.now) at.now.index }
-        ensures utf8 { result ≡ true → IsUtf8 (row_line (R.sheet row.now) at.now.index) }
-    {
-        self.line.clear();
-        let blank = self.blank.text.as_bytes();
-        let Ok(()) = self.line.extend_from_slice(blank) else {
-            return false;
-        };
-        overlay_texts(&mut self.line[1..], &self.blank.slots, row, placements, at)
-    }
-
-    /// Fills in a line whose texts may have more bytes than columns.
-    #[inline(never)]
-    fn append<'a, R: Row<'a>, A: RowPlacements>(
-        &mut self,
-        row: &R,
-        placements: &A,
-        at: &RowLine<'_, 'a>,
-    ) -> bool
-        requires known { IsTemplateOf (R.sheet row.now).columns self.old }
-        requires at { IsRowLine (R.sheet row.now) at.now }
-        requires describes { A.describes placements.now (R.sheet row.now) }
-        ensures blank { self.new.blank ≡ self.old.blank }
-        ensures filled { result ≡ true → IsFilled (R.sheet row.now) at.now.index self.new }
-    {
-        self.line.clear();
-        let Some(()) = append_texts(&mut self.line, &self.blank, row, placements, at) else {
-            return false;
-        };
-        self.appends = self.line.len() != self.blank.text.len();
-        true
-    }
-
-    /// Fills in a line of a row, with its texts at these placements.
+    /// Fills the buffer with a line of a row, with its texts at these placements.
     #[inline(always)]
     fn fill_placed<'a, R: Row<'a>, A: RowPlacements + Drop>(
         &mut self,
         row: &R,
         placements: A,
         at: &RowLine<'_, 'a>,
-    ) -> bool
+    ) -> Option<usize>
         requires known { IsTemplateOf (R.sheet row.now).columns self.old }
         requires at { IsRowLine (R.sheet row.now) at.now }
         requires describes { A.describes placements (R.sheet row.now) }
         ensures blank { self.new.blank ≡ self.old.blank }
-        ensures filled { result ≡ true → IsFilled (R.sheet row.now) at.now.index self.new }
+        ensures filled { IfSome result
+            (IsFilled (R.sheet row.now) at.now.index self.new.buffer.items) }
     {
-        if !self.appends && self.overlay(row, &placements, at) {
-            return true;
+        if !self.appends
+            && let Some(end) = overlay_texts(&mut self.buffer, &self.blank, row, &placements, at)
+        {
+            return Some(end);
         }
-        self.append(row, &placements, at)
+        let end = append_texts(&mut self.buffer, &self.blank, row, &placements, at)?;
+        self.appends = end != self.blank.text.len();
+        Some(end)
     }
 
-    /// Fills in a line of a row, with the style of each text looked up.
-    #[inline(never)]
-    fn fill_styled<'a, R: Row<'a>>(&mut self, row: &R, at: &RowLine<'_, 'a>) -> bool
-        requires known { IsTemplateOf (R.sheet row.now).columns self.old }
-        requires at { IsRowLine (R.sheet row.now) at.now }
-        ensures blank { self.new.blank ≡ self.old.blank }
-        ensures filled { result ≡ true → IsFilled (R.sheet row.now) at.now.index self.new }
-    {
-        self.fill_placed(row, row.styles(), at)
-    }
-
-    /// Fills in a line of a row. Returns whether this succeeded; if not, the line must be written
-    /// without the template.
+    /// Fills the buffer with a line of a row. Returns its length in bytes. `None`: the line must be
+    /// written without the template.
     #[inline(always)]
-    pub fn fill_line<'a, R: Row<'a>>(&mut self, row: &R, at: &RowLine<'_, 'a>) -> bool
+    pub fn fill_line<'a, R: Row<'a>>(&mut self, row: &R, at: &RowLine<'_, 'a>) -> Option<usize>
         requires known { IsTemplateOf (R.sheet row.now).columns self.old }
         requires at { IsRowLine (R.sheet row.now) at.now }
         ensures known { IsTemplateOf (R.sheet row.now).columns self.new }
-        ensures filled { result ≡ true → IsFilled (R.sheet row.now) at.now.index self.new }
+        ensures filled { IfSome result
+            (IsFilled (R.sheet row.now) at.now.index self.new.buffer.items) }
     {
         if at.height != 1 && !at.top {
-            return false;
+            return None;
         }
         match row.placements() {
             KnownPlacements::Cached(cells) => self.fill_placed(row, cells, at),
             KnownPlacements::Uniform(uniform) => self.fill_placed(row, uniform, at),
-            KnownPlacements::Styled => self.fill_styled(row, at),
+            KnownPlacements::Styled => self.fill_placed(row, row.styles(), at),
         }
     }
 
-    pub fn text(&self) -> &str
-        requires { IsUtf8 self.now.line.items }
-        ensures { result.now ≡ self.now.line.items }
+    /// Returns the first `end` bytes of the buffer.
+    pub fn text(&self, end: usize) -> &str
+        requires within { end ≤ length self.now.buffer.items }
+        requires utf8 { IsUtf8 (take end self.now.buffer.items) }
+        ensures { result.now ≡ take end self.now.buffer.items }
     {
-        // Sound: the precondition says that `line` is UTF-8.
-        unsafe { std::str::from_utf8_unchecked(&self.line) }
+        // Sound: the precondition says that these bytes are UTF-8.
+        unsafe { std::str::from_utf8_unchecked(&self.buffer[..end]) }
     }
 }

@@ -1,88 +1,132 @@
-use Rattle.std.proofs.lemmas.Str.{IsUtf8-string_bytes}
-use Rattle.tabled_line.proofs.Names.{ap, arith, length, refl, subst, sym, ◌+◌, ◌<◌, ◌∙◌}
-use Rattle.std.specs.Prelude.{IsUtf8}
-use Rattle.tabled_line.proofs.LaidSlots.{appended-all, appended-rest, appended-utf8, none-appended, slot-is, slot-long, slots-count, text-appended}
+use Rattle.tabled_line.proofs.Names.{IsUtf8, IsUtf8-nil, IsUtf8-string_bytes, ap, arith, drop, eqb-true, length, length-drop, refl}
+use Rattle.tabled_line.proofs.Names.{slice_index_or, string_bytes, subst, sym, take, take_all, ◌++◌, ◌+◌, ◌-◌, ◌∙◌, ◌≡◌}
+use Rattle.tabled_line.proofs.Appended.{blank-appended, line-filled, none-appended, rest-dropped, slot-reached, slots-passed, text-appended}
 use Rattle.tabled_line.proofs.row_template.append_texts.Goals as goal
 
 pub texts-init : goal.texts-init
-texts-init g c = none-appended _ _ _ _ c.requires.empty c.requires.blank.text (IsUtf8-string_bytes c.args.blank.now.text)
+texts-init g c = record {
+  appended = none-appended _ _ _ _ refl c.requires.blank.text IsUtf8-nil (IsUtf8-string_bytes c.args.blank.now.text);
+  left = omega (arith, c.in_ok-spare.ensures, ap length c.as_bytes-bytes.ensures.value);
+}
 
 pub place_text-requires : goal.place_text-requires
-place_text-requires g c = λ κs.
-    let rs = g.R.Row.sheet c.args.row.now in
-    let are = c.as_slice-slots.ensures.value ∙ c.requires.blank.slots in
-    let within : c.texts.column < rs.columns.count = omega (arith, c.texts-test.true, slots-count rs.columns _ are) in
-    let slot = slot-is rs.columns _ c.texts.column are within in
-    ((refl, tt), (c.requires.describes, (within, (ap (λ s. s.width) slot, c.requires.at))))
+place_text-requires g c κs =
+    let slot = slot-reached c.as_slice-slots.result.now c.texts.invariant.appended (c.as_slice-slots.ensures.value ∙ c.requires.blank.slots) (omega (arith, c.texts-test.true)) in
+    ((refl, tt), (c.requires.describes, (slot.within, (slot.width_is, c.requires.at))))
+
+pub texts-preserved-then-placed-eq0 : goal.texts-preserved-then-placed-eq0
+texts-preserved-then-placed-eq0 g c =
+    let a = c.texts.invariant.appended in
+    let slot = slot-reached c.as_slice-slots.result.now a (c.as_slice-slots.ensures.value ∙ c.requires.blank.slots) (omega (arith, c.texts-test.true)) in
+    record {
+      appended = blank-appended a slot.within c.in_ok-placed.ensures
+          (eqb-true (length c.in_ok-placed.placed.text.now) 0 (sym c.is_empty.ensures ∙ c.if-is_empty.true)) c.if-placed-eq0.true;
+      left = c.texts.invariant.left;
+    }
+
+pub overflow_add-spare : goal.overflow_add-spare
+overflow_add-spare g c =
+    let a = c.texts.invariant.appended in
+    let slot = slot-reached c.as_slice-slots.result.now a (c.as_slice-slots.ensures.value ∙ c.requires.blank.slots) (omega (arith, c.texts-test.true)) in
+    omega (arith, slot.after, slot.reach, slot.width_is, c.in_ok-placed.ensures.whole, a.within, c.texts.invariant.left, ap length c.as_bytes-bytes.ensures.value)
 
 pub overflow_add-start : goal.overflow_add-start
 overflow_add-start g c =
-    let rs = g.R.Row.sheet c.args.row.now in
-    let are = c.as_slice-slots.ensures.value ∙ c.requires.blank.slots in
-    let within : c.texts.column < rs.columns.count = omega (arith, c.texts-test.true, slots-count rs.columns _ are) in
-    let slot = slot-is rs.columns _ c.texts.column are within in
-    omega (arith, slot-long c.texts.invariant within, ap length c.as_bytes-bytes.ensures.value, ap (λ s. s.place) slot, c.in_ok-placed.ensures.whole)
+    let a = c.texts.invariant.appended in
+    let slot = slot-reached c.as_slice-slots.result.now a (c.as_slice-slots.ensures.value ∙ c.requires.blank.slots) (omega (arith, c.texts-test.true)) in
+    omega (arith, slot.after, slot.reach, slot.width_is, c.in_ok-placed.ensures.whole, a.within, c.texts.invariant.left, ap length c.as_bytes-bytes.ensures.value)
 
-pub overflow_add-start-in-texts : goal.overflow_add-start-in-texts
-overflow_add-start-in-texts g c =
-    let rs = g.R.Row.sheet c.args.row.now in
-    let are = c.as_slice-slots.ensures.value ∙ c.requires.blank.slots in
-    let within : c.texts.column < rs.columns.count = omega (arith, c.texts-test.true, slots-count rs.columns _ are) in
-    let slot = slot-is rs.columns _ c.texts.column are within in
-    omega (arith, slot-long c.texts.invariant within, ap length c.as_bytes-bytes.ensures.value, ap (λ s. s.place) slot, c.in_ok-placed.ensures.whole)
+pub overflow_sub-count : goal.overflow_sub-count
+overflow_sub-count g c =
+    let a = c.texts.invariant.appended in
+    let slot = slot-reached c.as_slice-slots.result.now a (c.as_slice-slots.ensures.value ∙ c.requires.blank.slots) (omega (arith, c.texts-test.true)) in
+    omega (arith, slot.after, slot.reach, slot.width_is, c.in_ok-placed.ensures.whole, a.within, c.texts.invariant.left)
+
+pub overflow_add-begin : goal.overflow_add-begin
+overflow_add-begin g c =
+    let a = c.texts.invariant.appended in
+    let slot = slot-reached c.as_slice-slots.result.now a (c.as_slice-slots.ensures.value ∙ c.requires.blank.slots) (omega (arith, c.texts-test.true)) in
+    omega (arith, slot.after, slot.reach, slot.width_is, c.in_ok-placed.ensures.whole, a.within, c.texts.invariant.left, ap length c.as_bytes-bytes.ensures.value)
+
+pub copy_part-requires-clause-count : goal.copy_part-requires-clause-count
+copy_part-requires-clause-count g c =
+    let slot = slot-reached c.as_slice-slots.result.now c.texts.invariant.appended (c.as_slice-slots.ensures.value ∙ c.requires.blank.slots) (omega (arith, c.texts-test.true)) in
+    omega (
+      arith,
+      slot.reach,
+      slot.width_is,
+      c.in_ok-placed.ensures.whole,
+      ap length (rest-dropped _ _ c.texts.passed c.as_bytes-bytes.ensures.value),
+      length-drop c.texts.passed (string_bytes c.args.blank.now.text),
+    )
+
+pub copy_at-requires : goal.copy_at-requires
+copy_at-requires g c =
+    let a = c.texts.invariant.appended in
+    let slot = slot-reached c.as_slice-slots.result.now a (c.as_slice-slots.ensures.value ∙ c.requires.blank.slots) (omega (arith, c.texts-test.true)) in
+    omega (
+      arith,
+      slot.after,
+      slot.reach,
+      slot.width_is,
+      c.in_ok-placed.ensures.whole,
+      a.within,
+      c.texts.invariant.left,
+      c.in_ok-spare-2.ensures,
+      c.copy_part.ensures.length,
+      ap length c.as_bytes.ensures.value,
+    )
+
+pub overflow_add-end : goal.overflow_add-end
+overflow_add-end g c =
+    let a = c.texts.invariant.appended in
+    let slot = slot-reached c.as_slice-slots.result.now a (c.as_slice-slots.ensures.value ∙ c.requires.blank.slots) (omega (arith, c.texts-test.true)) in
+    omega (
+      arith,
+      slot.after,
+      slot.reach,
+      slot.width_is,
+      c.in_ok-placed.ensures.whole,
+      a.within,
+      c.texts.invariant.left,
+      c.in_ok-spare-2.ensures,
+      c.copy_part.ensures.length,
+      ap length c.as_bytes.ensures.value,
+    )
 
 pub overflow_add-passed : goal.overflow_add-passed
 overflow_add-passed g c =
-    let rs = g.R.Row.sheet c.args.row.now in
-    let are = c.as_slice-slots.ensures.value ∙ c.requires.blank.slots in
-    let within : c.texts.column < rs.columns.count = omega (arith, c.texts-test.true, slots-count rs.columns _ are) in
-    let slot = slot-is rs.columns _ c.texts.column are within in
-    omega (arith, slot-long c.texts.invariant within, ap length c.as_bytes-bytes.ensures.value, ap (λ s. s.place) slot, c.in_ok-placed.ensures.whole)
-
-pub slice_bounds-append_text-start : goal.slice_bounds-append_text-start
-slice_bounds-append_text-start g c =
-    let rs = g.R.Row.sheet c.args.row.now in
-    let are = c.as_slice-slots.ensures.value ∙ c.requires.blank.slots in
-    let within : c.texts.column < rs.columns.count = omega (arith, c.texts-test.true, slots-count rs.columns _ are) in
-    let slot = slot-is rs.columns _ c.texts.column are within in
-    omega (arith, slot-long c.texts.invariant within, ap length c.as_bytes-bytes.ensures.value, ap (λ s. s.place) slot, c.in_ok-placed.ensures.whole)
-
-pub slice_bounds-append_text-end : goal.slice_bounds-append_text-end
-slice_bounds-append_text-end g c =
-    let rs = g.R.Row.sheet c.args.row.now in
-    let are = c.as_slice-slots.ensures.value ∙ c.requires.blank.slots in
-    let within : c.texts.column < rs.columns.count = omega (arith, c.texts-test.true, slots-count rs.columns _ are) in
-    let slot = slot-is rs.columns _ c.texts.column are within in
-    omega (arith, slot-long c.texts.invariant within, ap length c.as_bytes-bytes.ensures.value, ap (λ s. s.place) slot, c.in_ok-placed.ensures.whole)
-
-pub slice_bounds-append_text-count : goal.slice_bounds-append_text-count
-slice_bounds-append_text-count g c =
-    let rs = g.R.Row.sheet c.args.row.now in
-    let are = c.as_slice-slots.ensures.value ∙ c.requires.blank.slots in
-    let within : c.texts.column < rs.columns.count = omega (arith, c.texts-test.true, slots-count rs.columns _ are) in
-    let slot = slot-is rs.columns _ c.texts.column are within in
-    omega (arith, c.texts.invariant.past, ap (λ s. s.place) slot)
+    let a = c.texts.invariant.appended in
+    let slot = slot-reached c.as_slice-slots.result.now a (c.as_slice-slots.ensures.value ∙ c.requires.blank.slots) (omega (arith, c.texts-test.true)) in
+    omega (arith, slot.after, slot.reach, slot.width_is, c.in_ok-placed.ensures.whole, a.within, c.texts.invariant.left, ap length c.as_bytes-bytes.ensures.value)
 
 pub texts-preserved : goal.texts-preserved
 texts-preserved g c =
-    let rs = g.R.Row.sheet c.args.row.now in
-    let are = c.as_slice-slots.ensures.value ∙ c.requires.blank.slots in
-    let within : c.texts.column < rs.columns.count = omega (arith, c.texts-test.true, slots-count rs.columns _ are) in
-    let slot = slot-is rs.columns _ c.texts.column are within in
-    text-appended _ _ _ c.texts.invariant within c.in_ok-placed.ensures (omega (arith, c.if-slot-eq0.false, ap (λ s. s.width) slot))
-    (ap (λ s. 1 + s.place + c.in_ok-placed.placed.before) slot)
-    c.as_bytes-bytes.ensures.value c.in_ok-append_text.ensures.appended c.append_text.ensures.text
+    let a = c.texts.invariant.appended in
+    let slot = slot-reached c.as_slice-slots.result.now a (c.as_slice-slots.ensures.value ∙ c.requires.blank.slots) (omega (arith, c.texts-test.true)) in
+    let text = c.in_ok-placed.placed.text.now in
+    let start = (slice_index_or c.as_slice-slots.result.now c.texts.column (record { place = 0; width = 0 })).place + c.in_ok-placed.placed.before in
+    let begin = c.texts.end + (start - c.texts.passed) in
+    let front = take begin c.copy_part.new.line in
+    let copied : take (begin + length text) c.copy_at.new.line ≡ front ++ take (length text) text =
+    subst (λ t. take (begin + length t) c.copy_at.new.line ≡ front ++ take (length t) t) c.as_bytes.ensures.value
+    (c.copy_at.ensures.copied (length c.as_bytes.result.now) (omega arith)) in
+    record {
+      appended = text-appended start (take (begin + length text) c.copy_at.new.line) a slot.within c.in_ok-placed.ensures (omega (arith, c.if-slot-eq0.false, slot.width_is))
+          (ap (λ n. n + c.in_ok-placed.placed.before) slot.place_is)
+          (copied ∙ ap (λ u. front ++ u) (take_all (length text) text (omega arith))
+          ∙ ap (λ u. u ++ text) (c.copy_part.ensures.copied
+          ∙ ap (λ u. take c.texts.end c.texts.line ++ take (start - c.texts.passed) u) (rest-dropped _ _ c.texts.passed c.as_bytes-bytes.ensures.value)))
+          (subst IsUtf8 c.as_bytes.ensures.value c.as_bytes.ensures.utf8);
+      left = omega (arith, slot.after, slot.reach, slot.width_is, c.in_ok-placed.ensures.whole, a.within, c.texts.invariant.left, c.in_ok-spare-2.ensures, c.copy_part.ensures.length, c.copy_at.ensures.length);
+    }
 
-pub returns-clause-laid : goal.returns-clause-laid
-returns-clause-laid g c =
-    let are = c.as_slice-slots.ensures.value ∙ c.requires.blank.slots in
-    let past = c.texts-test.false in
-    let upto = c.texts.auto.column-end in
-    let pushed = rw (sym c.in_ok-ok.ensures.variant) at c.extend_from_slice.ensures.items in
-    appended-rest _ _ _ _ _ c.as_bytes-bytes.ensures.value pushed
-    ∙ appended-all c.texts.invariant (omega (arith, past, upto, slots-count (g.R.Row.sheet c.args.row.now).columns _ are))
-
-pub returns-clause-utf8 : goal.returns-clause-utf8
-returns-clause-utf8 g c =
-    let pushed = rw (sym c.in_ok-ok.ensures.variant) at c.extend_from_slice.ensures.items in
-    subst IsUtf8 (sym (appended-rest _ _ _ _ _ c.as_bytes-bytes.ensures.value pushed)) (appended-utf8 c.texts.invariant)
+pub returns : goal.returns
+returns g c =
+    let a = c.texts.invariant.appended in
+    let part = take (length c.as_bytes-bytes.result.now - c.texts.passed) (drop c.texts.passed c.as_bytes-bytes.result.now) in
+    let rest = rest-dropped _ _ c.texts.passed c.as_bytes-bytes.ensures.value in
+    let all = slots-passed (g.R.Row.sheet c.args.row.now).columns c.as_slice-slots.result.now c.texts.column (c.as_slice-slots.ensures.value ∙ c.requires.blank.slots)
+    (let past = c.texts-test.false in let upto = c.texts.auto.column-end in omega (arith, past, upto)) in
+    line-filled c.copy_at-2.new.line part c.texts.end a all rest (c.copy_at-2.ensures.copied (length part) (omega arith))
+    (omega (arith, c.copy_at-2.ensures.length, c.texts.invariant.left, ap length rest, length-drop c.texts.passed (string_bytes c.args.blank.now.text)))

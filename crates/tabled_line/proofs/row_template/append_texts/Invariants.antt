@@ -1,6 +1,10 @@
-use Rattle.std.specs.Prelude.{string_bytes}
-use Rattle.tabled_line.proofs.LaidSlots.{IsAppended}
+use Rattle.tabled_line.proofs.Names.{length, string_bytes, take, ◌+◌, ◌-◌, ◌≡◌}
+use Rattle.tabled_line.proofs.Appended.{IsAppended}
 use Rattle.tabled_line.proofs.row_template.append_texts.Given as goal
 
 abbrev pub invariant-texts : goal.invariant-texts
-invariant-texts g l = IsAppended (g.R.Row.sheet l.row) l.at.index (string_bytes l.blank.text) l.line.items l.passed l.column
+invariant-texts g l =
+    record {
+      appended : IsAppended (g.R.Row.sheet l.row) l.at.index (string_bytes l.blank.text) (take l.end l.line) l.passed l.column;
+      left : l.end + (length (string_bytes l.blank.text) - l.passed) + l.spare ≡ length l.line;
+    }

@@ -1,9 +1,7 @@
-use Rattle.tabled_line.proofs.Names.{List, [], ap, append-nil, append_assoc, arith, cell_piece, fill, has_bar, length, piece, refl, sym}
-use Rattle.tabled_line.proofs.Names.{ℕ, ◌++◌, ◌∙◌, ◌∷◌, ◌≡◌}
-use Rattle.std.proofs.lemmas.Bool.{eqb-true}
+use Rattle.tabled_line.proofs.Names.{ap, append-nil, append_assoc, cell_piece, eqb-true, fill, has_bar, length, piece, refl, sym, ◌++◌, ◌∙◌}
 use Rattle.tabled_line.proofs.Owing.{but-stopped, owes-nothing}
 use Rattle.tabled_line.proofs.Sending.{further, sends-none}
-use Rattle.tabled_line.proofs.Placing.{spaced-parts}
+use Rattle.tabled_line.proofs.Placing.{no-text, spaced-parts}
 use Rattle.tabled_line.proofs.spaced_line.write_next_text.Goals as goal
 
 pub returns-in_err-write_separator-in-Some : goal.returns-in_err-write_separator-in-Some
@@ -14,15 +12,11 @@ returns-in_err-write_separator-in-Some g c =
     (c.in_err-write_separator-in-Some.ensures frame c.requires.bar) c.from_residual.ensures.1
     (spaced-parts (g.R.Row.sheet c.args.row.now) c.args.spaced.now.line.index c.args.column placed c.args.spaced.now.behind c.in-Some.ensures)
 
-empty : (xs : List ℕ) → length xs ≡ 0 → [] ≡ xs
-empty [] h = refl
-empty (x ∷ xs) h = absurd (omega (arith, h))
-
 pub returns-then-is_empty : goal.returns-then-is_empty
 returns-then-is_empty g c =
     let placed = c.in-Some.placed in
     let frame = (g.R.Row.sheet c.args.row.now).columns.frame in
-    let none = empty placed.text.now (eqb-true (length placed.text.now) 0 (sym c.is_empty.ensures ∙ c.if-is_empty.true)) in
+    let none = no-text placed.text.now (eqb-true (length placed.text.now) 0 (sym c.is_empty.ensures ∙ c.if-is_empty.true)) in
     let sent = fill 32 c.args.spaced.now.behind ++ (piece (has_bar frame c.args.column) frame.inner.main ++ fill 32 placed.before) in
     record {
       sent = sent;

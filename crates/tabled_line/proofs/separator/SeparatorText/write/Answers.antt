@@ -1,7 +1,7 @@
-use Rattle.tabled_line.proofs.Names.{IsCharBoundary, IsCharBoundary-after_ascii, IsCharBoundary-before_ascii, ap, append_assoc, arith}
-use Rattle.tabled_line.proofs.Names.{cases_lt, fill, get_or, inl, inr, length, lit<, piece, refl, separator_text, slice_range, subst, sym}
-use Rattle.tabled_line.proofs.Names.{◌++◌, ◌+◌, ◌-◌, ◌<◌, ◌∙◌, ◌≡◌, ◌≤◌}
-use Rattle.std.proofs.lemmas.Str.{IsCharBoundary-end, IsUtf8-from_is_utf8}
+use Rattle.tabled_line.proofs.Names.{IsCharBoundary, IsCharBoundary-after_ascii, IsCharBoundary-before_ascii, IsUtf8-from_is_utf8, ap}
+use Rattle.tabled_line.proofs.Names.{append_assoc, arith, cases_lt, fill, get_or, inl, inr, length, lit<, piece, refl, separator_text}
+use Rattle.tabled_line.proofs.Names.{slice_range, subst, sym, ◌++◌, ◌+◌, ◌-◌, ◌<◌, ◌∙◌, ◌≡◌, ◌≤◌}
+use Rattle.std.proofs.lemmas.Str.{IsCharBoundary-end}
 use Rattle.tabled_line.proofs.Fills.{fill-first_bytes}
 use Rattle.tabled_line.proofs.SeparatorTexts.{separator-last_bytes, separator-length, separator-part, separator-parts}
 use Rattle.tabled_line.proofs.Sending.{finished, further, stopped, stopped-first}

@@ -1,4 +1,4 @@
-use Rattle.std.proofs.lemmas.Str.{IsUtf8-from_is_utf8}
+use Rattle.tabled_line.proofs.Names.{IsUtf8-from_is_utf8}
 use Rattle.tabled_line.proofs.text_sink.FixedBuffer.text.Goals as goal
 
 pub from_utf8_unchecked-requires : goal.from_utf8_unchecked-requires

@@ -1,7 +1,7 @@
 use Rattle.std.proofs.lemmas.Slice.{take-put_mid}
-use Rattle.std.proofs.lemmas.Str.{IsUtf8-from_is_utf8, is_utf8-from_IsUtf8}
 use Rattle.std.specs.Str.{is_utf8}
-use Rattle.tabled_line.proofs.Names.{IsUtf8-append, ap, arith, length, rules, subst, sym, take, true, ◌++◌, ◌+◌, ◌∙◌, ◌≡◌}
+use Rattle.tabled_line.proofs.Names.{IsUtf8-append, IsUtf8-from_is_utf8, ap, arith, is_utf8-from_IsUtf8, length, rules, subst, sym, take}
+use Rattle.tabled_line.proofs.Names.{true, ◌++◌, ◌+◌, ◌∙◌, ◌≡◌}
 use Rattle.tabled_line.proofs.text_sink.FixedBufferTextSink.write_text.Goals as goal
 
 pub invariant_of-self-clause-utf8 : goal.invariant_of-self-clause-utf8
