@@ -1,21 +1,13 @@
 -- The styles and placements of all columns, cached for rows with the same settings.
-use Rattle.std.specs.Prelude.{◌≡◌, ℕ, List, Option, IfSome, map, take, true}
+use Rattle.std.specs.Prelude.{◌≡◌, ℕ, List, Option, IfSome, map, true}
 use Rattle.std.specs.List.{range_with_len, slice_index}
 use Rattle.tabled_config.specs.Settings.{frame, style_at}
 use Rattle.tabled_config.specs.declared.spanned.CellStyle.{CellStyle}
 use Rattle.tabled_config.specs.declared.spanned.SpannedConfig.{SpannedConfig}
-use Rattle.tabled_grid.specs.declared.column_styles.ColumnPlacements.{ColumnPlacements}
-use Rattle.tabled_grid.specs.declared.column_styles.ColumnPlacements.TheVariants.{Each, Few}
 use Rattle.tabled_grid.specs.declared.column_styles.ColumnStyles.{ColumnStyles}
 use Rattle.tabled_line.specs.Placements.{ArePlacements}
 use Rattle.tabled_line.specs.Row.{ColumnSheet}
-use Rattle.tabled_line.specs.declared.placement.Placement.{Placement}
 use Rattle.tabled_size.specs.Reached.{reached}
-
--- the placements, in an array or allocated
-abbrev pub placements_of : ColumnPlacements → List Placement
-placements_of (Few placements count) = take count placements
-placements_of (Each placements) = placements.items
 
 -- columns of some widths, in the frame of a configuration
 abbrev pub columns_in : SpannedConfig → (ℕ → ℕ) → ℕ → ColumnSheet
@@ -34,5 +26,5 @@ styles_of config row columns = map (style_at config row) (range_with_len 0 colum
 pub record AreStyles (config : SpannedConfig) (width : ℕ → ℕ) (columns : ℕ) (kept : ColumnStyles) : Type 0 where
   pub styles : IfSome kept.styles (λ styles. styles.items ≡ styles_of config kept.row columns)
   pub placements : IfSome kept.placements
-      (λ placements. ArePlacements (style_at config kept.row) (columns_in config width columns) (placements_of placements))
+      (λ placements. ArePlacements (style_at config kept.row) (columns_in config width columns) placements.now)
   pub everywhere : kept.everywhere ≡ true → (row column : ℕ) → style_at config row column ≡ style_at config kept.row column

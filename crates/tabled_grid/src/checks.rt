@@ -13,6 +13,7 @@ ghost use Rattle.tabled_grid.specs.Narrow.{IsHeldIn, IsNarrow, IsNarrowIn};
 ghost use Rattle.tabled_grid.specs.Picture.{columns_of};
 ghost use Rattle.tabled_grid.specs.Printed.{IsInRange, IsFailure};
 
+use crate::column_styles::placement_buffer;
 use crate::grid::Grid;
 use tabled_base::{PeekableRecords, Position, TableError};
 use tabled_config::{Indent, Sides, SpannedConfig};
@@ -157,7 +158,7 @@ pub(crate) fn check_totals<R: PeekableRecords, D: Dimension>(
 /// complete and hold all cells. `ShortWidths`, `ShortHeights`: the stored list is too short.
 /// `Narrow`: the first cell that doesn't fit a stored width.
 ///
-/// Not inlined: the grid takes 8 KB of stack, which would be cleared for each table.
+/// Not inlined: the stack that the grid takes would be cleared for each table.
 #[inline(never)]
 pub(crate) fn check_stored<R: PeekableRecords>(
     records: &R,
@@ -171,7 +172,8 @@ pub(crate) fn check_stored<R: PeekableRecords>(
     match stored.get_widths() {
         Some(_) => {
             check_widths(stored, records.count_columns())?;
-            check_narrow(&Grid::new(records, config, stored, None))
+            let mut buffer = placement_buffer(stored.allocator(), records, config);
+            check_narrow(&Grid::new(records, config, stored, None, &mut buffer))
         }
         None => match stored.get_heights() {
             Some(_) => check_heights(stored, records.count_rows()),

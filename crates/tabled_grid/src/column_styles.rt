@@ -3,12 +3,12 @@
 ghost use Rattle.std.specs.List.{slice_index};
 ghost use Rattle.std.specs.Prelude.{IfSome, length, true, ℕ, ◌≡◌, ◌≤◌};
 ghost use Rattle.tabled_config.specs.Settings.{style_at};
-ghost use Rattle.tabled_grid.specs.ColumnStyles.{AreStyles, columns_by, columns_in, placements_of};
-ghost use Rattle.tabled_grid.specs.ColumnStyles.{styles_of};
+ghost use Rattle.tabled_grid.specs.ColumnStyles.{AreStyles, columns_by, columns_in, styles_of};
 ghost use Rattle.tabled_line.specs.Placements.{ArePlacements};
 ghost use Rattle.tabled_size.specs.Reached.{reached};
 
 use std::alloc::Global;
+use tabled_base::PeekableRecords;
 use tabled_config::{AlignmentHorizontal, CellStyle, SpannedConfig};
 use tabled_line::{Placement, UniformPlacement};
 use tabled_size::{Dimension, check_widths};
@@ -18,6 +18,41 @@ const MOST_COLUMNS: usize = 65_536;
 
 /// Nothing is cached for a table with fewer rows, which would gain too little.
 const FEWEST_ROWS: usize = 4;
+
+/// A placeholder that buffers are filled with.
+pub(crate) const NO_PLACEMENT: Placement = Placement {
+    before: 0,
+    content_width: 0,
+    horizontal: AlignmentHorizontal::Left,
+};
+
+/// Returns how many placements a table caches: one for each column, or none if there are more than
+/// `most`. Without settings for columns, most rows have one style that is looked up directly.
+pub(crate) fn count_kept<R: PeekableRecords>(
+    records: &R,
+    config: &SpannedConfig,
+    most: usize,
+) -> usize
+    ensures { result ≤ most }
+{
+    let rows = records.count_rows();
+    let columns = records.count_columns();
+    if rows < FEWEST_ROWS || columns > most || config.row_style(rows).is_some() {
+        return 0;
+    }
+    columns
+}
+
+/// Returns a buffer for the cached placements, which is empty if the allocation failed.
+pub(crate) fn placement_buffer<R: PeekableRecords>(
+    alloc: Global,
+    records: &R,
+    config: &SpannedConfig,
+) -> Vec<Placement> {
+    let mut buffer = Vec::new(alloc);
+    let _ = buffer.resize(count_kept(records, config, MOST_COLUMNS), NO_PLACEMENT);
+    buffer
+}
 
 /// Returns the styles of a row of `columns` cells, if they can be allocated.
 fn styles_in(
@@ -37,39 +72,36 @@ fn styles_in(
 
 /// The styles of one row's cells, which hold for every row with the same settings.
 #[derive(Drop)]
-pub(crate) struct ColumnStyles {
+pub(crate) struct ColumnStyles<'a> {
     row: usize,
     // Whether all rows are known to have these settings.
     everywhere: bool,
     // Cached only with an allocator.
     styles: Option<Vec<CellStyle>>,
     // The placements, if each text is known to have one.
-    placements: Option<ColumnPlacements>,
+    placements: Option<&'a [Placement]>,
 }
 
-impl ColumnStyles {
-    /// Caches the styles of the row at index `rows`, after the last one. `None` if there are too
-    /// few rows or too many columns. An allocation failure changes what is cached, not what is
-    /// printed.
-    pub fn if_kept<D: Dimension>(
+impl<'a> ColumnStyles<'a> {
+    /// Caches the styles of the row at index `row`, which is after the last one, and its placements
+    /// in a buffer with one for each column. An allocation failure changes what is cached, not what
+    /// is printed.
+    pub fn new<D: Dimension>(
         memory: Option<Global>,
         config: &SpannedConfig,
         dimension: &D,
-        rows: usize,
-        columns: usize,
-    ) -> Option<ColumnStyles>
-        ensures { IfSome result (AreStyles config.now
-            (slice_index (reached (D.width_at dimension.now) columns)) columns) }
+        row: usize,
+        buffer: &'a mut [Placement],
+    ) -> ColumnStyles<'a>
+        ensures { let columns = length buffer.old in AreStyles config.now
+            (slice_index (reached (D.width_at dimension.now) columns)) columns result }
     {
-        if rows < FEWEST_ROWS || columns > MOST_COLUMNS {
-            return None;
-        }
-        Some(ColumnStyles {
-            row: rows,
+        ColumnStyles {
+            row,
             everywhere: config.are_all_alike(),
-            styles: styles_in(memory, config, rows, columns),
-            placements: ColumnPlacements::new(memory, config, dimension, rows, columns),
-        })
+            styles: styles_in(memory, config, row, buffer.len()),
+            placements: placements_in(buffer, config, dimension, row),
+        }
     }
 
     #[inline(always)]
@@ -101,21 +133,11 @@ impl ColumnStyles {
             (columns_in config.now width columns) placements.now) }
     {
         match &self.placements {
-            Some(placements) if self.is_set_in(config, row) => Some(placements.listed()),
+            Some(placements) if self.is_set_in(config, row) => Some(*placements),
             _ => None,
         }
     }
 }
-
-/// The greatest number of columns whose placements are in an array.
-const FEW_COLUMNS: usize = 128;
-
-/// A placeholder that arrays are filled with.
-const NO_PLACEMENT: Placement = Placement {
-    before: 0,
-    content_width: 0,
-    horizontal: AlignmentHorizontal::Left,
-};
 
 /// Computes the placements of a row. `None` if a text has no placement.
 fn list_placements<D: Dimension>(
@@ -138,46 +160,18 @@ fn list_placements<D: Dimension>(
     Some(())
 }
 
-/// The placements of all columns.
-#[derive(Drop)]
-pub(crate) enum ColumnPlacements {
-    /// Those of the first columns in an array, and the number of columns.
-    Few([Placement; FEW_COLUMNS], usize),
-    Each(Vec<Placement>),
-}
-
-impl ColumnPlacements {
-    /// Returns the placements of a row of `columns` cells. `None` if a width is missing, a text has
-    /// no placement, or there are more than `FEW_COLUMNS` columns and memory for them can't be
-    /// allocated.
-    pub fn new<D: Dimension>(
-        memory: Option<Global>,
-        config: &SpannedConfig,
-        dimension: &D,
-        row: usize,
-        columns: usize,
-    ) -> Option<ColumnPlacements>
-        ensures { IfSome result (λ kept. ArePlacements (style_at config.now row)
-            (columns_by config.now (D.width_at dimension.now) columns) (placements_of kept)) }
-    {
-        check_widths(dimension, columns).ok()?;
-        if columns <= FEW_COLUMNS {
-            let mut placements = [NO_PLACEMENT; FEW_COLUMNS];
-            list_placements(&mut placements[..columns], config, dimension, row)?;
-            return Some(ColumnPlacements::Few(placements, columns));
-        }
-        let mut placements = vec![in memory?; NO_PLACEMENT; columns].ok()?;
-        list_placements(&mut placements, config, dimension, row)?;
-        Some(ColumnPlacements::Each(placements))
-    }
-
-    #[tactic(auto, using(std::proofs::lemmas::List::take_all))]
-    pub fn listed(&self) -> &[Placement]
-        ensures { result.now ≡ placements_of self.now }
-    {
-        match self {
-            ColumnPlacements::Few(few, count) => few.get(..*count).unwrap_or(few),
-            ColumnPlacements::Each(placements) => placements.as_slice(),
-        }
-    }
+/// Computes the placements of a row in a buffer with one for each column. `None` if a width is
+/// missing or a text has no placement.
+fn placements_in<'a, D: Dimension>(
+    buffer: &'a mut [Placement],
+    config: &SpannedConfig,
+    dimension: &D,
+    row: usize,
+) -> Option<&'a [Placement]>
+    ensures { IfSome result (λ placements. ArePlacements (style_at config.now row)
+        (columns_by config.now (D.width_at dimension.now) (length buffer.old)) placements.now) }
+{
+    check_widths(dimension, buffer.len()).ok()?;
+    list_placements(buffer, config, dimension, row)?;
+    Some(buffer)
 }

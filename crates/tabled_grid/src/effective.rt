@@ -12,6 +12,7 @@ ghost use Rattle.tabled_grid.specs.Printed.{IsFailure, Prints};
 ghost use Rattle.tabled_line.specs.Sent.{Sent};
 
 use crate::checks::check_stored;
+use crate::column_styles::placement_buffer;
 use crate::grid::Grid;
 use crate::print::{print_checked, print_grid};
 use std::alloc::Global;
@@ -77,8 +78,8 @@ fn complete<R: PeekableRecords>(
     Ok(sizes)
 }
 
-/// Prints records with sizes that aren't all stored. The sizes and the cursors take 17 KB of stack,
-/// which `print_grid` doesn't need, so this is a separate function.
+/// Prints records with sizes that aren't all stored. These take stack that `print_grid` doesn't need,
+/// so this is a separate function.
 #[inline(never)]
 fn print_completed<R: PeekableRecords, S: TextSink>(
     sink: &mut S,
@@ -93,7 +94,8 @@ fn print_completed<R: PeekableRecords, S: TextSink>(
 {
     let sizes = complete(records, config, stored)?;
     let memory = Some(sizes.allocator());
-    let grid = Grid::new(records, config, &sizes, memory);
+    let mut buffer = placement_buffer(sizes.allocator(), records, config);
+    let grid = Grid::new(records, config, &sizes, memory, &mut buffer);
     print_checked(memory, sink, &grid)
 }
 

@@ -41,7 +41,7 @@ pub(crate) struct Grid<'a, R: PeekableRecords, D: Dimension> {
     pub uniform: Option<UniformPlacement>,
     // The style of all cells, if nothing was set for a part of the table.
     shared: Option<CellStyle>,
-    by_column: Option<ColumnStyles>,
+    by_column: Option<ColumnStyles<'a>>,
 }
 
 impl<'a, R: PeekableRecords, D: Dimension> Model for Grid<'a, R, D> {
@@ -61,12 +61,14 @@ impl<'a, R: PeekableRecords, D: Dimension> Model for Grid<'a, R, D> {
 }
 
 impl<'a, R: PeekableRecords, D: Dimension> Grid<'a, R, D> {
-    /// Borrows records, settings and sizes, and looks up what all rows share.
+    /// Borrows records, settings and sizes, and looks up what all rows share. `buffer` is for
+    /// cached placements, one for each column; nothing is cached for columns in one of another size.
     pub fn new(
         records: &'a R,
         config: &'a SpannedConfig,
         dimension: &'a D,
         memory: Option<Global>,
+        buffer: &'a mut [Placement],
     ) -> Grid<'a, R, D>
         ensures { result ≡ sheet_by (R.cells records.now) config.now (D.width_at dimension.now)
             (D.height_at dimension.now) }
@@ -74,10 +76,10 @@ impl<'a, R: PeekableRecords, D: Dimension> Grid<'a, R, D> {
         let around = config.frame();
         let rows = records.count_rows();
         let shared = config.shared_style();
-        // Without settings for columns, most rows have one style that is looked up directly.
-        let by_column = match config.row_style(rows) {
-            Some(_) => None,
-            None => ColumnStyles::if_kept(memory, config, dimension, rows, records.count_columns()),
+        let by_column = if buffer.len() == records.count_columns() {
+            Some(ColumnStyles::new(memory, config, dimension, rows, buffer))
+        } else {
+            None
         };
         Grid {
             records,

@@ -8,12 +8,25 @@ ghost use Rattle.tabled_line.specs.Sent.{Sent, Writes};
 ghost use Rattle.tabled_size.specs.Holds.{IsSized};
 
 use crate::checks::{check_narrow, check_sizes, check_totals};
+use crate::column_styles::{NO_PLACEMENT, count_kept};
 use crate::grid::{Grid, GridColumns, GridRow};
 use std::alloc::Global;
 use tabled_base::{PeekableRecords, TableError};
 use tabled_config::SpannedConfig;
-use tabled_line::{Cursor, FEW_CURSORS, LinePrinter, MANY_CURSORS, Row, TextSink};
+use tabled_line::{Cursor, LinePrinter, Row, TextSink};
 use tabled_size::{Dimension, is_empty};
+
+/// The number of cursors on the stack for tables of at most this many columns.
+const FEW_CURSORS: usize = 8;
+
+/// The number of cursors on the stack for wider tables that don't allocate.
+const SOME_CURSORS: usize = 64;
+
+/// The most cursors on the stack. Columns after these have none, unless they are allocated.
+const MANY_CURSORS: usize = 1_024;
+
+/// The most columns whose placements are cached without allocation.
+const FEW_PLACEMENTS: usize = 128;
 
 /// Writes the lines of a table, joined by line feeds. Margins are `whole` columns wide. The cursors
 /// are for the first columns, in any state.
@@ -38,8 +51,22 @@ pub(crate) fn write_picture<'a, R: PeekableRecords, D: Dimension, S: TextSink>(
     lines.write_margin(sink, margin.bottom, whole)
 }
 
-/// Writes a picture with cursors for many columns. They take 56 KiB of stack, which other calls
+/// Writes a picture with cursors for some columns. They are cleared on the stack, which other calls
 /// don't need, so this is a separate function.
+#[inline(never)]
+fn write_with_some_cursors<'a, R: PeekableRecords, D: Dimension, S: TextSink>(
+    sink: &mut S,
+    grid: &'a Grid<'a, R, D>,
+    whole: usize,
+) -> Result<(), TableError>
+    requires { IsSized grid.now }
+    ensures { Writes (S.sent sink.old) result (S.sent sink.new)
+        (join_with_byte 10 (filled_picture grid.now whole)) }
+{
+    write_picture(sink, grid, &mut [Cursor::nowhere(); SOME_CURSORS], whole)
+}
+
+/// Writes a picture with cursors for many columns, which take 72 KiB of stack.
 #[inline(never)]
 fn write_with_many_cursors<'a, R: PeekableRecords, D: Dimension, S: TextSink>(
     sink: &mut S,
@@ -65,9 +92,9 @@ fn has_tall_row<'a, R: PeekableRecords, D: Dimension>(grid: &'a Grid<'a, R, D>) 
     false
 }
 
-/// Prints a table whose sizes hold its cells. With an allocator, each column has a cursor if a row
-/// has several lines: they are allocated for more than `MANY_CURSORS` columns. `Range`: a total
-/// passes `usize::MAX`; nothing is written.
+/// Prints a table whose sizes hold its cells. With an allocator, more than `FEW_CURSORS` cursors are
+/// allocated: one for each column, or none if there are more than `MANY_CURSORS` columns and each
+/// row has one line. `Range`: a total passes `usize::MAX`; nothing is written.
 #[tactic(auto, unfolding(crate::specs::Picture::picture))]
 pub(crate) fn print_checked<'a, R: PeekableRecords, D: Dimension, S: TextSink>(
     memory: Option<Global>,
@@ -77,22 +104,20 @@ pub(crate) fn print_checked<'a, R: PeekableRecords, D: Dimension, S: TextSink>(
     requires { IsChecked grid.now }
     ensures { Prints (is_some memory) grid.now (S.sent sink.old) result (S.sent sink.new) }
 {
-    let total_width = check_totals(grid)?;
+    let whole = check_totals(grid)?;
     let columns = grid.records.count_columns();
     if columns <= FEW_CURSORS {
-        return write_picture(
-            sink,
-            grid,
-            &mut [Cursor::nowhere(); FEW_CURSORS],
-            total_width,
-        );
+        return write_picture(sink, grid, &mut [Cursor::nowhere(); FEW_CURSORS], whole);
     }
     match memory {
-        Some(alloc) if columns > MANY_CURSORS && has_tall_row(grid) => {
-            let mut cursors = vec![in alloc; Cursor::nowhere(); columns]?;
-            write_picture(sink, grid, &mut cursors, total_width)
+        Some(alloc) => {
+            let are_used = columns <= MANY_CURSORS || has_tall_row(grid);
+            let count = if are_used { columns } else { 0 };
+            let mut cursors = vec![in alloc; Cursor::nowhere(); count]?;
+            write_picture(sink, grid, &mut cursors, whole)
         }
-        _ => write_with_many_cursors(sink, grid, total_width),
+        None if columns <= SOME_CURSORS => write_with_some_cursors(sink, grid, whole),
+        None => write_with_many_cursors(sink, grid, whole),
     }
 }
 
@@ -119,7 +144,9 @@ pub fn print_grid<R: PeekableRecords, D: Dimension, S: TextSink>(
     if is_empty(records) {
         return Ok(());
     }
-    let grid = Grid::new(records, config, dimension, None);
+    let mut buffer = [NO_PLACEMENT; FEW_PLACEMENTS];
+    let count = count_kept(records, config, FEW_PLACEMENTS);
+    let grid = Grid::new(records, config, dimension, None, &mut buffer[..count]);
     check_sizes(&grid)?;
     check_narrow(&grid)?;
     print_checked(None, sink, &grid)
