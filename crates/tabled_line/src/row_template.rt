@@ -22,7 +22,7 @@ const MOST_COLUMNS: usize = 65_536;
 
 /// The bytes of the buffer for each byte of the blank row. A longer line is written without the
 /// template.
-const BYTES_PER_COLUMN: usize = 16;
+const BYTES_PER_COLUMN: usize = 4;
 
 /// Whether the columns and the side margins are short enough for a template. This decides what is
 /// cached, not what is printed.
@@ -268,6 +268,19 @@ impl RowTemplate {
         Some(end)
     }
 
+    /// Fills the buffer with a line of a row, with the style of each text looked up. Not inlined, so
+    /// that the calls for other placements are.
+    #[inline(never)]
+    fn fill_styled<'a, R: Row<'a>>(&mut self, row: &R, at: &RowLine<'_, 'a>) -> Option<usize>
+        requires known { IsTemplateOf (R.sheet row.now).columns self.old }
+        requires at { IsRowLine (R.sheet row.now) at.now }
+        ensures blank { self.new.blank ≡ self.old.blank }
+        ensures filled { IfSome result
+            (IsFilled (R.sheet row.now) at.now.index self.new.buffer.items) }
+    {
+        self.fill_placed(row, row.styles(), at)
+    }
+
     /// Fills the buffer with a line of a row. Returns its length in bytes. `None`: the line must be
     /// written without the template.
     #[inline(always)]
@@ -284,7 +297,7 @@ impl RowTemplate {
         match row.placements() {
             KnownPlacements::Cached(cells) => self.fill_placed(row, cells, at),
             KnownPlacements::Uniform(uniform) => self.fill_placed(row, uniform, at),
-            KnownPlacements::Styled => self.fill_placed(row, row.styles(), at),
+            KnownPlacements::Styled => self.fill_styled(row, at),
         }
     }
 
