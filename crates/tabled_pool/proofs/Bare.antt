@@ -1,27 +1,26 @@
 -- Without colours nothing stands around a character.
 use Rattle.tabled_pool.proofs.Names.{AreNoMarks, Around, Before, Behind, Bool, DrawingPlan, List, Mark, None, Option, Outside, Part}
-use Rattle.tabled_pool.proofs.Names.{Rectangle, RunSide, Some, [], across, ap, around_at, around_part, around_text, beside, cond, false}
-use Rattle.tabled_pool.proofs.Names.{has_left, has_top, is_last_row, is_line_kind, no_mark, nothing_around, refl, run_side, subst, sym}
-use Rattle.tabled_pool.proofs.Names.{true, unwrap_or, ℕ, ◌+◌, ◌==◌, ◌∷◌, ◌≡◌}
-use Rattle.tabled_pool.specs.Marks.{alone, begun, ended, used_after}
-use Rattle.tabled_pool.specs.Colours.{is_same}
+use Rattle.tabled_pool.proofs.Names.{Rectangle, RunSide, Some, [], across, ap, around_at, around_part, around_text, beside, cond, has_left}
+use Rattle.tabled_pool.proofs.Names.{has_top, is_last_row, is_line_kind, nothing_around, refl, run_side, subst, sym, unwrap_or, ℕ, ◌+◌}
+use Rattle.tabled_pool.proofs.Names.{◌==◌, ◌∙◌, ◌∷◌, ◌≡◌}
+use Rattle.std.proofs.lemmas.Bool.{cond_both}
+use Rattle.tabled_pool.specs.Colours.{alone, begun, ended, used_after, is_same, IsNoMark}
 use Rattle.tabled_pool.specs.declared.color_marks.RunSide.TheVariants.{Inside}
 use Rattle.tabled_pool.specs.Around.{is_last_column, main_around, right_around, used_main, written_corner}
-use Rattle.tabled_pool.specs.Uncoloured.{IsNoMark}
 
 -- ---- empty colours
+
+abbrev Nothing : Around → Type 0
+Nothing a = a ≡ nothing_around
 
 begun-none : (used mark : Option Mark) → IsNoMark used → IsNoMark mark → begun used mark ≡ nothing_around
 begun-none None None u m = refl
 begun-none (Some v) None u m = refl
-begun-none None (Some k) u m = subst (λ (j : Mark). begun None (Some j) ≡ nothing_around) (sym m) refl
+begun-none None (Some k) u m = ap (λ (j : Mark). begun None (Some j)) m
 begun-none (Some v) (Some k) u m =
-    subst (λ (j : Mark). begun (Some v) (Some j) ≡ nothing_around) (sym m)
-    (subst (λ (j : Mark). begun (Some j) (Some no_mark) ≡ nothing_around) (sym u)
-    (elim (is_same no_mark no_mark) as (λ b. cond b nothing_around nothing_around ≡ nothing_around) [
-      | true ↦ refl
-      | false ↦ refl
-    ]))
+    cond_both (is_same v k) nothing_around _ Nothing (λ _. refl)
+    (λ _. ap (λ (j : Mark). record { close = j.suffix; start = k.prefix; behind = [] }) u
+    ∙ ap (λ (j : Mark). record { close = []; start = j.prefix; behind = [] }) m)
 
 ended-none : (mark : Option Mark) → IsNoMark mark → ended mark ≡ []
 ended-none None h = refl
@@ -36,35 +35,26 @@ used-none None mark u m = m
 used-none (Some v) mark u m = u
 
 corner-none : (t : DrawingPlan) (mark : Option Mark) → IsNoMark mark → IsNoMark (written_corner t mark)
-corner-none t mark h = elim (has_left t.borders) as (λ b. IsNoMark (cond b mark None)) [ true ↦ h | false ↦ refl ]
+corner-none t mark h = cond_both (has_left t.borders) mark None IsNoMark (λ _. h) (λ _. refl)
 
 main-none : (t : DrawingPlan) (corner main : Option Mark) → IsNoMark corner → IsNoMark main → IsNoMark (used_main t corner main)
 main-none t corner main c m = used-none (written_corner t corner) main (corner-none t corner c) m
 
 -- ---- around a text
 
-if-nothing : (b : Bool) (a : Around) → a ≡ nothing_around → cond b a nothing_around ≡ nothing_around
-if-nothing true a h = h
-if-nothing false a h = refl
-
-if-nil : (b c : Bool) (l : List ℕ) → l ≡ [] → cond b [] (cond c l []) ≡ []
-if-nil true c l h = refl
-if-nil false true l h = h
-if-nil false false l h = refl
-
 behind-nothing : (a : Around) (l : List ℕ) → a ≡ nothing_around → l ≡ [] → record a { behind = l } ≡ nothing_around
 behind-nothing a l e h =
-    subst (λ (b : Around). record b { behind = l } ≡ nothing_around) (sym e)
-    (subst (λ (m : List ℕ). record nothing_around { behind = m } ≡ nothing_around) (sym h) refl)
+    ap (λ (b : Around). record b { behind = l }) e ∙ ap (λ (m : List ℕ). record nothing_around { behind = m }) h
 
 main-bare : (t : DrawingPlan) (corner main : Option Mark) (r : Rectangle) (x : ℕ) → IsNoMark corner → IsNoMark main
     → main_around t corner main r x ≡ nothing_around
 main-bare t corner main r x c m =
+    let P : List ℕ → Type 0 = λ l. l ≡ [] in
+    let end = ended (used_main t corner main) in
     behind-nothing _ _
-    (if-nothing (x == r.x) (begun (written_corner t corner) main)
-    (begun-none (written_corner t corner) main (corner-none t corner c) m))
-    (if-nil (is_last_column t r) (r.x + r.width == x + 1) (ended (used_main t corner main))
-    (ended-none (used_main t corner main) (main-none t corner main c m)))
+    (cond_both (x == r.x) _ nothing_around Nothing (λ _. begun-none (written_corner t corner) main (corner-none t corner c) m) (λ _. refl))
+    (cond_both (is_last_column t r) [] _ P (λ _. refl)
+    (λ _. cond_both (r.x + r.width == x + 1) end [] P (λ _. ended-none (used_main t corner main) (main-none t corner main c m)) (λ _. refl)))
 
 right-bare : (t : DrawingPlan) (corner main right : Option Mark) → IsNoMark corner → IsNoMark main → IsNoMark right
     → right_around t corner main right ≡ nothing_around
@@ -77,8 +67,7 @@ abbrev IsZeroWidth : Option Around → Type 0
 IsZeroWidth a = unwrap_or a nothing_around ≡ nothing_around
 
 if-bare : (b : Bool) (a : Option Around) → IsZeroWidth a → IsZeroWidth (cond b a None)
-if-bare true a h = h
-if-bare false a h = refl
+if-bare b a h = cond_both b a None IsZeroWidth (λ _. h) (λ _. refl)
 
 across-bare : (t : DrawingPlan) (corner main right : Option Mark) (r : Rectangle) (s : RunSide) (x : ℕ) → IsNoMark corner → IsNoMark main → IsNoMark right
     → IsZeroWidth (across t corner main right r s x)
@@ -107,10 +96,6 @@ text-bare t r Outside x h = refl
 
 -- ---- at a place
 
-none-bare : (b : Bool) (a : Option Around) → IsZeroWidth a → IsZeroWidth (cond b None a)
-none-bare true a h = refl
-none-bare false a h = h
-
 first-bare : (a : Option Around) (rest : Around) → IsZeroWidth a → rest ≡ nothing_around → unwrap_or a rest ≡ nothing_around
 first-bare None rest h e = e
 first-bare (Some a) rest h e = h
@@ -119,8 +104,8 @@ at-bare : (t : DrawingPlan) (ps : List Part) (x y : ℕ) → AreNoMarks t.line_m
 at-bare t [] x y h = refl
 at-bare t (p ∷ ps) x y h =
     first-bare (around_part t p x y) (around_at t ps x y)
-    (none-bare (is_line_kind p.kind) (around_text t p.place (run_side p.place.y p.place.height y) x)
-    (text-bare t p.place (run_side p.place.y p.place.height y) x h)) (at-bare t ps x y h)
+    (cond_both (is_line_kind p.kind) None (around_text t p.place (run_side p.place.y p.place.height y) x) IsZeroWidth (λ _. refl)
+    (λ _. text-bare t p.place (run_side p.place.y p.place.height y) x h)) (at-bare t ps x y h)
 
 pub around-bare : (t : DrawingPlan) → AreNoMarks t.line_marks → (x y : ℕ) → around_at t t.parts x y ≡ nothing_around
 around-bare t h x y = at-bare t t.parts x y h

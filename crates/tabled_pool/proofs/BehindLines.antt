@@ -1,14 +1,14 @@
 -- Each text of a framed tree stands behind a line, where one stands between boxes side by side and at the left.
-use Rattle.tabled_pool.proofs.Names.{Across, Bar, Box, BoxSpacing, Cell, Column, Direction, Down, Leaf, List, None, Option, Part, Rectangle}
-use Rattle.tabled_pool.proofs.Names.{Row, Rule, Sides, Some, TableValue, Tiles, [], ap, arith, bottom_part, box_of, box_step, covering}
-use Rattle.tabled_pool.proofs.Names.{fold-roll-TableValue, framed, given_size, ind-TableValue, inl, inr, is_border_before, is_line}
-use Rattle.tabled_pool.proofs.Names.{is_line_kind, joined_box, leaf_box, left_part, length, list_box, map, map-TableValue, needed_by, owner}
-use Rattle.tabled_pool.proofs.Names.{part_of, refl, right_part, roll-TableValue, string_bytes, subst, suc, sym, top_part, true, within}
-use Rattle.tabled_pool.proofs.Names.{zero, ℕ, ⊎_elim, ◌++◌, ◌+◌, ◌-◌, ◌<◌, ◌∙◌, ◌∷◌, ◌≡◌, ◌≤◌, ◌⊎◌}
-use Rattle.tabled_pool.proofs.Framing.{tree_framed_tiles}
+use Rattle.tabled_pool.proofs.Names.{Across, Bar, Box, BoxSpacing, Direction, Down, IsUtf8, IsUtf8-nil, Leaf, List, None, Option, Part}
+use Rattle.tabled_pool.proofs.Names.{Rectangle, Rule, Sides, Some, TableValue, [], ap, arith, behind_border, border_part, bottom_part}
+use Rattle.tabled_pool.proofs.Names.{box_of, covering, first_part, framed, given_size, inl, inr, is_border_before, is_line, is_line_kind}
+use Rattle.tabled_pool.proofs.Names.{joined_box, leaf_box, left_part, needed_by, owner, part_of, place_along, refl, right_part, subst, suc}
+use Rattle.tabled_pool.proofs.Names.{sym, top_part, true, within, zero, ℕ, ⊎_elim, ◌++◌, ◌+◌, ◌-◌, ◌<◌, ◌∙◌, ◌∷◌, ◌≡◌, ◌≤◌, ◌⊎◌}
 use Rattle.tabled_pool.proofs.Directions.{shares}
-use Rattle.tabled_pool.proofs.Tiling.{covering-append, joined-tiles, list_box-tiles, tree-tiles, AllTile}
-use Rattle.tabled_pool.proofs.Owners.{inside-within, within-inside, within-le, owner-inside, owner-here, owner-behind, counted, is-1}
+use Rattle.tabled_pool.proofs.Owners.{Inside, inside-within, within-inside, within-le, owner-inside, owner-here, owner-behind, counted}
+use Rattle.tabled_pool.proofs.Owners.{is-1}
+use Rattle.tabled_pool.proofs.Tiling.{IsFilled, border-line, covering-append, filled, framed-tiles}
+use Rattle.tabled_pool.proofs.Trees.{IsKept, of-tree, tree-utf8}
 
 -- ---- the owner of a place in two lists of parts
 
@@ -43,8 +43,9 @@ owner-last (q ∷ ps) qs x y p c h =
 abbrev IsBehind : List Part → ℕ → ℕ → ℕ → Type 0
 IsBehind ps left x y = (x ≡ left) ⊎ (is_border_before ps x y ≡ true)
 
-record TextsBehind (b : Box) : Type 0 where
-  pub behind : (r : Rectangle) (x y : ℕ) (p : Part) → b.width ≤ r.width → b.height ≤ r.height → owner (b.parts r) x y ≡ Some p
+record TextsBehind (g : BoxSpacing) (b : Box) : Type 0 where
+  filled : IsFilled g IsUtf8 b
+  behind : (r : Rectangle) (x y : ℕ) (p : Part) → b.width ≤ r.width → b.height ≤ r.height → owner (b.parts r) x y ≡ Some p
       → p.kind ≡ Leaf → p.place.x ≡ x → IsBehind (b.parts r) r.x x y
 
 line-some : (o : Option Part) → is_line o ≡ true → (p : Part) × (o ≡ Some p)
@@ -82,10 +83,6 @@ no-leaf q qs x y p l o k = ⊎_elim
 
 -- ---- rows and columns
 
-abbrev AllBehind : List Box → Type 0
-AllBehind [] = Unit {0}
-AllBehind (b ∷ bs) = TextsBehind b × AllBehind bs
-
 -- what the parts cover once, those behind the first ones cover at most once
 at-most : (ps qs : List Part) (q : Part) (r : Rectangle) (x y : ℕ) → covering (ps ++ q ∷ qs) x y ≡ within r x y
     → (covering (ps ++ q ∷ qs) x y ≤ 1) × (covering (q ∷ qs) x y ≤ 1)
@@ -93,100 +90,63 @@ at-most ps qs q r x y e =
     let le = within-le r x y in
     (omega (arith, e, le), omega (arith, e, le, covering-append ps (q ∷ qs) x y))
 
-row-behind : (g : BoxSpacing) → g.bar ≡ 1 → (k : ℕ) (b c : Box) → 0 < k → TextsBehind b → TextsBehind c → Tiles b → Tiles c
-    → TextsBehind (joined_box Across g k b c)
-row-behind g e count b c z0 t t2 u u2 = record {
-  behind = λ r x y p w h o k s.
-      let n = given_size Across g b r.width (needed_by Across g b c) count in
-      let sh = shares Across g count b c r z0 w h in
-      let rest = right_part n r in
-      let last = right_part g.bar rest in
-      let ps = b.parts (left_part n r) in
-      let bar = part_of Bar (left_part g.bar rest) [] in
-      let qs = c.parts last in
-      let once : (v : ℕ) → (covering (ps ++ bar ∷ qs) v y ≤ 1) × (covering (bar ∷ qs) v y ≤ 1) =
-      λ v. at-most ps qs bar r v y ((joined-tiles Across g count b c z0 u u2).once r v y w h) in
-      ⊎_elim
-      (λ a. ⊎_elim (λ i. inl i) (λ i. inr (before-first ps (bar ∷ qs) x y i)) (t.behind (left_part n r) x y p sh.wide sh.tall a k s))
-      (λ a.
-      let z = no-leaf bar qs x y p refl a k in
-      let some = counted qs x y x y p z (owner-inside qs x y p z) in
-      let covers = u2.once last x y sh.rest_wide sh.rest_tall in
-      let i = within-inside last x y (omega (arith, some, covers, within-le last x y)) in
-      ⊎_elim
-      (λ j. inr (before-here ps qs bar x y (r.x + n) (omega (arith, j, e)) (once (r.x + n)).0
-      (inside-within bar.place (r.x + n) y (record { left = omega arith; right = omega (arith, e); top = i.top; bottom = i.bottom })) refl))
-      (λ j. inr (before-last ps (bar ∷ qs) x y (λ v. (once v).0) (before-last (bar ∷ []) qs x y (λ v. (once v).1) j)))
-      (t2.behind last x y p sh.rest_wide sh.rest_tall z k s))
-      (owner-either ps (bar ∷ qs) x y p o);
-}
+first-edge : (d : Direction) (n : ℕ) (r : Rectangle) → (first_part d n r).x ≡ r.x
+first-edge Across n r = refl
+first-edge Down n r = refl
 
-column-behind : (g : BoxSpacing) (k : ℕ) (b c : Box) → 0 < k → TextsBehind b → TextsBehind c → Tiles b → Tiles c
-    → TextsBehind (joined_box Down g k b c)
-column-behind g count b c z0 t t2 u u2 = record {
-  behind = λ r x y p w h o k s.
-      let n = given_size Down g b r.height (needed_by Down g b c) count in
-      let sh = shares Down g count b c r z0 w h in
-      let rest = bottom_part n r in
-      let last = bottom_part g.rule rest in
-      let ps = b.parts (top_part n r) in
-      let rule = part_of Rule (top_part g.rule rest) [] in
-      let qs = c.parts last in
-      let once : (v : ℕ) → (covering (ps ++ rule ∷ qs) v y ≤ 1) × (covering (rule ∷ qs) v y ≤ 1) =
-      λ v. at-most ps qs rule r v y ((joined-tiles Down g count b c z0 u u2).once r v y w h) in
-      ⊎_elim
-      (λ a. ⊎_elim (λ i. inl i) (λ i. inr (before-first ps (rule ∷ qs) x y i)) (t.behind (top_part n r) x y p sh.wide sh.tall a k s))
-      (λ a.
-      let z = no-leaf rule qs x y p refl a k in
-      ⊎_elim
-      (λ j. inl j)
-      (λ j. inr (before-last ps (rule ∷ qs) x y (λ v. (once v).0) (before-last (rule ∷ []) qs x y (λ v. (once v).1) j)))
-      (t2.behind last x y p sh.rest_wide sh.rest_tall z k s))
-      (owner-either ps (rule ∷ qs) x y p o);
-}
+-- at the left edge of the boxes behind a border
+second-edge : (d : Direction) (g : BoxSpacing) → g.bar ≡ 1 → (n : ℕ) (ps qs : List Part) (r : Rectangle) (x y : ℕ)
+    → Inside (behind_border d g n r) x y → ((v : ℕ) → covering (ps ++ border_part d g n r ∷ qs) v y ≤ 1)
+    → x ≡ (behind_border d g n r).x → IsBehind (ps ++ border_part d g n r ∷ qs) r.x x y
+second-edge Across g e n ps qs r x y i once j =
+    let bar = border_part Across g n r in
+    inr (before-here ps qs bar x y (r.x + n) (omega (arith, j, e)) (once (r.x + n))
+    (inside-within bar.place (r.x + n) y (record { left = omega arith; right = omega (arith, e); top = i.top; bottom = i.bottom })) refl)
+second-edge Down g e n ps qs r x y i once j = inl j
 
-leaf-behind : (g : BoxSpacing) (text : List ℕ) → TextsBehind (leaf_box g text)
-leaf-behind g text = record {
+joined-behind : (g : BoxSpacing) → g.bar ≡ 1 → (d : Direction) (k : ℕ) (b c : Box) → 0 < k → TextsBehind g b → TextsBehind g c
+    → TextsBehind g (joined_box d g k b c)
+joined-behind g e d count b c z0 t u =
+    let all : IsFilled g IsUtf8 (joined_box d g count b c) = (filled g IsUtf8 IsUtf8-nil).joined d count b c z0 t.filled u.filled in
+    record {
+      filled = all;
+      behind = λ r x y p w h o k s.
+          let n = given_size d g b (place_along d r) (needed_by d g b c) count in
+          let sh = shares d g count b c r z0 w h in
+          let line = border_part d g n r in
+          let last = behind_border d g n r in
+          let ps = b.parts (first_part d n r) in
+          let qs = c.parts last in
+          let once : (v : ℕ) → (covering (ps ++ line ∷ qs) v y ≤ 1) × (covering (line ∷ qs) v y ≤ 1) =
+          λ v. at-most ps qs line r v y (all.once r v y w h) in
+          ⊎_elim
+          (λ a. ⊎_elim (λ i. inl (i ∙ first-edge d n r)) (λ i. inr (before-first ps (line ∷ qs) x y i))
+          (t.behind (first_part d n r) x y p sh.wide sh.tall a k s))
+          (λ a.
+          let z = no-leaf line qs x y p (border-line d) a k in
+          let some = counted qs x y x y p z (owner-inside qs x y p z) in
+          let covers = u.filled.once last x y sh.rest_wide sh.rest_tall in
+          let i = within-inside last x y (omega (arith, some, covers, within-le last x y)) in
+          ⊎_elim
+          (λ j. second-edge d g e n ps qs r x y i (λ v. (once v).0) j)
+          (λ j. inr (before-last ps (line ∷ qs) x y (λ v. (once v).0) (before-last (line ∷ []) qs x y (λ v. (once v).1) j)))
+          (u.behind last x y p sh.rest_wide sh.rest_tall z k s))
+          (owner-either ps (line ∷ qs) x y p o);
+    }
+
+leaf-behind : (g : BoxSpacing) (text : List ℕ) → IsUtf8 text → TextsBehind g (leaf_box g text)
+leaf-behind g text h = record {
+  filled = (filled g IsUtf8 IsUtf8-nil).leaf text h;
   behind = λ r x y p w h o k s. ⊎_elim
       (λ i. let e : part_of Leaf r text ≡ p = cc (owner-here (part_of Leaf r text) [] x y i) in inl (sym s ∙ sym (ap (λ z. z.place.x) e)))
       (λ i. cc (owner-behind (part_of Leaf r text) [] x y i))
       (is-1 (within r x y));
 }
 
-joined-behind : (d : Direction) (g : BoxSpacing) → g.bar ≡ 1 → (k : ℕ) (b c : Box) → 0 < k → TextsBehind b → TextsBehind c → Tiles b → Tiles c
-    → TextsBehind (joined_box d g k b c)
-joined-behind Across g e = row-behind g e
-joined-behind Down g e = column-behind g
-
-list-behind : (d : Direction) (g : BoxSpacing) → g.bar ≡ 1 → (bs : List Box) → AllBehind bs → AllTile bs → TextsBehind (list_box d g bs)
-list-behind d g e [] ts us = leaf-behind g []
-list-behind d g e (b ∷ []) (t, ts) (u, us) = t
-list-behind d g e (b ∷ (c ∷ bs)) (t, ts) (u, us) =
-    joined-behind d g e (length (c ∷ bs) + 1) b (list_box d g (c ∷ bs)) (omega arith) t (list-behind d g e (c ∷ bs) ts us) u
-    (list_box-tiles d g (c ∷ bs) us)
-
--- ---- trees
-
-abbrev Holds : BoxSpacing → TableValue → Type 0
-Holds g t = TextsBehind (box_of g t)
-
-all-behind : (g : BoxSpacing) (es : List ((t : TableValue) × Holds g t)) → AllBehind (map (box_of g) (map (λ e. e.0) es))
-all-behind g [] = tt
-all-behind g (e ∷ es) = (e.1, all-behind g es)
-
-all-tile : (g : BoxSpacing) (es : List ((t : TableValue) × Holds g t)) → AllTile (map (box_of g) (map (λ e. e.0) es))
-all-tile g [] = tt
-all-tile g (e ∷ es) = (tree-tiles g e.0, all-tile g es)
-
-tree-behind : (g : BoxSpacing) → g.bar ≡ 1 → (t : TableValue) → TextsBehind (box_of g t)
-tree-behind g e = ind-TableValue (Holds g) (λ x y is.
-    subst (λ z. TextsBehind (box_of g (roll-TableValue z))) is
-    (subst TextsBehind (sym (fold-roll-TableValue Box (box_step g) (map-TableValue _ TableValue (λ e. e.0) y)))
-    (elim y as (λ v. TextsBehind (box_step g (map-TableValue _ Box (box_of g) (map-TableValue _ TableValue (λ e. e.0) v)))) [
-      | Cell s ↦ leaf-behind g (string_bytes s)
-      | Row v ↦ list-behind Across g e _ (all-behind g v.items) (all-tile g v.items)
-      | Column v ↦ list-behind Down g e _ (all-behind g v.items) (all-tile g v.items)
-    ])))
+tree-behind : (g : BoxSpacing) → g.bar ≡ 1 → (t : TableValue) → TextsBehind g (box_of g t)
+tree-behind g e t =
+    let kept : IsKept g IsUtf8 (TextsBehind g) = record { empty = IsUtf8-nil; leaf = leaf-behind g; joined = joined-behind g e } in
+    of-tree kept t (tree-utf8 t)
 
 -- a tree in its frame: a line stands before each text
 pub framed-behind : (g : BoxSpacing) → g.bar ≡ 1 → (t : TableValue) (e : Sides ℕ) (w : Rectangle) → e.left ≡ 1
@@ -207,7 +167,7 @@ framed-behind g f t e w l h v x y p o k s =
     let ls = right ∷ (top ∷ (bottom ∷ [])) in
     let qs = b.parts inner in
     let all = left ∷ (ls ++ qs) in
-    let once : (u : ℕ) → covering all u y ≡ within w u y = λ u. tree_framed_tiles g t e w h v u y in
+    let once : (u : ℕ) → covering all u y ≡ within w u y = λ u. framed-tiles g t e w h v u y in
     let i = within-inside w x y (omega (arith, counted all x y x y p o (owner-inside all x y p o), once x, within-le w x y)) in
     let o1 = no-leaf left (ls ++ qs) x y p refl o k in
     let o2 = no-leaf right (top ∷ (bottom ∷ qs)) x y p refl o1 k in

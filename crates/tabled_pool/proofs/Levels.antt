@@ -1,9 +1,9 @@
 -- A list that is put below others, and those that are left.
-use Rattle.tabled_pool.proofs.Names.{List, TableValue, Tree, [], ap, append_assoc, arith, left_in, map, map-append, nodes, nodes_in, refl, sym, tree_of, ◌++◌, ◌+◌}
-use Rattle.tabled_pool.proofs.Names.{◌∙◌, ◌∷◌, ◌≡◌}
+use Rattle.tabled_pool.proofs.Names.{List, TableValue, Tree, [], ap, append_assoc, arith, left_in, map, map-append, nodes, nodes_in, refl}
+use Rattle.tabled_pool.proofs.Names.{sym, tree_of, ◌++◌, ◌+◌, ◌∙◌, ◌∷◌, ◌≡◌}
 use Rattle.tabled_pool.specs.declared.tree.Level.{Level}
 use Rattle.tabled_pool.proofs.NodeSums.{nodes_in_cons}
-use Rattle.tabled_pool.specs.Levels.{IsBegun, filled, list, within}
+use Rattle.tabled_pool.specs.Tree.{IsBegun, filled, list, within}
 
 pub within_push : (ls : List Level) (l : Level) (t : Tree) → within (ls ++ l ∷ []) t ≡ within ls (filled l t)
 within_push [] l t = refl

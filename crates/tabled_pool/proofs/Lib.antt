@@ -11,16 +11,15 @@ pub mod Contains
 pub mod Directions
 pub mod Drawable
 pub mod Drawers
-pub mod Fitting
-pub mod Framing
 pub mod Levels
+pub mod Lines
+pub mod Listed
 pub mod Neighbours
 pub mod NodeSums
 pub mod Owners
 pub mod Padded
 pub mod BlockLines
 pub mod PlainBlocks
-pub mod Listed
 pub mod Plains
 pub mod PoolBlocks
 pub mod PoolLemmas
@@ -32,3 +31,4 @@ pub mod Tiles
 pub mod Tiling
 pub mod Totals
 pub mod TreeTexts
+pub mod Trees

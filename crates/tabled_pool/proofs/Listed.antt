@@ -3,7 +3,7 @@ use Rattle.tabled_pool.proofs.Names.{AreTiles, List, None, Part, Piece, Rectangl
 use Rattle.tabled_pool.proofs.Names.{drop-cons, get_or, length, map, nat_tests, option_map, owner, refl, shown, slice_get, slice_get-get_or}
 use Rattle.tabled_pool.proofs.Names.{slice_get-map, slice_get_read, subst, suc, sym, true, within, zero, ℕ, ⊎_elim, ◌+◌, ◌<◌, ◌∙◌, ◌∷◌, ◌≡◌}
 use Rattle.tabled_pool.proofs.Names.{◌≤◌, ◌⊎◌}
-use Rattle.tabled_pool.proofs.Owners.{within-inside, within-le, owner-here, owner-behind, is-1}
+use Rattle.tabled_pool.proofs.Owners.{within-inside, within-le, owner-here, owner-behind, item-counts, item-owns, is-1}
 
 -- a place that no part covers has no owner
 pub owner-none : (ps : List Part) (x y : ℕ) → covering ps x y ≡ 0 → owner ps x y ≡ None
@@ -16,24 +16,6 @@ outside ps r x y d h = owner-none ps x y (⊎_elim
     (λ w. absurd (let i = within-inside r x y w in ⊎_elim (λ a. omega (arith, i.right)) (λ a. omega (arith, i.bottom)) h))
     (λ w. omega (arith, d x y, within-le r x y))
     (is-1 (within r x y)))
-
-item-counts : (ps : List Part) (k x y : ℕ) (p : Part) → slice_get ps k ≡ Some p → within p.place x y ≡ 1 → 1 ≤ covering ps x y
-item-counts [] k x y p h w = cc
-item-counts (q ∷ ps) zero x y p h w =
-    let e : q ≡ p = cc in
-    let f : within q.place x y ≡ 1 = subst (λ z. within z.place x y ≡ 1) (sym e) w in omega arith
-item-counts (q ∷ ps) (suc k) x y p h w = let f = item-counts ps k x y p h w in omega (arith, f)
-
--- where a place is covered once, a part of the list that contains it is its owner
-item-owns : (ps : List Part) (k x y : ℕ) (p : Part) → slice_get ps k ≡ Some p → within p.place x y ≡ 1 → covering ps x y ≤ 1
-    → owner ps x y ≡ Some p
-item-owns [] k x y p h w c = cc
-item-owns (q ∷ ps) zero x y p h w c =
-    let e : q ≡ p = cc in
-    owner-here q ps x y (subst (λ z. within z.place x y ≡ 1) (sym e) w) ∙ ap (λ z. Some z) e
-item-owns (q ∷ ps) (suc k) x y p h w c =
-    let one = item-counts ps k x y p h w in
-    owner-behind q ps x y (λ z. omega (arith, one)) ∙ item-owns ps k x y p h w (omega arith)
 
 pub piece_owns : (ps : List Part) (r : Rectangle) (k x y : ℕ) (p : Part) → AreTiles ps r → slice_get ps k ≡ Some p
     → contains p.place x y ≡ true → owner ps x y ≡ Some p

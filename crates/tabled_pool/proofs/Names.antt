@@ -1,10 +1,9 @@
 -- The names of the crates below, and of the definitions of this one, that its proofs use. Declares
 -- nothing.
 pub use Rattle.std.proofs.Common.{Bool, List, None, Option, Some, [], add-one, ap, append-nil, append_assoc, arith, cond, drop, encode_utf8}
-pub use Rattle.std.proofs.Common.{false, get_or, if◌then◌else◌, inl, inr, length, lit<, ltb, map, max, refl, replicate, rules, slice_get}
+pub use Rattle.std.proofs.Common.{false, get_or, if◌then◌else◌, inl, inr, length, ltb, map, max, refl, replicate, rules, slice_get}
 pub use Rattle.std.proofs.Common.{string_bytes, subst, suc, sym, take, true, unwrap_or, zero, ℕ, ⊎_elim, ◌&&◌, ◌*◌, ◌++◌, ◌+◌, ◌-◌, ◌<◌}
 pub use Rattle.std.proofs.Common.{◌==◌, ◌||◌, ◌∙◌, ◌∷◌, ◌≡◌, ◌≤◌, ◌⊎◌}
-pub use Rattle.std.proofs.Math.Nat.{mul-zero, zero-mul}
 pub use Rattle.std.proofs.Math.Seq.{drop-cons}
 pub use Rattle.std.proofs.lemmas.Bool.Decides.{nat_tests}
 pub use Rattle.std.proofs.lemmas.Grind.{common_steps}
@@ -23,7 +22,6 @@ pub use Rattle.tabled_config.specs.declared.sides.Sides.{Sides}
 pub use Rattle.tabled_config.specs.declared.spanned.CellStyle.{CellStyle}
 pub use Rattle.tabled_line.proofs.Each.{each-more}
 pub use Rattle.tabled_line.proofs.Leading.{lines-further, lines-stopped}
-pub use Rattle.tabled_line.proofs.Plains.{plain-fill}
 pub use Rattle.tabled_line.proofs.Sending.{finished, further, stopped, stopped-first}
 pub use Rattle.tabled_line.specs.Block.{columns_before, inner_width}
 unfoldable pub use Rattle.tabled_line.specs.Block.{cell_line}
@@ -36,33 +34,24 @@ pub use Rattle.tabled_pool.specs.Block.{text_line, without_sides}
 unfoldable pub use Rattle.tabled_pool.specs.Block.{leaf_line, pool_block}
 pub use Rattle.tabled_pool.specs.Boxes.{Box, IsSize, Part, behind_border, border_kind, border_part, border_size, bottom_part, box_across}
 pub use Rattle.tabled_pool.specs.Boxes.{box_along, box_of, box_step, first_part, given_size, is_line_kind, joined_box, leaf_box, left_part}
-pub use Rattle.tabled_pool.specs.Boxes.{list_box, needed_by, part_of, pick, place_along, rest_part, right_part, sized, top_part}
-pub use Rattle.tabled_pool.specs.Characters.{EachCharacter, EachFill}
-pub use Rattle.tabled_pool.specs.Colours.{Mark, coloured, line_marks_of, mark_of, marks_of, no_mark}
-pub use Rattle.tabled_pool.specs.Cursors.{IsAt}
-pub use Rattle.tabled_pool.specs.Drawn.{owned_text, part_text}
+pub use Rattle.tabled_pool.specs.Boxes.{list_box, needed_by, part_of, pick, place_along, rest_part, right_part, sized, top_part, AreLeft}
+pub use Rattle.tabled_pool.specs.Boxes.{boxes_left, contains, is_border, is_border_above, is_border_before, is_line, owner, Fits, shown}
+pub use Rattle.tabled_pool.specs.Boxes.{AreTiles, covering, within}
+pub use Rattle.tabled_pool.specs.Plain.{EachCharacter, EachFill}
+pub use Rattle.tabled_pool.specs.Colours.{Mark, coloured, line_marks_of, marks_of, no_mark, Around, nothing_around, within_marks}
+pub use Rattle.tabled_pool.specs.Colours.{AreNoMarks}
+pub use Rattle.tabled_pool.specs.Drawn.{IsAt, owned_text, part_text, Tiled}
 unfoldable pub use Rattle.tabled_pool.specs.Drawn.{border_char, border_text, drawn, drawn_line, place_text}
-pub use Rattle.tabled_pool.specs.DrawnBlocks.{BlockSheet, block_sheet_of, drawn_block_line, widened}
-pub use Rattle.tabled_pool.specs.Inherited.{InheritedSheet, drawer, has_zero_width, inheriting_box, inner_text, run_char}
-pub use Rattle.tabled_pool.specs.Left.{AreLeft, boxes_left}
-pub use Rattle.tabled_pool.specs.Levels.{left_in}
-pub use Rattle.tabled_pool.specs.Margins.{margin_line, with_margin, within_margin}
-pub use Rattle.tabled_pool.specs.Marks.{Around, nothing_around, within_marks}
-pub use Rattle.tabled_pool.specs.Nodes.{nodes, nodes_in}
+pub use Rattle.tabled_pool.specs.Inherited.{BlockSheet, block_sheet_of, drawn_block_line, widened, InheritedSheet, drawer, has_zero_width}
+pub use Rattle.tabled_pool.specs.Inherited.{inheriting_box, inner_text, run_char}
+pub use Rattle.tabled_pool.specs.Tree.{left_in, nodes, nodes_in, EachText, Tree, leaf, tree_of, trees}
+pub use Rattle.tabled_pool.specs.Pool.{margin_line, with_margin, within_margin, HasColumns, borders_of, frame_of, frame_place}
+pub use Rattle.tabled_pool.specs.Pool.{framed_height, framed_width, margin_marks, margin_of, marks_for, spacing_of}
 pub use Rattle.tabled_pool.specs.Numbers.{AreSized, IsSized}
-pub use Rattle.tabled_pool.specs.Owner.{contains, is_border, is_border_above, is_border_before, is_line, owner}
-pub use Rattle.tabled_pool.specs.Plan.{DrawingPlan, has_top, whole}
-pub use Rattle.tabled_pool.specs.Plans.{plan_of}
-pub use Rattle.tabled_pool.specs.Pool.{HasColumns, borders_of, frame_of, frame_place, framed_height, framed_width, margin_marks, margin_of}
-pub use Rattle.tabled_pool.specs.Pool.{marks_for, spacing_of}
+pub use Rattle.tabled_pool.specs.Plan.{DrawingPlan, has_top, whole, plan_of}
 unfoldable pub use Rattle.tabled_pool.specs.Pool.{plan, pool_lines}
-pub use Rattle.tabled_pool.specs.Shown.{Fits, shown}
 pub use Rattle.tabled_pool.specs.TableLines.{sheet_of}
-pub use Rattle.tabled_pool.specs.Tiled.{Tiled}
-pub use Rattle.tabled_pool.specs.Tiling.{AreTiles, EachFits, FitsLeaf, LeavesFit, Tiles, covering, within}
-unfoldable pub use Rattle.tabled_pool.specs.Tiling.{framed, spans}
-pub use Rattle.tabled_pool.specs.Tree.{EachText, Tree, leaf, tree_of, trees}
-pub use Rattle.tabled_pool.specs.Uncoloured.{AreNoMarks}
+unfoldable pub use Rattle.tabled_pool.specs.Boxes.{framed, spans}
 pub use Rattle.tabled_pool.specs.declared.color_marks.RunSide.{RunSide}
 pub use Rattle.tabled_pool.specs.declared.color_marks.RunSide.TheVariants.{Before, Behind, Outside}
 pub use Rattle.tabled_pool.specs.declared.places.Kind.{Kind}
@@ -77,10 +66,9 @@ pub use Rattle.tabled_pool.specs.declared.tree.TableValue.{TableValue}
 pub use Rattle.tabled_pool.specs.declared.tree.TableValue.TheFolds.{fold-roll-TableValue, ind-TableValue, map-TableValue, the_lemmas}
 pub use Rattle.tabled_pool.specs.declared.tree.TableValue.TheOpen.{Cell, Column, Row}
 pub use Rattle.tabled_pool.specs.declared.tree.TableValue.TheViews.{roll-TableValue}
-pub use Rattle.tabled_text.proofs.Bridge.{line_columns-le}
 pub use Rattle.tabled_text.proofs.Ends.{Closes, closes-append, closes-frame, closes-framed, frame-nil}
-pub use Rattle.tabled_text.proofs.LineLaws.{frame-one, line-frame, line-framed}
-pub use Rattle.tabled_text.proofs.PlainLines.{plain_column-space, plain_line-append, plain_line-as}
+pub use Rattle.tabled_text.proofs.LineLaws.{frame-one, line-frame}
+pub use Rattle.tabled_text.proofs.PlainLines.{plain_column-space, plain_line-append}
 pub use Rattle.tabled_text.specs.FramedLines.{IsLine, IsSeparatorColumn}
 pub use Rattle.tabled_text.specs.Measure.{line_columns, lines_of, text_columns}
 pub use Rattle.tabled_text.specs.Plain.{IsAdditive, IsAdditiveColumn, IsAdditiveLine, IsPlain}

@@ -7,7 +7,7 @@ use Rattle.tabled_pool.proofs.Names.{sym, true, unwrap_or, zero, ℕ, ⊎_elim, 
 use Rattle.tabled_pool.specs.declared.color_marks.First.{First}
 use Rattle.tabled_pool.specs.declared.color_marks.RunSide.TheVariants.{Inside as Within}
 use Rattle.tabled_pool.specs.Numbers.{IsEarlier, IsNumber, Skips, SkipsBeside}
-use Rattle.tabled_pool.specs.Plans.{around_of}
+use Rattle.tabled_pool.specs.Plan.{around_of}
 use Rattle.tabled_pool.proofs.Listed.{number-unique, piece_owns}
 use Rattle.tabled_pool.proofs.Owners.{inside-within, within-le, le-or}
 

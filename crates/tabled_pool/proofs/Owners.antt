@@ -1,6 +1,7 @@
 -- A place that is covered once has one owner.
-use Rattle.tabled_pool.proofs.Names.{List, Part, Rectangle, Some, [], arith, covering, mul-zero, nat_tests, owner, refl, spans, subst, suc}
-use Rattle.tabled_pool.proofs.Names.{sym, within, zero, zero-mul, ℕ, ⊎_elim, ◌*◌, ◌+◌, ◌<◌, ◌∙◌, ◌∷◌, ◌≡◌, ◌≤◌, ◌⊎◌}
+use Rattle.tabled_pool.proofs.Names.{List, Part, Rectangle, Some, [], ap, arith, covering, nat_tests, owner, refl, slice_get, spans, subst}
+use Rattle.tabled_pool.proofs.Names.{suc, sym, within, zero, ℕ, ⊎_elim, ◌*◌, ◌+◌, ◌<◌, ◌∙◌, ◌∷◌, ◌≡◌, ◌≤◌, ◌⊎◌}
+use Rattle.std.proofs.Math.Nat.{mul-zero, zero-mul}
 use Rattle.std.proofs.lemmas.Nat.{mul-le}
 
 pub record Inside (r : Rectangle) (x y : ℕ) : Type 0 where
@@ -66,24 +67,35 @@ owner-some (q ∷ ps) x y h = ⊎_elim
     (λ w. let found = owner-some ps x y (omega (arith, within-le q.place x y)) in (found.0, owner-behind q ps x y w ∙ found.1))
     (is-1 (within q.place x y))
 
--- a part that owns some place counts wherever it lies
-pub counted : (ps : List Part) (x y u v : ℕ) (p : Part) → owner ps x y ≡ Some p → within p.place u v ≡ 1 → 1 ≤ covering ps u v
-counted [] x y u v p h i = cc
-counted (q ∷ ps) x y u v p h i = ⊎_elim
-    (λ w. let e : q ≡ p = cc (owner-here q ps x y w) in let f : within q.place u v ≡ 1 = subst (λ z. within z.place u v ≡ 1) (sym e) i in omega arith)
-    (λ w. let f = counted ps x y u v p (sym (owner-behind q ps x y w) ∙ h) i in omega (arith, f))
+pub item-counts : (ps : List Part) (k x y : ℕ) (p : Part) → slice_get ps k ≡ Some p → within p.place x y ≡ 1 → 1 ≤ covering ps x y
+item-counts [] k x y p h w = cc
+item-counts (q ∷ ps) zero x y p h w =
+    let e : q ≡ p = cc in
+    let f : within q.place x y ≡ 1 = subst (λ z. within z.place x y ≡ 1) (sym e) w in omega arith
+item-counts (q ∷ ps) (suc k) x y p h w = let f = item-counts ps k x y p h w in omega (arith, f)
+
+-- where a place is covered once, a part of the list that contains it is its owner
+pub item-owns : (ps : List Part) (k x y : ℕ) (p : Part) → slice_get ps k ≡ Some p → within p.place x y ≡ 1 → covering ps x y ≤ 1
+    → owner ps x y ≡ Some p
+item-owns [] k x y p h w c = cc
+item-owns (q ∷ ps) zero x y p h w c =
+    let e : q ≡ p = cc in
+    owner-here q ps x y (subst (λ z. within z.place x y ≡ 1) (sym e) w) ∙ ap (λ z. Some z) e
+item-owns (q ∷ ps) (suc k) x y p h w c =
+    let one = item-counts ps k x y p h w in
+    owner-behind q ps x y (λ z. omega (arith, one)) ∙ item-owns ps k x y p h w (omega arith)
+
+owner-listed : (ps : List Part) (x y : ℕ) (p : Part) → owner ps x y ≡ Some p → (k : ℕ) × (slice_get ps k ≡ Some p)
+owner-listed [] x y p h = cc
+owner-listed (q ∷ ps) x y p h = ⊎_elim
+    (λ w. (0, sym (owner-here q ps x y w) ∙ h))
+    (λ w. let i = owner-listed ps x y p (sym (owner-behind q ps x y w) ∙ h) in (suc i.0, i.1))
     (is-1 (within q.place x y))
 
--- a part that owns some place owns each place that it covers
+-- a part that owns some place counts wherever it lies, and owns each place that it covers
+pub counted : (ps : List Part) (x y u v : ℕ) (p : Part) → owner ps x y ≡ Some p → within p.place u v ≡ 1 → 1 ≤ covering ps u v
+counted ps x y u v p h i = let k = owner-listed ps x y p h in item-counts ps k.0 u v p k.1 i
+
 pub owner-unique : (ps : List Part) (x y u v : ℕ) (p : Part) → owner ps x y ≡ Some p → within p.place u v ≡ 1
     → covering ps u v ≤ 1 → owner ps u v ≡ Some p
-owner-unique [] x y u v p h i c = cc
-owner-unique (q ∷ ps) x y u v p h i c = ⊎_elim
-    (λ w. let e : q ≡ p = cc (owner-here q ps x y w) in
-    subst (λ z. owner (q ∷ ps) u v ≡ Some z) e (owner-here q ps u v (subst (λ z. within z.place u v ≡ 1) (sym e) i)))
-    (λ w.
-    let behind = sym (owner-behind q ps x y w) ∙ h in
-    let one = counted ps x y u v p behind i in
-    let out : within q.place u v ≡ 1 → ⊥ = λ z. omega (arith, one) in
-    owner-behind q ps u v out ∙ owner-unique ps x y u v p behind i (omega arith))
-    (is-1 (within q.place x y))
+owner-unique ps x y u v p h i c = let k = owner-listed ps x y p h in item-owns ps k.0 u v p k.1 i c

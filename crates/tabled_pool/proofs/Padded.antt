@@ -1,11 +1,12 @@
 -- A text with padding at a side is given a column, and each text a line.
-use Rattle.tabled_pool.proofs.Names.{AreSized, Bar, Bool, BoxSpacing, EachFits, FitsLeaf, HasColumns, IsSized, Kind, Leaf, List, Part}
+use Rattle.tabled_pool.proofs.Names.{AreSized, Bar, Bool, BoxSpacing, HasColumns, IsSized, IsUtf8, IsUtf8-nil, Kind, Leaf, List, Part}
 use Rattle.tabled_pool.proofs.Names.{PoolTable, Rule, Some, [], arith, borders_of, common_steps, false, frame_of, frame_place}
 use Rattle.tabled_pool.proofs.Names.{has_zero_width, is_line_kind, nat_tests, plan, refl, slice_get, spacing_of, subst, suc, sym, true}
 use Rattle.tabled_pool.proofs.Names.{zero, ℕ, ◌&&◌, ◌+◌, ◌<◌, ◌==◌, ◌||◌, ◌∷◌, ◌≡◌}
 use Rattle.std.proofs.Common.{not}
 use Rattle.tabled_text.proofs.Bridge.{some_line}
-use Rattle.tabled_pool.proofs.Framing.{tree_framed_fits}
+use Rattle.tabled_pool.proofs.Tiling.{EachPart, IsHeld, framed-held}
+use Rattle.tabled_pool.proofs.Trees.{tree-utf8}
 use Rattle.tabled_pool.specs.Inherited.{is_zero_width}
 use Rattle.tabled_pool.specs.Pool.{IsPadded}
 
@@ -17,27 +18,32 @@ not-bare Leaf width h = not-zero width (h refl)
 not-bare Bar width h = refl
 not-bare Rule width h = refl
 
-fits-columns : (g : BoxSpacing) (ps : List Part) → 0 < g.padding.left + g.padding.right → EachFits g ps → has_zero_width ps ≡ false
-fits-columns g [] z fits = refl
-fits-columns g (p ∷ ps) z (fit, fits) =
-    let here : is_zero_width p ≡ false = not-bare p.kind p.place.width (λ k. let w = fit k in omega (arith, w.wide)) in
-    rw here (fits-columns g ps z fits)
+abbrev Held : BoxSpacing → Part → Type 0
+Held g = IsHeld g IsUtf8
+
+held_parts : (t : PoolTable) → EachPart (Held (spacing_of t)) (plan t).parts
+unfolding plan
+held_parts t =
+    framed-held (spacing_of t) IsUtf8 IsUtf8-nil t.value (tree-utf8 t.value) (frame_of (borders_of t)) (frame_place t) (omega arith) (omega arith)
+
+fits-columns : (g : BoxSpacing) (ps : List Part) → 0 < g.padding.left.size + g.padding.right.size → EachPart (Held g) ps → has_zero_width ps ≡ false
+fits-columns g [] z held = refl
+fits-columns g (p ∷ ps) z (own, held) =
+    let here : is_zero_width p ≡ false = not-bare p.kind p.place.width (λ k. omega (arith, own.wide k)) in
+    rw here (fits-columns g ps z held)
 
 pub padded_columns : (t : PoolTable) → IsPadded t → HasColumns t
-unfolding plan
-padded_columns t z =
-    fits-columns (spacing_of t) _ z
-    (tree_framed_fits (spacing_of t) t.value (frame_of (borders_of t)) (frame_place t) (omega arith) (omega arith))
+padded_columns t z = fits-columns (spacing_of t) _ z (held_parts t)
 
 -- ---- where each text has a column
 
 zero-free : (n : ℕ) → (n == 0) ≡ false → 0 < n
 zero-free n h = grind (arith, nat_tests)
 
-sized-leaf : (g : BoxSpacing) (p : Part) (k : Kind) → p.kind ≡ k → is_line_kind k ≡ false → FitsLeaf g p
+sized-leaf : (g : BoxSpacing) (p : Part) (k : Kind) → p.kind ≡ k → is_line_kind k ≡ false → Held g p
     → (not (is_line_kind k) && p.place.width == 0) ≡ false → IsSized p
 sized-leaf g p Leaf e l f z =
-    let fit = f e in record { wide = zero-free p.place.width z; tall = omega (arith, fit.tall, some_line p.text) }
+    record { wide = zero-free p.place.width z; tall = omega (arith, f.tall e, some_line p.text) }
 sized-leaf g p Bar e l f z = cc
 sized-leaf g p Rule e l f z = cc
 
@@ -45,7 +51,7 @@ neither : (a b : Bool) → (a || b) ≡ false → (a ≡ false) × (b ≡ false)
 neither true b h = cc
 neither false b h = (refl, h)
 
-sized-at : (g : BoxSpacing) (ps : List Part) (k : ℕ) (p : Part) → EachFits g ps → has_zero_width ps ≡ false → slice_get ps k ≡ Some p
+sized-at : (g : BoxSpacing) (ps : List Part) (k : ℕ) (p : Part) → EachPart (Held g) ps → has_zero_width ps ≡ false → slice_get ps k ≡ Some p
     → is_line_kind p.kind ≡ false → IsSized p
 sized-at g [] k p f z h l = cc
 sized-at g (q ∷ ps) zero p (f, fs) z h l =
@@ -56,7 +62,4 @@ sized-at g (q ∷ ps) (suc k) p (f, fs) z h l =
     sized-at g ps k p fs (neither (is_zero_width q) (has_zero_width ps) z).1 h l
 
 pub sized_parts : (t : PoolTable) → HasColumns t → AreSized (plan t).parts
-unfolding plan
-sized_parts t h = λ k p e l.
-    sized-at (spacing_of t) _ k p
-    (tree_framed_fits (spacing_of t) t.value (frame_of (borders_of t)) (frame_place t) (omega arith) (omega arith)) h e l
+sized_parts t h = λ k p e l. sized-at (spacing_of t) _ k p (held_parts t) h e l

@@ -4,7 +4,7 @@ use Rattle.tabled_pool.proofs.Names.{Sides, ap, arith, borders_of, covering, dra
 use Rattle.tabled_pool.proofs.Names.{has_zero_width, line_marks_of, margin_marks, margin_of, marks_for, marks_of, plan, pool_lines, refl}
 use Rattle.tabled_pool.proofs.Names.{spacing_of, sym, true, with_margin, within, ℕ, ◌∙◌, ◌≡◌}
 use Rattle.std.specs.List.{join_with_byte}
-use Rattle.tabled_pool.proofs.Framing.{tree_framed_tiles}
+use Rattle.tabled_pool.proofs.Tiling.{framed-tiles}
 use Rattle.tabled_pool.specs.Colours.{LineMarks}
 use Rattle.tabled_pool.specs.Inherited.{inherited_block}
 use Rattle.tabled_pool.specs.Pool.{margin_around, margined, pool_text, style_of}
@@ -55,7 +55,7 @@ pub plan_tiles : (t : PoolTable) (ps : List Part) (w h : ℕ) → ps ≡ (plan t
 unfolding plan
 plan_tiles t ps w h e f g =
     let base : AreTiles (plan t).parts (frame_place t) =
-    tree_framed_tiles (spacing_of t) t.value (frame_of (borders_of t)) (frame_place t) (omega arith) (omega arith) in
+    framed-tiles (spacing_of t) t.value (frame_of (borders_of t)) (frame_place t) (omega arith) (omega arith) in
     λ px py. ap (λ qs. covering qs px py) e ∙ base px py
     ∙ ap (λ v. within (record { x = 0; y = 0; width = v; height = framed_height t }) px py) (sym f)
     ∙ ap (λ v. within (record { x = 0; y = 0; width = w; height = v }) px py) (sym g)

@@ -1,10 +1,9 @@
 -- Runs of columns of a line: of one part, with the same parts above and below.
 use Rattle.tabled_pool.proofs.Names.{AreTiles, Bar, Bool, DrawingPlan, IsAt, Kind, Leaf, List, None, Part, Rectangle, Rule, Some, [], ap}
-use Rattle.tabled_pool.proofs.Names.{append-nil, arith, around_at, border_char, border_text, encode_utf8, false, fill, flat_map, inr}
-use Rattle.tabled_pool.proofs.Names.{is_border, is_border_above, is_border_before, is_line, is_line_kind, nothing_around, owned_text, owner}
-use Rattle.tabled_pool.proofs.Names.{part_text, place_text, range_with_len, refl, suc, sym, true, whole, within_marks, zero, ℕ, ⊎_elim}
-use Rattle.tabled_pool.proofs.Names.{◌++◌, ◌+◌, ◌-◌, ◌<◌, ◌∙◌, ◌∷◌, ◌≡◌, ◌≤◌, ◌⊎◌}
-use Rattle.std.proofs.lemmas.List.Concat.{flat_map-append}
+use Rattle.tabled_pool.proofs.Names.{append-nil, append_assoc, arith, around_at, border_char, border_text, encode_utf8, false, fill}
+use Rattle.tabled_pool.proofs.Names.{flat_map, inr, is_border, is_border_above, is_border_before, is_line, is_line_kind, nothing_around}
+use Rattle.tabled_pool.proofs.Names.{owned_text, owner, part_text, place_text, range_with_len, refl, suc, sym, true, whole, within}
+use Rattle.tabled_pool.proofs.Names.{within_marks, zero, ℕ, ⊎_elim, ◌++◌, ◌+◌, ◌-◌, ◌<◌, ◌∙◌, ◌≡◌, ◌≤◌, ◌⊎◌}
 use Rattle.tabled_pool.specs.declared.line_runs.Cursor.{Cursor}
 use Rattle.tabled_pool.specs.Drawn.{armed_char, IsRun}
 use Rattle.tabled_pool.proofs.Owners.{Inside, inside-within, within-inside, within-le, owner-inside, counted, le-or}
@@ -191,19 +190,19 @@ pub run_inside : (t : DrawingPlan) (x y n c : ℕ) (p : Part) → IsRun t x y n 
 run_inside t x y n c p r =
     within-inside p.place x y (owner-inside t.parts x y p (r.owned x (omega arith) (omega (arith, r.some))))
 
-range-append : (a m k : ℕ) → range_with_len a (m + k) ≡ range_with_len a m ++ range_with_len (a + m) k
-range-append a zero k = let e : zero + k ≡ k = omega arith in let f : a + zero ≡ a = omega arith in rw (e, f) refl
-range-append a (suc m) k =
+each-append : (f : ℕ → List ℕ) (x m k : ℕ)
+    → flat_map f (range_with_len x (m + k)) ≡ flat_map f (range_with_len x m) ++ flat_map f (range_with_len (x + m) k)
+each-append f x zero k = let e : zero + k ≡ k = omega arith in let h : x + zero ≡ x = omega arith in rw (e, h) refl
+each-append f x (suc m) k =
     let e : suc m + k ≡ suc (m + k) = omega arith in
-    let f : a + suc m ≡ a + 1 + m = omega arith in
-    rw (e, f) (ap (λ u. a ∷ u) (range-append (a + 1) m k))
+    let h : x + suc m ≡ x + 1 + m = omega arith in
+    rw (e, h) (ap (λ u. f x ++ u) (each-append f (x + 1) m k) ∙ sym (append_assoc (f x) (flat_map f (range_with_len (x + 1) m)) _))
 
 -- n more places
 pub places_more : (f : ℕ → List ℕ) (x n : ℕ) → flat_map f (range_with_len 0 (x + n)) ≡ flat_map f (range_with_len 0 x) ++ flat_map f (range_with_len x n)
 places_more f x n =
     let e : 0 + x ≡ x = omega arith in
-    ap (flat_map f) (range-append 0 x n) ∙ flat_map-append f (range_with_len 0 x) (range_with_len (0 + x) n)
-    ∙ ap (λ u. flat_map f (range_with_len 0 x) ++ flat_map f (range_with_len u n)) e
+    each-append f 0 x n ∙ ap (λ u. flat_map f (range_with_len 0 x) ++ flat_map f (range_with_len u n)) e
 
 -- the places of a line: those before x, n more, and the rest
 pub places_rest : (f : ℕ → List ℕ) (x n w : ℕ) → x + n ≤ w → flat_map f (range_with_len 0 w)
@@ -211,21 +210,18 @@ pub places_rest : (f : ℕ → List ℕ) (x n w : ℕ) → x + n ≤ w → flat_
 places_rest f x n w h =
     let e : w ≡ x + (n + (w - x - n)) = omega arith in
     ap (λ u. flat_map f (range_with_len 0 u)) e ∙ places_more f x (n + (w - x - n))
-    ∙ ap (λ u. flat_map f (range_with_len 0 x) ++ u) (ap (flat_map f) (range-append x n (w - x - n))
-    ∙ flat_map-append f (range_with_len x n) (range_with_len (x + n) (w - x - n)))
+    ∙ ap (λ u. flat_map f (range_with_len 0 x) ++ u) (each-append f x n (w - x - n))
 
 -- one more place, with the text s
 pub places_next : (f : ℕ → List ℕ) (x n : ℕ) (s : List ℕ) → f (x + n) ≡ s
     → flat_map f (range_with_len x (n + 1)) ≡ flat_map f (range_with_len x n) ++ s
 places_next f x n s e =
-    ap (flat_map f) (range-append x n 1) ∙ flat_map-append f (range_with_len x n) (range_with_len (x + n) 1)
-    ∙ ap (λ u. flat_map f (range_with_len x n) ++ u) (append-nil (f (x + n)) ∙ e)
+    each-append f x n 1 ∙ ap (λ u. flat_map f (range_with_len x n) ++ u) (append-nil (f (x + n)) ∙ e)
 
 -- the places of a run: those before, one with the text s, and the rest
 pub run_rest : (f : ℕ → List ℕ) (x i n : ℕ) (s : List ℕ) → i < n → f (x + i) ≡ s → flat_map f (range_with_len x n)
     ≡ flat_map f (range_with_len x i) ++ (s ++ flat_map f (range_with_len (x + i + 1) (n - i - 1)))
 run_rest f x i n s h d =
     let e : n ≡ i + suc (n - i - 1) = omega arith in
-    ap (λ u. flat_map f (range_with_len x u)) e ∙ ap (flat_map f) (range-append x i (suc (n - i - 1)))
-    ∙ flat_map-append f (range_with_len x i) (range_with_len (x + i) (suc (n - i - 1)))
+    ap (λ u. flat_map f (range_with_len x u)) e ∙ each-append f x i (suc (n - i - 1))
     ∙ ap (λ u. flat_map f (range_with_len x i) ++ (u ++ flat_map f (range_with_len (x + i + 1) (n - i - 1)))) d

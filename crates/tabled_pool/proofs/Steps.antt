@@ -4,8 +4,7 @@ use Rattle.tabled_pool.proofs.Names.{append_assoc, arith, behind_border, border_
 use Rattle.tabled_pool.proofs.Names.{box_of, boxes_left, common_steps, drop, drop-cons, first_part, get_or, given_size, joined_box, length}
 use Rattle.tabled_pool.proofs.Names.{list_box, map, max, needed_by, part_of, place_along, refl, subst, sym, ℕ, ◌++◌, ◌+◌, ◌<◌, ◌∙◌, ◌∷◌}
 use Rattle.tabled_pool.proofs.Names.{◌≡◌}
-use Rattle.tabled_pool.specs.Boxes.{joined_parts}
-use Rattle.tabled_pool.specs.Left.{CanSplit}
+use Rattle.tabled_pool.specs.Boxes.{joined_parts, CanSplit}
 use Rattle.tabled_pool.specs.declared.places.BoxesLeft.{BoxesLeft}
 use Rattle.tabled_pool.proofs.Directions.{fits_across, fits_along, joined_along, joined_across, shares}
 

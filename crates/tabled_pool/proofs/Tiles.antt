@@ -3,7 +3,7 @@ use Rattle.tabled_pool.proofs.Names.{Bar, DrawingPlan, Kind, Leaf, List, Part, R
 use Rattle.tabled_pool.proofs.Names.{encode_utf8, flat_map, inl, inr, is_line_kind, leaf_line, owned_text, owner, part_text, place_text}
 use Rattle.tabled_pool.proofs.Names.{range_with_len, refl, true, whole, within, ℕ, ◌++◌, ◌+◌, ◌-◌, ◌<◌, ◌∙◌, ◌≡◌, ◌≤◌, ◌⊎◌}
 use Rattle.tabled_line.proofs.Each.{each-rest}
-use Rattle.tabled_pool.specs.Tiled.{StandsAt}
+use Rattle.tabled_pool.specs.Drawn.{StandsAt}
 use Rattle.tabled_pool.proofs.Owners.{inside-within, within-inside, within-le, owner-inside, counted}
 use Rattle.tabled_pool.proofs.UpcomingCells.{ahead, whole-inside, unique, Begins, Goes, before, leaf-begins, out-line}
 use Rattle.tabled_pool.proofs.Columns.{border-bare, out, prefix}

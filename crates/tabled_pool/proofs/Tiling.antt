@@ -1,47 +1,80 @@
--- The parts of a tree fill its rectangle, each place once.
-use Rattle.tabled_pool.proofs.Names.{Across, Box, BoxSpacing, Cell, Column, Direction, Down, List, Part, Rectangle, Row, TableValue, Tiles}
-use Rattle.tabled_pool.proofs.Names.{[], arith, behind_border, border_part, border_size, bottom_part, box_of, box_step, covering}
-use Rattle.tabled_pool.proofs.Names.{first_part, fold-roll-TableValue, given_size, ind-TableValue, joined_box, leaf_box, left_part, length}
-use Rattle.tabled_pool.proofs.Names.{list_box, map, map-TableValue, nat_tests, needed_by, place_along, refl, rest_part, right_part}
-use Rattle.tabled_pool.proofs.Names.{roll-TableValue, spans, string_bytes, subst, sym, top_part, within, ℕ, ◌++◌, ◌+◌, ◌-◌, ◌<◌, ◌∷◌, ◌≡◌}
-use Rattle.tabled_pool.proofs.Names.{◌≤◌}
+-- The parts of a tree fill its rectangle: each place is in one part, and each text is held by its part.
+use Rattle.tabled_pool.proofs.Names.{Across, AreTiles, Bar, Box, BoxSpacing, Direction, Down, EachText, IsUtf8, IsUtf8-nil, Kind, Leaf}
+use Rattle.tabled_pool.proofs.Names.{List, Part, Rectangle, Rule, Sides, Some, TableValue, [], arith, behind_border, border_kind}
+use Rattle.tabled_pool.proofs.Names.{border_part, border_size, bottom_part, box_of, covering, first_part, framed, given_size, is_line_kind}
+use Rattle.tabled_pool.proofs.Names.{joined_box, left_part, length, lines_of, nat_tests, needed_by, owner, part_of, place_along, refl}
+use Rattle.tabled_pool.proofs.Names.{rest_part, right_part, spans, subst, sym, text_columns, top_part, tree_of, true, within, ℕ, ⊎_elim}
+use Rattle.tabled_pool.proofs.Names.{◌++◌, ◌+◌, ◌-◌, ◌<◌, ◌∙◌, ◌∷◌, ◌≡◌, ◌≤◌}
 use Rattle.std.proofs.Math.Nat.{add-mul, mul-add}
 use Rattle.tabled_pool.proofs.Directions.{shares}
+use Rattle.tabled_pool.proofs.Owners.{owner-here, owner-behind, is-1}
+use Rattle.tabled_pool.proofs.Trees.{IsKept, of-tree, tree-utf8}
 
-pub spans-split : (a m n k p : ℕ) → m ≤ n → k ≡ a + m → spans a n p ≡ spans a m p + spans k (n - m) p
+-- ---- each part
+
+abbrev pub EachPart : (Part → Type 0) → List Part → Type 0
+EachPart P [] = Unit {0}
+EachPart P (p ∷ ps) = P p × EachPart P ps
+
+part-append : (P : Part → Type 0) (ps qs : List Part) → EachPart P ps → EachPart P qs → EachPart P (ps ++ qs)
+part-append P [] qs p q = q
+part-append P (x ∷ xs) qs p q = (p.0, part-append P xs qs p.1 q)
+
+pub owner-part : (P : Part → Type 0) (ps : List Part) (x y : ℕ) (p : Part) → EachPart P ps → owner ps x y ≡ Some p → P p
+owner-part P [] x y p f h = cc
+owner-part P (q ∷ ps) x y p f h = ⊎_elim
+    (λ w. let e : q ≡ p = cc (owner-here q ps x y w) in subst P e f.0)
+    (λ w. owner-part P ps x y p f.1 (sym (owner-behind q ps x y w) ∙ h))
+    (is-1 (within q.place x y))
+
+-- the text of a part is of a kind, and the rectangle of a text is large enough for it and its padding
+pub record IsHeld (g : BoxSpacing) (IsText : List ℕ → Type 0) (p : Part) : Type 0 where
+  pub text : IsText p.text
+  pub wide : p.kind ≡ Leaf → text_columns p.text + (g.padding.left.size + g.padding.right.size) ≤ p.place.width
+  pub tall : p.kind ≡ Leaf → length (lines_of p.text) + (g.padding.top.size + g.padding.bottom.size) ≤ p.place.height
+
+line-held : (g : BoxSpacing) (IsText : List ℕ → Type 0) → IsText [] → (k : Kind) (r : Rectangle) → is_line_kind k ≡ true
+    → IsHeld g IsText (part_of k r [])
+line-held g IsText e Leaf r l = cc
+line-held g IsText e Bar r l = record { text = e; wide = λ k. cc; tall = λ k. cc }
+line-held g IsText e Rule r l = record { text = e; wide = λ k. cc; tall = λ k. cc }
+
+pub border-line : (d : Direction) → is_line_kind (border_kind d) ≡ true
+border-line Across = refl
+border-line Down = refl
+
+-- ---- rectangles
+
+spans-split : (a m n k p : ℕ) → m ≤ n → k ≡ a + m → spans a n p ≡ spans a m p + spans k (n - m) p
 unfolding spans
 spans-split a m n k p h e = grind (arith, nat_tests)
+
+-- a rectangle is its first part and the rest
+within-split : (d : Direction) (n : ℕ) (r : Rectangle) (px py : ℕ) → n ≤ place_along d r
+    → within r px py ≡ within (first_part d n r) px py + within (rest_part d n r) px py
+within-split Across n r px py h = rw (spans-split r.x n r.width (r.x + n) px h refl)
+    (add-mul (spans r.x n px) (spans (r.x + n) (r.width - n) px) (spans r.y r.height py))
+within-split Down n r px py h = rw (spans-split r.y n r.height (r.y + n) py h refl)
+    (mul-add (spans r.x r.width px) (spans r.y n py) (spans (r.y + n) (r.height - n) py))
 
 pub covering-append : (ps qs : List Part) (px py : ℕ) → covering (ps ++ qs) px py ≡ covering ps px py + covering qs px py
 covering-append [] qs px py = omega arith
 covering-append (p ∷ ps) qs px py = omega (arith, covering-append ps qs px py)
 
--- a rectangle is its left part and its right part
-pub within-across : (n : ℕ) (r : Rectangle) (px py : ℕ) → n ≤ r.width
-    → within r px py ≡ within (left_part n r) px py + within (right_part n r) px py
-within-across n r px py h = rw (spans-split r.x n r.width (r.x + n) px h refl)
-    (add-mul (spans r.x n px) (spans (r.x + n) (r.width - n) px) (spans r.y r.height py))
+-- ---- boxes
 
-pub within-down : (n : ℕ) (r : Rectangle) (px py : ℕ) → n ≤ r.height
-    → within r px py ≡ within (top_part n r) px py + within (bottom_part n r) px py
-within-down n r px py h = rw (spans-split r.y n r.height (r.y + n) py h refl)
-    (mul-add (spans r.x r.width px) (spans r.y n py) (spans (r.y + n) (r.height - n) py))
+-- in each rectangle that is large enough for a box, its parts cover each position once, and nothing
+-- outside, and hold their texts
+pub record IsFilled (g : BoxSpacing) (IsText : List ℕ → Type 0) (b : Box) : Type 0 where
+  pub once : (r : Rectangle) (px py : ℕ) → b.width ≤ r.width → b.height ≤ r.height → covering (b.parts r) px py ≡ within r px py
+  pub held : (r : Rectangle) → b.width ≤ r.width → b.height ≤ r.height → EachPart (IsHeld g IsText) (b.parts r)
 
-abbrev pub AllTile : List Box → Type 0
-AllTile [] = Unit {0}
-AllTile (b ∷ bs) = Tiles b × AllTile bs
+leaf-once : (r : Rectangle) (text : List ℕ) (px py : ℕ) → covering (part_of Leaf r text ∷ []) px py ≡ within r px py
+leaf-once r text px py = omega arith
 
-leaf-tiles : (g : BoxSpacing) (text : List ℕ) → Tiles (leaf_box g text)
-leaf-tiles g text = record { once = λ r px py w h. omega arith }
-
-within-split : (d : Direction) (n : ℕ) (r : Rectangle) (px py : ℕ) → n ≤ place_along d r
-    → within r px py ≡ within (first_part d n r) px py + within (rest_part d n r) px py
-within-split Across n r px py h = within-across n r px py h
-within-split Down n r px py h = within-down n r px py h
-
-pub joined-tiles : (d : Direction) (g : BoxSpacing) (k : ℕ) (b c : Box) → 0 < k → Tiles b → Tiles c
-    → Tiles (joined_box d g k b c)
-joined-tiles d g k b c z t u = record {
+joined-filled : (g : BoxSpacing) (IsText : List ℕ → Type 0) → IsText [] → (d : Direction) (k : ℕ) (b c : Box) → 0 < k
+    → IsFilled g IsText b → IsFilled g IsText c → IsFilled g IsText (joined_box d g k b c)
+joined-filled g IsText e d k b c z t u = record {
   once = λ r px py w h.
       let n = given_size d g b (place_along d r) (needed_by d g b c) k in
       let s = shares d g k b c r z w h in
@@ -53,28 +86,48 @@ joined-tiles d g k b c z t u = record {
         within-split d n r px py s.given,
         within-split d (border_size d g) (rest_part d n r) px py s.border,
       );
+  held = λ r w h.
+      let n = given_size d g b (place_along d r) (needed_by d g b c) k in
+      let s = shares d g k b c r z w h in
+      part-append (IsHeld g IsText) (b.parts (first_part d n r)) _ (t.held (first_part d n r) s.wide s.tall)
+      (line-held g IsText e (border_kind d) _ (border-line d), u.held (behind_border d g n r) s.rest_wide s.rest_tall);
 }
 
-pub list_box-tiles : (d : Direction) (g : BoxSpacing) (bs : List Box) → AllTile bs → Tiles (list_box d g bs)
-list_box-tiles d g [] ts = leaf-tiles g []
-list_box-tiles d g (b ∷ []) (t, ts) = t
-list_box-tiles d g (b ∷ (c ∷ bs)) (t, ts) =
-    joined-tiles d g (length (c ∷ bs) + 1) b (list_box d g (c ∷ bs)) (omega arith) t (list_box-tiles d g (c ∷ bs) ts)
+pub filled : (g : BoxSpacing) (IsText : List ℕ → Type 0) → IsText [] → IsKept g IsText (IsFilled g IsText)
+filled g IsText e = record {
+  empty = e;
+  leaf = λ text u. record {
+    once = λ r px py w h. leaf-once r text px py;
+    held = λ r w h. (record { text = u; wide = λ k. w; tall = λ k. h }, tt);
+  };
+  joined = joined-filled g IsText e;
+}
 
-abbrev Holds : BoxSpacing → TableValue → Type 0
-Holds g t = Tiles (box_of g t)
+-- ---- a tree in its frame
 
-all-map : (g : BoxSpacing) (es : List ((t : TableValue) × Holds g t)) → AllTile (map (box_of g) (map (λ e. e.0) es))
-all-map g [] = tt
-all-map g (e ∷ es) = (e.1, all-map g es)
+pub framed-tiles : (g : BoxSpacing) (t : TableValue) (e : Sides ℕ) (w : Rectangle)
+    → e.left + (box_of g t).width + e.right ≤ w.width → e.top + (box_of g t).height + e.bottom ≤ w.height → AreTiles (framed e (box_of g t) w) w
+unfolding framed
+framed-tiles g t e w h v = λ px py.
+    let rest = right_part e.left w in
+    let middle = left_part (rest.width - e.right) rest in
+    let below = bottom_part e.top middle in
+    let f = of-tree (filled g IsUtf8 IsUtf8-nil) t (tree-utf8 t) in
+    omega (
+      arith,
+      within-split Across e.left w px py (omega arith),
+      within-split Across (rest.width - e.right) rest px py (omega arith),
+      within-split Down e.top middle px py (omega arith),
+      within-split Down (below.height - e.bottom) below px py (omega arith),
+      f.once (top_part (below.height - e.bottom) below) px py (omega arith) (omega arith),
+    )
 
--- every tree
-pub tree-tiles : (g : BoxSpacing) (t : TableValue) → Tiles (box_of g t)
-tree-tiles g = ind-TableValue (Holds g) (λ x y is.
-    subst (λ z. Tiles (box_of g (roll-TableValue z))) is
-    (subst Tiles (sym (fold-roll-TableValue Box (box_step g) (map-TableValue _ TableValue (λ e. e.0) y)))
-    (elim y as (λ v. Tiles (box_step g (map-TableValue _ Box (box_of g) (map-TableValue _ TableValue (λ e. e.0) v)))) [
-      | Cell s ↦ leaf-tiles g (string_bytes s)
-      | Row v ↦ list_box-tiles Across g _ (all-map g v.items)
-      | Column v ↦ list_box-tiles Down g _ (all-map g v.items)
-    ])))
+pub framed-held : (g : BoxSpacing) (IsText : List ℕ → Type 0) → IsText [] → (t : TableValue) → EachText IsText (tree_of t)
+    → (e : Sides ℕ) (w : Rectangle) → e.left + (box_of g t).width + e.right ≤ w.width
+    → e.top + (box_of g t).height + e.bottom ≤ w.height → EachPart (IsHeld g IsText) (framed e (box_of g t) w)
+unfolding framed
+framed-held g IsText n t k e w h v =
+    let bar = line-held g IsText n Bar in
+    let rule = line-held g IsText n Rule in
+    let f = of-tree (filled g IsText n) t k in
+    (bar _ refl, (bar _ refl, (rule _ refl, (rule _ refl, f.held _ (omega arith) (omega arith)))))

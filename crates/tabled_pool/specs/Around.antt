@@ -4,8 +4,7 @@ use Rattle.std.specs.Prelude.{ℕ, ◌+◌, ◌==◌, ltb, leb, if◌then◌else
 use Rattle.tabled_config.specs.Frame.{has_left, has_right}
 use Rattle.tabled_pool.specs.declared.places.Rectangle.{Rectangle}
 use Rattle.tabled_pool.specs.Boxes.{Part, is_line_kind}
-use Rattle.tabled_pool.specs.Colours.{Mark}
-use Rattle.tabled_pool.specs.Marks.{Around, alone, begun, ended, nothing_around, used_after}
+use Rattle.tabled_pool.specs.Colours.{Mark, Around, alone, begun, ended, nothing_around, used_after}
 use Rattle.tabled_pool.specs.Plan.{DrawingPlan, has_bottom, has_top}
 use Rattle.tabled_pool.specs.declared.color_marks.RunSide.{RunSide}
 use Rattle.tabled_pool.specs.declared.color_marks.RunSide.TheVariants.{Before, Inside, Behind, Outside}

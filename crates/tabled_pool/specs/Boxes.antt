@@ -1,6 +1,7 @@
--- Boxes: the size that each needs, and the parts that fill a rectangle.
-use Rattle.std.specs.Prelude.{◌≡◌, ℕ, ◌+◌, ◌-◌, ◌/◌, ◌^◌, ◌≤◌, ◌⊎◌, if◌then◌else◌, max, List, [], ◌∷◌, ◌++◌, length, Option, Some, None}
-use Rattle.std.specs.Prelude.{string_bytes, ◌%◌, ◌==◌, Bool, true, false}
+-- Boxes: the size that each needs, the parts that fill a rectangle, and which part is at a position.
+use Rattle.std.specs.Prelude.{◌≡◌, ℕ, ◌+◌, ◌-◌, ◌^◌, ◌≤◌, ◌⊎◌, if◌then◌else◌, max, List, [], ◌∷◌, ◌++◌, length, Option, Some, None}
+use Rattle.std.specs.Prelude.{string_bytes, ◌==◌, Bool, true, false, ◌<◌, map, ◌*◌, ltb, leb, ◌&&◌, zero, suc}
+use Rattle.std.specs.Int.{div_ceil}
 use Rattle.tabled_text.specs.Measure.{lines_of, text_columns}
 use Rattle.tabled_size.specs.declared.complete_dimension.DimensionPriority.{DimensionPriority}
 use Rattle.tabled_size.specs.declared.complete_dimension.DimensionPriority.TheVariants.{First, Last, List as Each}
@@ -14,6 +15,9 @@ use Rattle.tabled_pool.specs.declared.places.Kind.TheVariants.{Leaf, Bar, Rule}
 use Rattle.tabled_pool.specs.declared.tree.TableValue.{TableValue}
 use Rattle.tabled_pool.specs.declared.tree.TableValue.TheOpen.{TableValue-F, Row, Column, Cell}
 use Rattle.tabled_pool.specs.declared.tree.TableValue.TheFolds.{fold-TableValue}
+use Rattle.tabled_pool.specs.declared.places.Piece.{Piece}
+use Rattle.tabled_pool.specs.declared.places.BoxesLeft.{BoxesLeft}
+use Rattle.tabled_config.specs.declared.sides.Sides.{Sides}
 
 -- a text, or a border between boxes
 pub record Part : Type 0 where
@@ -33,7 +37,7 @@ part_of k r text = record { kind = k; place = r; text = text }
 abbrev pub share : DimensionPriority → ℕ → ℕ → ℕ
 share First surplus k = surplus
 share Last surplus k = 0
-share Each surplus k = surplus / k + (if surplus % k == 0 then 0 else 1)
+share Each surplus k = div_ceil surplus k
 
 -- the first n columns of a rectangle, and those after them; the first n lines, and those below them
 abbrev pub left_part : ℕ → Rectangle → Rectangle
@@ -118,8 +122,8 @@ joined_box d g count b c =
 
 abbrev pub leaf_box : BoxSpacing → List ℕ → Box
 leaf_box g text = record {
-  width = text_columns text + (g.padding.left + g.padding.right);
-  height = length (lines_of text) + (g.padding.top + g.padding.bottom);
+  width = text_columns text + (g.padding.left.size + g.padding.right.size);
+  height = length (lines_of text) + (g.padding.top.size + g.padding.bottom.size);
   parts = λ r. part_of Leaf r text ∷ [];
 }
 
@@ -148,3 +152,98 @@ abbrev pub is_line_kind : Kind → Bool
 is_line_kind Leaf = false
 is_line_kind Bar = true
 is_line_kind Rule = true
+
+-- ---- pieces as parts, and which rectangles are large enough for a box
+
+abbrev pub shown : Piece → Part
+shown p = part_of p.kind p.place p.text.now
+
+pub record Fits (b : Box) (r : Rectangle) : Type 0 where
+  pub wide : b.width ≤ r.width
+  pub tall : b.height ≤ r.height
+  pub right : r.x + r.width < 2 ^ 64
+  pub low : r.y + r.height < 2 ^ 64
+
+-- ---- the boxes that are still to be placed
+
+-- the first of them can be split off a rectangle
+pub record CanSplit (d : Direction) (g : BoxSpacing) (v : TableValue) (left : BoxesLeft) (r : Rectangle) : Type 0 where
+  pub some : 0 < left.count
+  pub own : box_along d (box_of g v) + border_size d g ≤ left.size
+  pub across : box_across d (box_of g v) ≤ place_across d r
+  pub along : left.size ≤ place_along d r
+  pub right : r.x + r.width < 2 ^ 64
+  pub low : r.y + r.height < 2 ^ 64
+
+-- the size that it is given there
+abbrev pub given_in : Direction → BoxSpacing → TableValue → BoxesLeft → Rectangle → ℕ
+given_in d g v left r = given_size d g (box_of g v) (place_along d r) left.size left.count
+
+abbrev pub boxes_left : BoxSpacing → List TableValue → TableValue → List Box
+boxes_left g front last = map (box_of g) front ++ (box_of g last ∷ [])
+
+-- what boxes that are left need, and how many they are
+pub record AreLeft (d : Direction) (g : BoxSpacing) (boxes : List Box) (left : BoxesLeft) : Type 0 where
+  pub size : left.size ≡ box_along d (list_box d g boxes)
+  pub count : left.count ≡ length boxes
+
+pub record Placing (whole now : Box) (r place : Rectangle) (before pieces : List Piece) : Type 0 where
+  pub parts : map shown pieces ++ now.parts place ≡ map shown before ++ whole.parts r
+  pub fits : Fits now place
+
+-- ---- which parts cover a position
+
+-- 1 if p is one of the n numbers from a on, else 0
+unfoldable pub spans : ℕ → ℕ → ℕ → ℕ
+spans a n p = if leb a p && ltb p (a + n) then 1 else 0
+
+-- 1 if the position is in the rectangle, else 0
+abbrev pub within : Rectangle → ℕ → ℕ → ℕ
+within r px py = spans r.x r.width px * spans r.y r.height py
+
+-- how many parts cover a position
+abbrev pub covering : List Part → ℕ → ℕ → ℕ
+covering [] px py = 0
+covering (p ∷ ps) px py = within p.place px py + covering ps px py
+
+-- each position in the rectangle is in exactly one part, and no part reaches outside
+abbrev pub AreTiles : List Part → Rectangle → Type 0
+AreTiles parts r = (px py : ℕ) → covering parts px py ≡ within r px py
+
+-- a box with the outer borders around it
+unfoldable pub framed : Sides ℕ → Box → Rectangle → List Part
+framed e b w =
+    let rest = right_part e.left w in
+    let middle = left_part (rest.width - e.right) rest in
+    let below = bottom_part e.top middle in
+    part_of Bar (left_part e.left w) []
+    ∷ (part_of Bar (right_part (rest.width - e.right) rest) []
+    ∷ (part_of Rule (top_part e.top middle) []
+    ∷ (part_of Rule (bottom_part (below.height - e.bottom) below) []
+    ∷ b.parts (top_part (below.height - e.bottom) below))))
+
+-- ---- which part is at a position
+
+abbrev pub contains : Rectangle → ℕ → ℕ → Bool
+contains r x y = within r x y == 1
+
+-- the first part that contains a position
+abbrev pub owner : List Part → ℕ → ℕ → Option Part
+owner [] x y = None
+owner (p ∷ ps) x y = if contains p.place x y then Some p else owner ps x y
+
+abbrev pub is_line : Option Part → Bool
+is_line None = false
+is_line (Some p) = is_line_kind p.kind
+
+-- whether a border is at a position
+abbrev pub is_border : List Part → ℕ → ℕ → Bool
+is_border ps x y = is_line (owner ps x y)
+
+abbrev pub is_border_before : List Part → ℕ → ℕ → Bool
+is_border_before ps zero y = false
+is_border_before ps (suc x) y = is_border ps x y
+
+abbrev pub is_border_above : List Part → ℕ → ℕ → Bool
+is_border_above ps x zero = false
+is_border_above ps x (suc y) = is_border ps x y

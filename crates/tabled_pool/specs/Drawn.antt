@@ -1,19 +1,22 @@
 -- The lines of a drawing, and runs of columns that are written at once. At each position a line of a
 -- text's block starts, or one border character is written with its colour.
-use Rattle.std.specs.Prelude.{ℕ, ◌+◌, ◌-◌, ◌==◌, if◌then◌else◌, Bool, ◌&&◌, ◌||◌, List, [], map, Option, Some, None, unwrap_or}
-use Rattle.std.specs.Prelude.{encode_utf8, ◌≡◌, ◌<◌, ◌≤◌, true}
+use Rattle.std.specs.Prelude.{ℕ, ◌+◌, ◌-◌, ◌==◌, if◌then◌else◌, Bool, ◌&&◌, ◌||◌, List, [], map, Option, Some, None, unwrap_or, encode_utf8}
+use Rattle.std.specs.Prelude.{◌≡◌, ◌<◌, ◌≤◌, true, ◌++◌}
 use Rattle.std.specs.List.{range_with_len, flat_map}
 use Rattle.tabled_pool.specs.declared.places.Rectangle.{Rectangle}
 use Rattle.tabled_pool.specs.declared.places.Kind.{Kind}
 use Rattle.tabled_pool.specs.declared.places.Kind.TheVariants.{Leaf, Bar, Rule}
-use Rattle.tabled_pool.specs.Boxes.{Part, is_line_kind}
+use Rattle.tabled_pool.specs.Boxes.{Part, is_line_kind, owner, is_border, is_border_before, is_border_above, shown, covering}
 use Rattle.tabled_config.specs.Frame.{has_right}
 use Rattle.tabled_config.specs.Junction.{junction}
 use Rattle.tabled_pool.specs.Block.{leaf_line}
-use Rattle.tabled_pool.specs.Marks.{within_marks}
+use Rattle.tabled_pool.specs.Colours.{within_marks}
 use Rattle.tabled_pool.specs.Plan.{DrawingPlan, has_bottom}
 use Rattle.tabled_pool.specs.Around.{around_at}
-use Rattle.tabled_pool.specs.Owner.{owner, is_border, is_border_before, is_border_above}
+use Rattle.std.specs.Option.{option_map}
+use Rattle.tabled_pool.specs.declared.line_runs.Cursor.{Cursor}
+use Rattle.tabled_pool.specs.declared.line_runs.Run.{Run}
+use Rattle.tabled_text.specs.Measure.{line_columns}
 
 -- the character of a border where no other meets it; the outer right and bottom borders have their
 -- own
@@ -66,3 +69,38 @@ pub record IsRun (t : DrawingPlan) (x y count c : ℕ) (p : Part) : Type 0 where
   pub within : x + count ≤ t.width
   pub owned : (v : ℕ) → x ≤ v → v < x + count → owner t.parts v y ≡ Some p
   pub alike : is_line_kind p.kind ≡ true → (v : ℕ) → x ≤ v → v < x + count → border_char t p.kind p.place v y ≡ c
+
+-- ---- what is known at a column of a line
+
+-- the piece at a column, whether a border is before it, and which are above and below from there on
+pub record IsAt (t : DrawingPlan) (y : ℕ) (at : Cursor) : Type 0 where
+  pub within : at.x ≤ t.width
+  pub piece : option_map (λ p. shown p.now) at.piece ≡ owner t.parts at.x y
+  pub left : at.left ≡ is_border_before t.parts at.x y
+  pub up : (v : ℕ) → at.x ≤ v → v < at.up.end → is_border_above t.parts v y ≡ at.up.border
+  pub down : (v : ℕ) → at.x ≤ v → v < at.down.end → is_border t.parts v (y + 1) ≡ at.down.border
+
+-- the run from a column on, and the column after it
+pub record RunsFrom (t : DrawingPlan) (y : ℕ) (at : Cursor) (r : Run) (after : Cursor) : Type 0 where
+  pub run : IsRun t at.x y r.count r.c (shown r.piece.now)
+  pub next : IsAt t y after
+  pub behind : after.x ≡ at.x + r.count
+
+-- ---- drawn lines in which each part is in its rectangle
+
+-- a piece is in a line, after x columns
+pub record StandsAt (line : List ℕ) (x : ℕ) (piece : List ℕ) : Type 0 where
+  pub front : List ℕ
+  pub rest : List ℕ
+  pub whole : line ≡ front ++ (piece ++ rest)
+  pub columns : line_columns front ≡ x
+
+-- each position of the drawing is in exactly one part; the lines of a text's block are in its
+-- rectangle, and each other position has one border character, which depends on the borders that
+-- meet there
+pub record Tiled (t : DrawingPlan) : Type 0 where
+  pub once : (x y : ℕ) → x < t.width → y < t.height → covering t.parts x y ≡ 1
+  pub leaf : (u v y : ℕ) (p : Part) → owner t.parts u v ≡ Some p → p.kind ≡ Leaf → p.place.y ≤ y
+      → y < p.place.y + p.place.height → StandsAt (drawn_line t y) p.place.x (leaf_line t p (y - p.place.y))
+  pub border : (x y : ℕ) (p : Part) → x < t.width → y < t.height → owner t.parts x y ≡ Some p → is_line_kind p.kind
+      ≡ true → StandsAt (drawn_line t y) x (encode_utf8 (border_char t p.kind p.place x y))

@@ -2,9 +2,11 @@
 -- at the edges of the table also those below it and to its right, and drawn boxes are joined. Boxes
 -- pass on where borders meet: their widths to the boxes below, their heights to the boxes at the
 -- right.
-use Rattle.std.specs.Prelude.{ℕ, ◌+◌, ◌-◌, ltb, ◌==◌, if◌then◌else◌, Bool, true, false, not, ◌&&◌, ◌||◌, List, [], ◌∷◌, ◌++◌, length, map}
-use Rattle.std.specs.Prelude.{Option, Some, None, is_some, unwrap_or, encode_utf8, string_bytes}
-use Rattle.std.specs.List.{flat_map, range_with_len}
+use Rattle.std.specs.Prelude.{ℕ, ◌+◌, ◌-◌, max, List, [], ◌∷◌, ◌++◌, length, map, string_bytes, ltb, ◌==◌, if◌then◌else◌, Bool, true, false}
+use Rattle.std.specs.Prelude.{not, ◌&&◌, ◌||◌, Option, Some, None, is_some, unwrap_or, encode_utf8}
+use Rattle.std.specs.List.{flat_map, range_with_len, slice_index_or}
+use Rattle.tabled_line.specs.Fill.{fill}
+use Rattle.tabled_pool.specs.declared.bordered_text.DrawnBlock.{DrawnBlock}
 use Rattle.tabled_priority.specs.Sums.{one_if}
 use Rattle.tabled_config.specs.declared.borders.Borders.{Borders}
 use Rattle.tabled_pool.specs.declared.sizes.BoxSpacing.{BoxSpacing}
@@ -15,18 +17,50 @@ use Rattle.tabled_pool.specs.declared.tree.TableValue.TheOpen.{TableValue-F, Row
 use Rattle.tabled_pool.specs.declared.tree.TableValue.TheFolds.{fold-TableValue}
 use Rattle.tabled_pool.specs.declared.sizes.Direction.{Direction}
 use Rattle.tabled_pool.specs.declared.sizes.Direction.TheVariants.{Across, Down}
-use Rattle.tabled_pool.specs.Boxes.{Box, box_of, Part, part_of, leaf_box, list_box, given_size, behind_border, box_along, first_part}
-use Rattle.tabled_pool.specs.Boxes.{pick, place_along, is_line_kind}
+use Rattle.tabled_pool.specs.Boxes.{Box, box_of, Part, part_of, leaf_box, list_box, given_size, behind_border, box_along, first_part, pick}
+use Rattle.tabled_pool.specs.Boxes.{place_along, is_line_kind}
 use Rattle.tabled_pool.specs.declared.tree_walk.Flags.{Flags}
-use Rattle.tabled_pool.specs.Marks.{Around, alone, begun, ended, used_after, within_marks}
-use Rattle.tabled_pool.specs.Colours.{Mark}
+use Rattle.tabled_pool.specs.Colours.{Around, alone, begun, ended, used_after, within_marks, Mark}
 use Rattle.tabled_pool.specs.Block.{leaf_line}
-use Rattle.tabled_pool.specs.DrawnBlocks.{BlockSheet, side_by_side, stacked, block_sheet_of}
-use Rattle.tabled_pool.specs.Plan.{DrawingPlan}
+use Rattle.tabled_pool.specs.Plan.{DrawingPlan, plan_of}
 use Rattle.tabled_pool.specs.declared.inheriting_box.InheritingBox.{InheritingBox}
 use Rattle.tabled_pool.specs.declared.bordered_text.BorderedText.{BorderedText}
-use Rattle.tabled_pool.specs.Plans.{plan_of}
 use Rattle.tabled_pool.specs.declared.inheriting_box.TakenSizes.{TakenSizes}
+
+pub record BlockSheet : Type 0 where
+  pub width : ℕ
+  pub lines : List (List ℕ)
+
+abbrev pub block_sheet_of : DrawnBlock → BlockSheet
+block_sheet_of b = record { width = b.width; lines = map string_bytes b.lines.items }
+
+-- a line of a block, or spaces below its last line
+abbrev pub drawn_block_line : ℕ → BlockSheet → List ℕ
+drawn_block_line y p = slice_index_or p.lines y (fill 32 p.width)
+
+abbrev pub all_columns : List BlockSheet → ℕ
+all_columns [] = 0
+all_columns (p ∷ ps) = p.width + all_columns ps
+
+abbrev pub most_columns : List BlockSheet → ℕ
+most_columns [] = 0
+most_columns (p ∷ ps) = max p.width (most_columns ps)
+
+abbrev pub most_lines : List BlockSheet → ℕ
+most_lines [] = 0
+most_lines (p ∷ ps) = max (length p.lines) (most_lines ps)
+
+-- blocks side by side
+abbrev pub side_by_side : List BlockSheet → BlockSheet
+side_by_side ps = record { width = all_columns ps; lines = map (λ y. flat_map (drawn_block_line y) ps) (range_with_len 0 (most_lines ps)) }
+
+-- the lines of a block, filled with spaces to `width` columns
+abbrev pub widened : ℕ → BlockSheet → List (List ℕ)
+widened width p = map (λ line. line ++ fill 32 (width - p.width)) p.lines
+
+-- blocks below each other, filled with spaces to the greatest width
+abbrev pub stacked : List BlockSheet → BlockSheet
+stacked ps = record { width = most_columns ps; lines = flat_map (widened (most_columns ps)) ps }
 
 -- ---- lists of sizes
 

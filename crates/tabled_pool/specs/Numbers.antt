@@ -3,11 +3,8 @@ use Rattle.std.specs.Prelude.{◌≡◌, ℕ, ◌<◌, ◌≤◌, ◌+◌, false
 use Rattle.tabled_pool.specs.declared.color_marks.First.{First}
 use Rattle.tabled_pool.specs.declared.places.Piece.{Piece}
 use Rattle.tabled_pool.specs.Around.{around_at, around_part}
-use Rattle.tabled_pool.specs.Boxes.{Part, is_line_kind}
-use Rattle.tabled_pool.specs.Owner.{contains, owner}
-use Rattle.tabled_pool.specs.Plan.{DrawingPlan}
-use Rattle.tabled_pool.specs.Plans.{around_of}
-use Rattle.tabled_pool.specs.Shown.{shown}
+use Rattle.tabled_pool.specs.Boxes.{Part, is_line_kind, contains, owner, shown}
+use Rattle.tabled_pool.specs.Plan.{DrawingPlan, around_of}
 
 -- the number of the piece at a position
 abbrev pub IsNumber : List Piece → ℕ → ℕ → Option ℕ → Type 0

@@ -1,11 +1,13 @@
 -- What is drawn, as a value.
-use Rattle.std.specs.Prelude.{ℕ, List, Bool, ◌||◌, is_some}
+use Rattle.std.specs.Prelude.{ℕ, List, Bool, ◌||◌, is_some, map}
 use Rattle.tabled_config.specs.declared.borders.Borders.{Borders}
 use Rattle.tabled_config.specs.declared.sides.Sides.{Sides}
 use Rattle.tabled_config.specs.declared.spanned.CellStyle.{CellStyle}
-use Rattle.tabled_pool.specs.Boxes.{Part}
-use Rattle.tabled_pool.specs.Colours.{LineMarks, Mark}
+use Rattle.tabled_pool.specs.Boxes.{Part, shown}
+use Rattle.tabled_pool.specs.Colours.{LineMarks, Mark, Around, line_marks_of, marks_of}
 use Rattle.tabled_pool.specs.declared.places.Rectangle.{Rectangle}
+use Rattle.tabled_pool.specs.declared.color_marks.Marks.{Marks}
+use Rattle.tabled_pool.specs.declared.places.Drawing.{Drawing}
 
 -- parts in a drawing of `width` columns and `height` lines, and the settings that they are drawn
 -- with
@@ -27,3 +29,17 @@ has_top b = is_some b.top || (is_some b.top_left || (is_some b.top_intersection 
 
 abbrev pub has_bottom : Borders ℕ → Bool
 has_bottom b = is_some b.bottom || (is_some b.bottom_left || (is_some b.bottom_intersection || is_some b.bottom_right))
+
+abbrev pub plan_of : Drawing → DrawingPlan
+plan_of d = record {
+  parts = map shown d.pieces.now;
+  width = d.width;
+  height = d.height;
+  borders = d.borders;
+  style = d.style;
+  padding_marks = marks_of d.padding_colors;
+  line_marks = line_marks_of d.colors;
+}
+
+abbrev pub around_of : Marks → Around
+around_of m = record { close = m.close.now; start = m.start.now; behind = m.behind.now }

@@ -1,28 +1,43 @@
 -- The text of a pool table, and what a call that prints it leaves in a sink.
-use Rattle.std.specs.Prelude.{◌≡◌, ℕ, ◌+◌, ◌^◌, ◌<◌, ◌≤◌, ◌⊎◌, ◌==◌, if◌then◌else◌, ltb, Bool, false, ◌&&◌, ◌||◌, List, length, Result, Ok, Err}
+use Rattle.std.specs.Prelude.{ℕ, List, ◌++◌, map, replicate, ◌≡◌, ◌+◌, ◌^◌, ◌<◌, ◌≤◌, ◌⊎◌, ◌==◌, if◌then◌else◌, ltb, Bool, false, ◌&&◌}
+use Rattle.std.specs.Prelude.{◌||◌, length, Result, Ok, Err}
+use Rattle.tabled_config.specs.declared.sides.Indent.{Indent}
+use Rattle.tabled_config.specs.declared.sides.Sides.{Sides}
+use Rattle.tabled_line.specs.Fill.{fill, indent}
+use Rattle.tabled_pool.specs.Colours.{Mark, coloured, line_marks_of, marks_of, no_mark}
 use Rattle.std.specs.List.{join_with_byte}
 use Rattle.tabled_base.specs.declared.error.TableError.{TableError}
 use Rattle.tabled_base.specs.declared.error.TableError.TheVariants.{Memory, Range}
 use Rattle.tabled_priority.specs.Sums.{one_if}
 use Rattle.tabled_config.specs.declared.borders.Borders.{Borders}
 use Rattle.tabled_config.specs.declared.compact.CompactMultilineConfig.{CompactMultilineConfig}
-use Rattle.tabled_config.specs.declared.sides.Indent.{Indent}
-use Rattle.tabled_config.specs.declared.sides.Sides.{Sides}
 use Rattle.tabled_config.specs.declared.spanned.CellStyle.{CellStyle}
 use Rattle.tabled_config.specs.Compact.{each_side, no_indent}
 use Rattle.tabled_config.specs.Frame.{has_left, has_right}
 use Rattle.tabled_line.specs.Sent.{Sent, Sends, Stops}
 use Rattle.tabled_pool.specs.declared.sizes.BoxSpacing.{BoxSpacing}
 use Rattle.tabled_pool.specs.declared.places.Rectangle.{Rectangle}
-use Rattle.tabled_pool.specs.Boxes.{box_of}
-use Rattle.tabled_pool.specs.Tiling.{framed}
-use Rattle.tabled_pool.specs.Colours.{Mark, line_marks_of, marks_of, no_mark}
-use Rattle.tabled_pool.specs.Inherited.{inherited_block, has_zero_width}
-use Rattle.tabled_pool.specs.Margins.{with_margin}
-use Rattle.tabled_pool.specs.DrawnBlocks.{BlockSheet}
+use Rattle.tabled_pool.specs.Boxes.{box_of, framed}
+use Rattle.tabled_pool.specs.Inherited.{inherited_block, has_zero_width, BlockSheet}
 use Rattle.tabled_pool.specs.Plan.{DrawingPlan, has_bottom, has_top}
 use Rattle.tabled_pool.specs.declared.pool_table.PoolTable.{PoolTable}
 use Rattle.tabled_pool.specs.Drawn.{drawn}
+
+-- a line between the side margins
+abbrev pub within_margin : Sides Indent → Sides Mark → List ℕ → List ℕ
+within_margin margin marks line =
+    coloured marks.left (indent margin.left) ++ (line ++ coloured marks.right (indent margin.right))
+
+-- a line of the top or bottom margin, `width` columns between the side margins
+abbrev pub margin_line : Sides Indent → Sides Mark → Mark → ℕ → ℕ → List ℕ
+margin_line margin marks mark c width = within_margin margin marks (coloured mark (fill c width))
+
+-- lines of `width` columns with the margin around them
+abbrev pub with_margin : Sides Indent → Sides Mark → ℕ → List (List ℕ) → List (List ℕ)
+with_margin margin marks width lines =
+    replicate margin.top.size (margin_line margin marks marks.top margin.top.fill width)
+    ++ (map (within_margin margin marks) lines
+    ++ replicate margin.bottom.size (margin_line margin marks marks.bottom margin.bottom.fill width))
 
 abbrev pub borders_of : PoolTable → Borders ℕ
 borders_of t = t.config.config.borders
@@ -36,9 +51,8 @@ frame_of b =
 -- other if there is a top one
 abbrev pub spacing_of : PoolTable → BoxSpacing
 spacing_of t =
-    let padding = t.config.config.padding in
     record {
-      padding = record { left = padding.left.size; right = padding.right.size; top = padding.top.size; bottom = padding.bottom.size };
+      padding = t.config.config.padding;
       bar = one_if (has_left (borders_of t));
       rule = one_if (has_top (borders_of t));
       across = t.dimension.width;

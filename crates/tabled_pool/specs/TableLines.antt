@@ -7,10 +7,10 @@ use Rattle.tabled_pool.specs.declared.table_lines.TableLines.{TableLines}
 use Rattle.tabled_pool.specs.declared.table_lines.TableLines.TheVariants.{Placed, Drawn}
 use Rattle.tabled_pool.specs.Colours.{coloured, mark_of}
 use Rattle.tabled_pool.specs.Drawn.{drawn, drawn_line}
-use Rattle.tabled_pool.specs.DrawnBlocks.{BlockSheet, block_sheet_of}
+use Rattle.tabled_pool.specs.Inherited.{BlockSheet, block_sheet_of}
 use Rattle.tabled_pool.specs.Numbers.{AreSized}
-use Rattle.tabled_pool.specs.Plans.{plan_of}
-use Rattle.tabled_pool.specs.Shown.{shown}
+use Rattle.tabled_pool.specs.Plan.{plan_of}
+use Rattle.tabled_pool.specs.Boxes.{shown}
 
 abbrev pub sheet_of : TableLines → BlockSheet
 sheet_of (Placed d) = record { width = d.now.width; lines = drawn (plan_of d.now) }

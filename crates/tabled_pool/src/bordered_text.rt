@@ -1,18 +1,17 @@
 //! The lines of one text with the borders that it draws, and how drawn boxes are joined.
-ghost use Rattle.std.specs.List.{flat_map, range_with_len};
-ghost use Rattle.std.specs.Option.{option_map};
-ghost use Rattle.std.specs.Prelude.{IfOk, MatchOption, None, [], if◌then◌else◌, map, string_bytes};
-ghost use Rattle.std.specs.Prelude.{unwrap_or, ◌++◌, ◌+◌, ◌<◌, ◌^◌, ◌∷◌, ◌≡◌, ◌≤◌};
+ghost use Rattle.std.specs.List.{range_with_len};
+ghost use Rattle.std.specs.Prelude.{IfOk, MatchOption, None, [], flat_map, if◌then◌else◌, map};
+ghost use Rattle.std.specs.Prelude.{option_map, string_bytes, unwrap_or, ◌++◌, ◌+◌, ◌<◌, ◌^◌, ◌∷◌};
+ghost use Rattle.std.specs.Prelude.{◌≡◌, ◌≤◌};
 ghost use Rattle.tabled_line.specs.Fill.{fill};
-ghost use Rattle.tabled_pool.specs.Colours.{mark_of};
-ghost use Rattle.tabled_pool.specs.DrawnBlocks.{all_columns, block_sheet_of, drawn_block_line};
-ghost use Rattle.tabled_pool.specs.DrawnBlocks.{most_columns, most_lines, side_by_side, stacked};
-ghost use Rattle.tabled_pool.specs.DrawnBlocks.{widened};
-ghost use Rattle.tabled_pool.specs.Inherited.{bordered_block, bottom_text, inherited_by};
-ghost use Rattle.tabled_pool.specs.Inherited.{inheriting_box, inner_text, marked_text, outer_line};
-ghost use Rattle.tabled_pool.specs.Inherited.{plan_for, run_text, text_block, top_text, written};
-ghost use Rattle.tabled_pool.specs.Marks.{within_marks};
-ghost use Rattle.tabled_pool.specs.Plans.{around_of, plan_of};
+ghost use Rattle.tabled_pool.specs.Colours.{mark_of, within_marks};
+ghost use Rattle.tabled_pool.specs.Inherited.{all_columns, block_sheet_of, bordered_block};
+ghost use Rattle.tabled_pool.specs.Inherited.{bottom_text, drawn_block_line, inherited_by};
+ghost use Rattle.tabled_pool.specs.Inherited.{inheriting_box, inner_text, is_left, is_right};
+ghost use Rattle.tabled_pool.specs.Inherited.{marked_text, most_columns, most_lines, outer_line};
+ghost use Rattle.tabled_pool.specs.Inherited.{plan_for, run_text, side_by_side, stacked};
+ghost use Rattle.tabled_pool.specs.Inherited.{text_block, top_text, widened, written};
+ghost use Rattle.tabled_pool.specs.Plan.{around_of, plan_of};
 
 use crate::color_marks::{LineColors, Marks, alone, begun, ended, used_after};
 use crate::draw::{draw_block_line, draw_marked};
@@ -24,21 +23,15 @@ use std::alloc::{AllocError, Global};
 use tabled_config::Borders;
 use tabled_line::write_fill;
 
-/// The character of a border, if that is there. A missing character is a space.
-fn written(there: bool, c: Option<char>) -> Option<char>
-    ensures { result ≡ written there c }
-{
-    if there { Some(c.unwrap_or(' ')) } else { None }
-}
-
-fn push_marked(line: &mut String, marks: Marks, c: Option<char>) -> Result<(), AllocError>
+/// Appends the character of a border, if that is there. A missing character is a space.
+fn add_char(line: &mut String, marks: Marks, there: bool, c: Option<char>) -> Result<(), AllocError>
     ensures { IfOk result (λ _. string_bytes line.new
-        ≡ string_bytes line.old ++ marked_text (around_of marks) c) }
+        ≡ string_bytes line.old ++ marked_text (around_of marks) (written there c)) }
 {
-    match c {
-        Some(c) => draw_marked(line, marks, c).map_err(|_| AllocError),
-        None => Ok(()),
+    if there {
+        draw_marked(line, marks, c.unwrap_or(' ')).map_err(|_| AllocError)?;
     }
+    Ok(())
 }
 
 /// A horizontal border of `width` columns, with `split` where vertical ones meet it.
@@ -63,35 +56,9 @@ fn run_text(
     Ok(run)
 }
 
-/// The border above or below a text: a corner, a run, a corner, each with its colour.
-fn outer_line(
-    alloc: Global,
-    colors: LineColors,
-    start: Option<char>,
-    run: &str,
-    end: Option<char>,
-) -> Result<String, AllocError>
-    ensures { IfOk result (λ line. string_bytes line ≡ outer_line (option_map mark_of colors.corner)
-        (option_map mark_of colors.main) (option_map mark_of colors.right) start run.now end) }
-{
-    let first = if start.is_some() { colors.corner } else { None };
-    let used = used_after(first, colors.main);
-    let last = if end.is_some() { colors.right } else { None };
-    let mut line = String::new(alloc);
-    push_marked(&mut line, begun(None, colors.corner), start)?;
-    let main = begun(first, colors.main);
-    line.push_str(main.close)?;
-    line.push_str(main.start)?;
-    line.push_str(run)?;
-    line.push_str(main.behind)?;
-    push_marked(&mut line, begun(used, colors.right), end)?;
-    line.push_str(ended(used_after(used, last)))?;
-    Ok(line)
-}
-
 /// A text and the borders that it draws.
 #[derive(Clone, Copy)]
-pub(crate) struct BorderedText<'r, 'd, 'a> {
+pub struct BorderedText<'r, 'd, 'a> {
     drawing: &'r Drawing<'d, 'a>,
     own: Borders<char>,
     inherited: &'r InheritingBox,
@@ -99,6 +66,34 @@ pub(crate) struct BorderedText<'r, 'd, 'a> {
 }
 
 impl BorderedText<'_, '_, '_> {
+    /// The border above or below the text: a corner, a run, a corner, each with its colour.
+    fn outer_line(
+        &self,
+        colors: LineColors,
+        start: Option<char>,
+        run: &str,
+        end: Option<char>,
+    ) -> Result<String, AllocError>
+        ensures { IfOk result (λ line. string_bytes line ≡ outer_line (option_map mark_of colors.corner)
+            (option_map mark_of colors.main) (option_map mark_of colors.right)
+            (written (is_left self.now.own) start) run.now (written (is_right self.now.own) end)) }
+    {
+        let sides = own_sides(&self.own);
+        let first = if sides.left { colors.corner } else { None };
+        let used = used_after(first, colors.main);
+        let last = if sides.right { colors.right } else { None };
+        let mut line = String::new(self.drawing.alloc);
+        add_char(&mut line, begun(None, colors.corner), sides.left, start)?;
+        let main = begun(first, colors.main);
+        line.push_str(main.close)?;
+        line.push_str(main.start)?;
+        line.push_str(run)?;
+        line.push_str(main.behind)?;
+        add_char(&mut line, begun(used, colors.right), sides.right, end)?;
+        line.push_str(ended(used_after(used, last)))?;
+        Ok(line)
+    }
+
     fn top_text(&self) -> Result<String, AllocError>
         ensures { IfOk result (λ line. string_bytes line
             ≡ top_text (plan_for self.now) self.now.own (inherited_by self.now)) }
@@ -114,10 +109,7 @@ impl BorderedText<'_, '_, '_> {
             main: drawing.colors.top,
             right: drawing.colors.top_right,
         };
-        let sides = own_sides(own);
-        let start = written(sides.left, own.top_left);
-        let end = written(sides.right, own.top_right);
-        outer_line(drawing.alloc, colors, start, run.as_str(), end)
+        self.outer_line(colors, own.top_left, run.as_str(), own.top_right)
     }
 
     fn bottom_text(&self) -> Result<String, AllocError>
@@ -133,10 +125,7 @@ impl BorderedText<'_, '_, '_> {
             main: drawing.colors.bottom,
             right: drawing.colors.bottom_right,
         };
-        let sides = own_sides(own);
-        let start = written(sides.left, own.bottom_left);
-        let end = written(sides.right, own.bottom_right);
-        outer_line(drawing.alloc, colors, start, run.as_str(), end)
+        self.outer_line(colors, own.bottom_left, run.as_str(), own.bottom_right)
     }
 
     fn inner_text(&self, y: usize) -> Result<String, AllocError>
@@ -156,10 +145,9 @@ impl BorderedText<'_, '_, '_> {
         };
         let colors = &drawing.colors;
         let mut line = String::new(drawing.alloc);
-        push_marked(&mut line, alone(colors.left), written(sides.left, first))?;
+        add_char(&mut line, alone(colors.left), sides.left, first)?;
         draw_block_line(&mut line, drawing, place, self.text, y).map_err(|_| AllocError)?;
-        let last = written(sides.right, own.right);
-        push_marked(&mut line, alone(colors.right), last)?;
+        add_char(&mut line, alone(colors.right), sides.right, own.right)?;
         Ok(line)
     }
 
@@ -198,7 +186,7 @@ impl BorderedText<'_, '_, '_> {
 }
 
 /// The drawn block of a text. A zero-width text is one empty line.
-pub(crate) fn text_block(
+pub fn text_block(
     drawing: &Drawing<'_, '_>,
     inherited: &InheritingBox,
     text: &str,
@@ -276,7 +264,7 @@ fn joined_line(alloc: Global, blocks: &[DrawnBlock], y: usize) -> Result<String,
 
 /// Joins blocks side by side. Fails if an allocation fails, or if the total width exceeds
 /// `usize::MAX`.
-pub(crate) fn side_by_side(alloc: Global, blocks: &[DrawnBlock]) -> Result<DrawnBlock, AllocError>
+pub fn side_by_side(alloc: Global, blocks: &[DrawnBlock]) -> Result<DrawnBlock, AllocError>
     ensures { IfOk result (λ joined. block_sheet_of joined
         ≡ side_by_side (map block_sheet_of blocks.now)) }
 {
@@ -311,7 +299,7 @@ fn push_widened(
 }
 
 /// Joins blocks below each other, filled with spaces to the greatest width.
-pub(crate) fn stacked(alloc: Global, blocks: &[DrawnBlock]) -> Result<DrawnBlock, AllocError>
+pub fn stacked(alloc: Global, blocks: &[DrawnBlock]) -> Result<DrawnBlock, AllocError>
     ensures { IfOk result (λ joined. block_sheet_of joined
         ≡ stacked (map block_sheet_of blocks.now)) }
 {

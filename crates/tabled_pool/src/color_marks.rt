@@ -1,15 +1,14 @@
 //! The marks around a border character or a run: a prefix and a suffix of a colour.
-ghost use Rattle.std.specs.Option.{option_map};
-ghost use Rattle.std.specs.Prelude.{[], ℕ, ◌++◌, ◌+◌, ◌-◌, ◌<◌, ◌^◌, ◌≡◌, ◌≤◌};
+ghost use Rattle.std.specs.Prelude.{[], option_map, ℕ, ◌++◌, ◌+◌, ◌-◌, ◌<◌, ◌^◌, ◌≡◌, ◌≤◌};
 ghost use Rattle.tabled_line.specs.Fill.{fill};
 ghost use Rattle.tabled_line.specs.Sent.{Sent, Writes};
 ghost use Rattle.tabled_pool.specs.Around.{across, around_at, around_part, beside, is_last_column};
 ghost use Rattle.tabled_pool.specs.Around.{main_around, right_around, run_side, written_corner};
-ghost use Rattle.tabled_pool.specs.Colours.{coloured, mark_of};
-ghost use Rattle.tabled_pool.specs.Marks.{alone, begun, ended, nothing_around, used_after};
+ghost use Rattle.tabled_pool.specs.Boxes.{shown};
+ghost use Rattle.tabled_pool.specs.Colours.{alone, begun, coloured, ended, mark_of, nothing_around};
+ghost use Rattle.tabled_pool.specs.Colours.{used_after};
 ghost use Rattle.tabled_pool.specs.Numbers.{IsEarlier, IsFirst, Skips, SkipsBeside};
-ghost use Rattle.tabled_pool.specs.Plans.{around_of, plan_of};
-ghost use Rattle.tabled_pool.specs.Shown.{shown};
+ghost use Rattle.tabled_pool.specs.Plan.{around_of, plan_of};
 
 use crate::junction::{ends_at, has_bottom, has_top};
 use crate::line_runs::Line;
@@ -105,7 +104,7 @@ pub fn alone(color: Option<ANSIStr<'static>>) -> Marks
 }
 
 /// Writes `count` copies of a character between the marks of a colour, even if `count` is 0.
-pub(crate) fn draw_colored_fill<S: TextSink>(
+pub fn draw_colored_fill<S: TextSink>(
     sink: &mut S,
     color: ANSIStr<'static>,
     c: char,
@@ -120,8 +119,8 @@ pub(crate) fn draw_colored_fill<S: TextSink>(
 }
 
 /// Where a position is relative to a range of columns or lines.
-#[derive(Clone, Copy, Debug, PartialEq, Eq)]
-pub(crate) enum RunSide {
+#[derive(Clone, Copy)]
+pub enum RunSide {
     /// Directly before the range.
     Before,
     /// In the range.
@@ -266,7 +265,7 @@ fn around_piece(drawing: &Drawing<'_, '_>, piece: &Piece<'_>, x: usize, y: usize
 
 /// The first piece, of those looked at, that draws the border at column `x` of a line.
 #[derive(Clone, Copy)]
-pub(crate) struct First {
+pub struct First {
     x: usize,
     /// Its number, or that of pieces if none draws the border.
     number: usize,
@@ -310,7 +309,7 @@ impl First {
 }
 
 /// The marks around a border character at column `x` of a line.
-pub(crate) fn marks_at(line: &Line<'_, '_, '_, '_>, x: usize) -> Marks
+pub fn marks_at(line: &Line<'_, '_, '_, '_>, x: usize) -> Marks
     requires { x < line.now.drawing.now.width }
     ensures { around_of result ≡ around_at (plan_of line.now.drawing.now)
         (plan_of line.now.drawing.now).parts x line.now.y }

@@ -1,17 +1,14 @@
 //! Writes one line of a drawing, run by run, and in it the lines of the blocks of texts.
-ghost use Rattle.std.specs.List.{flat_map, range_with_len};
-ghost use Rattle.std.specs.Option.{option_map};
-ghost use Rattle.std.specs.Prelude.{IfSome, encode_utf8, map, slice_get, true, ◌++◌, ◌+◌, ◌<◌, ◌≡◌};
-ghost use Rattle.std.specs.Prelude.{◌≤◌};
+ghost use Rattle.std.specs.List.{range_with_len};
+ghost use Rattle.std.specs.Prelude.{IfSome, encode_utf8, flat_map, map, option_map, slice_get};
+ghost use Rattle.std.specs.Prelude.{true, ◌++◌, ◌+◌, ◌<◌, ◌≡◌, ◌≤◌};
 ghost use Rattle.tabled_line.specs.Block.{inner_width};
 ghost use Rattle.tabled_line.specs.Sent.{Sent, Writes};
 ghost use Rattle.tabled_pool.specs.Block.{leaf_line, text_line, without_sides};
-ghost use Rattle.tabled_pool.specs.Boxes.{is_line_kind, part_of};
-ghost use Rattle.tabled_pool.specs.Colours.{marks_of};
+ghost use Rattle.tabled_pool.specs.Boxes.{is_line_kind, part_of, shown};
+ghost use Rattle.tabled_pool.specs.Colours.{marks_of, within_marks};
 ghost use Rattle.tabled_pool.specs.Drawn.{IsRun, drawn_line, part_text, place_text};
-ghost use Rattle.tabled_pool.specs.Marks.{within_marks};
-ghost use Rattle.tabled_pool.specs.Plans.{around_of, plan_of};
-ghost use Rattle.tabled_pool.specs.Shown.{shown};
+ghost use Rattle.tabled_pool.specs.Plan.{around_of, plan_of};
 ghost use Rattle.tabled_pool.specs.declared.places.Kind.TheVariants.{Leaf};
 ghost use Rattle.tabled_text.specs.Measure.{line_columns, lines_of};
 
@@ -36,12 +33,8 @@ fn line_at<'a>(content: &Content<'a>, index: usize) -> Option<(&'a str, usize)>
         ≡ slice_get (lines_of content.now.text.now) index }
     ensures columns { IfSome result (λ x. x.1 ≡ line_columns x.0.now) }
 {
-    if content.lines == 1 {
-        return if index == 0 {
-            Some((content.text, content.columns))
-        } else {
-            None
-        };
+    if content.lines == 1 && index == 0 {
+        return Some((content.text, content.columns));
     }
     let line = nth_line(content.text, index)?;
     Some((line, line_width(line)))
@@ -120,11 +113,7 @@ pub fn draw_block_line<S: TextSink>(
     write_text_line(sink, &cell, colors, line, columns)
 }
 
-pub(crate) fn draw_marked<S: TextSink>(
-    sink: &mut S,
-    marks: Marks,
-    c: char,
-) -> Result<(), TableError>
+pub fn draw_marked<S: TextSink>(sink: &mut S, marks: Marks, c: char) -> Result<(), TableError>
     ensures { Writes (S.sent sink.old) result (S.sent sink.new)
         (within_marks (around_of marks) (encode_utf8 c)) }
 {
@@ -157,26 +146,6 @@ fn draw_border<S: TextSink>(
     Ok(())
 }
 
-/// Writes the line of a text's block that starts at a column.
-#[tactic(auto, unfolding(crate::specs::Block::leaf_line))]
-fn draw_text<S: TextSink>(
-    sink: &mut S,
-    line: &Line<'_, '_, '_, '_>,
-    piece: &Piece<'_>,
-    x: usize,
-) -> Result<(), TableError>
-    requires top { piece.now.place.y ≤ line.now.y }
-    requires bottom { line.now.y < piece.now.place.y + piece.now.place.height }
-    ensures { Writes (S.sent sink.old) result (S.sent sink.new)
-        (part_text (plan_of line.now.drawing.now) Leaf (shown piece.now) x line.now.y) }
-{
-    let place = piece.place;
-    if place.x != x {
-        return Ok(());
-    }
-    draw_block_line(sink, line.drawing, place, piece.text, line.y - place.y)
-}
-
 fn draw_run<S: TextSink>(
     sink: &mut S,
     line: &Line<'_, '_, '_, '_>,
@@ -189,17 +158,18 @@ fn draw_run<S: TextSink>(
         (flat_map (place_text (plan_of line.now.drawing.now) line.now.y)
         (range_with_len x run.now.count)) }
 {
+    let Piece { place, text, .. } = *run.piece;
     match run.piece.kind {
-        Kind::Leaf => draw_text(sink, line, run.piece, x),
         Kind::Bar | Kind::Rule => draw_border(sink, line, run, x),
+        Kind::Leaf if place.x == x => {
+            draw_block_line(sink, line.drawing, place, text, line.y - place.y)
+        }
+        Kind::Leaf => Ok(()),
     }
 }
 
 #[tactic(auto, unfolding(crate::specs::Drawn::drawn_line))]
-pub(crate) fn draw_line<S: TextSink>(
-    sink: &mut S,
-    line: &Line<'_, '_, '_, '_>,
-) -> Result<(), TableError>
+pub fn draw_line<S: TextSink>(sink: &mut S, line: &Line<'_, '_, '_, '_>) -> Result<(), TableError>
     ensures { Writes (S.sent sink.old) result (S.sent sink.new)
         (drawn_line (plan_of line.now.drawing.now) line.now.y) }
 {

@@ -1,15 +1,12 @@
 //! What boxes inherit and pass on. No function of a box is inlined, so that the recursive walk has
 //! a small stack frame.
-ghost use Rattle.std.specs.Prelude.{◌++◌, ◌-◌, ◌==◌, ◌∷◌, ◌≡◌, IfOk, [], if◌then◌else◌, map};
-ghost use Rattle.tabled_pool.specs.Boxes.{box_along, box_of, pick};
-ghost use Rattle.tabled_pool.specs.Left.{CanSplit, given_in};
-ghost use Rattle.tabled_pool.specs.Shown.{Fits};
-ghost use Rattle.tabled_pool.specs.Inherited.{is_split, joined, passes_across, passes_along, taken};
-ghost use Rattle.tabled_pool.specs.Inherited.{text_passes, to_first, to_last, to_later};
-ghost use Rattle.tabled_pool.specs.Inherited.{whole_flags, with_passed, inheriting_box, passed_on};
-ghost use Rattle.tabled_pool.specs.Inherited.{taken_of};
-ghost use Rattle.tabled_pool.specs.DrawnBlocks.{block_sheet_of};
-ghost use Rattle.tabled_pool.specs.Plans.{plan_of};
+ghost use Rattle.std.specs.Prelude.{IfOk, [], if◌then◌else◌, map, ◌++◌, ◌-◌, ◌==◌, ◌∷◌, ◌≡◌};
+ghost use Rattle.tabled_pool.specs.Boxes.{CanSplit, Fits, box_along, box_of, given_in, pick};
+ghost use Rattle.tabled_pool.specs.Inherited.{block_sheet_of, inheriting_box, is_split, joined};
+ghost use Rattle.tabled_pool.specs.Inherited.{passed_on, passes_across, passes_along, taken};
+ghost use Rattle.tabled_pool.specs.Inherited.{taken_of, text_passes, to_first, to_last, to_later};
+ghost use Rattle.tabled_pool.specs.Inherited.{whole_flags, with_passed};
+ghost use Rattle.tabled_pool.specs.Plan.{plan_of};
 
 use crate::bordered_text::{DrawnBlock, side_by_side, stacked, text_block};
 use crate::places::{BoxesLeft, Drawing, Rectangle, split};
@@ -21,7 +18,7 @@ use std::mem;
 
 /// A list of sizes, split in two, and whether the first part ends where a size does.
 #[derive(Drop)]
-pub(crate) struct TakenSizes {
+pub struct TakenSizes {
     pub part: Vec<usize>,
     pub rest: Vec<usize>,
     pub met: bool,
@@ -51,7 +48,7 @@ fn ended(
 
 /// Splits a list of sizes, each followed by a border of one column or line, at `size`. A size that
 /// reaches beyond loses what is before that, and one for the border there.
-pub(crate) fn taken(alloc: Global, size: usize, sizes: &[usize]) -> Result<TakenSizes, AllocError>
+pub fn taken(alloc: Global, size: usize, sizes: &[usize]) -> Result<TakenSizes, AllocError>
     ensures { IfOk result (λ t. taken_of t ≡ taken size sizes.now) }
 {
     let mut part = Vec::new(alloc);
@@ -73,20 +70,17 @@ pub(crate) fn taken(alloc: Global, size: usize, sizes: &[usize]) -> Result<Taken
 
 /// Whether a border is at `place`: after the first of the sizes, the first two, and so on, while
 /// these add up to less than `size`.
-pub(crate) fn is_split(sizes: &[usize], size: usize, place: usize) -> bool
+pub fn is_split(sizes: &[usize], size: usize, place: usize) -> bool
     ensures { result ≡ is_split sizes.now size place }
 {
     let mut left = size;
     let mut at = place;
     for entry in sizes {
-        if *entry >= left {
+        if *entry >= left || at < *entry {
             return false;
         }
         if at == *entry {
             return true;
-        }
-        if at < *entry {
-            return false;
         }
         left -= *entry;
         at = at - *entry - 1;
@@ -96,7 +90,7 @@ pub(crate) fn is_split(sizes: &[usize], size: usize, place: usize) -> bool
 
 /// A box: what it inherits, and once it is drawn, what it passes on.
 #[derive(Drop)]
-pub(crate) struct InheritingBox {
+pub struct InheritingBox {
     pub place: Rectangle,
     pub flags: Flags,
     /// The widths of the boxes above it; once it is drawn, its own for the boxes below it.
@@ -109,7 +103,7 @@ pub(crate) struct InheritingBox {
 
 /// Boxes of a row or a column: the drawn ones, and the one that is drawn next.
 #[derive(Drop)]
-pub(crate) struct DrawnBoxes {
+pub struct DrawnBoxes {
     pub blocks: Vec<DrawnBlock>,
     /// The sizes that the drawn ones pass on together: widths in a row, heights in a column.
     pub sizes: Vec<usize>,
@@ -119,7 +113,7 @@ pub(crate) struct DrawnBoxes {
 impl InheritingBox {
     /// A box that is alone in its rectangle.
     #[inline(never)]
-    pub(crate) fn new(alloc: Global, place: Rectangle) -> InheritingBox
+    pub fn new(alloc: Global, place: Rectangle) -> InheritingBox
         ensures { inheriting_box result
             ≡ record { place = place; flags = whole_flags; above = []; before = [] } }
     {
@@ -145,11 +139,7 @@ impl InheritingBox {
 
     /// Draws a text, which passes on its own width and height.
     #[inline(never)]
-    pub(crate) fn draw_text(
-        &mut self,
-        drawing: &Drawing<'_, '_>,
-        text: &str,
-    ) -> Result<(), AllocError>
+    pub fn draw_text(&mut self, drawing: &Drawing<'_, '_>, text: &str) -> Result<(), AllocError>
         ensures { IfOk result (λ _. passed_on self.new
             ≡ text_passes (plan_of drawing.now) text.now (inheriting_box self.old)) }
     {
@@ -174,7 +164,7 @@ impl InheritingBox {
     /// Passes to the first of the boxes that are left its part of what they inherit. Returns the
     /// size that it needs.
     #[inline(never)]
-    pub(crate) fn pass_to(
+    pub fn pass_to(
         &mut self,
         direction: Direction,
         first: &mut InheritingBox,
@@ -219,7 +209,7 @@ impl InheritingBox {
 
     /// Passes to the last of the boxes what is left.
     #[inline(never)]
-    pub(crate) fn pass_rest(
+    pub fn pass_rest(
         &mut self,
         direction: Direction,
         last: &mut InheritingBox,
@@ -249,7 +239,7 @@ impl DrawnBoxes {
     /// No drawn boxes yet. They are on the heap, so that the recursive walk has a small stack
     /// frame.
     #[inline(never)]
-    pub(crate) fn boxed(alloc: Global, place: Rectangle) -> Result<Box<DrawnBoxes>, AllocError>
+    pub fn boxed(alloc: Global, place: Rectangle) -> Result<Box<DrawnBoxes>, AllocError>
         ensures blocks { IfOk result (λ drawn. drawn.value.blocks.items ≡ []) }
         ensures sizes { IfOk result (λ drawn. drawn.value.sizes.items ≡ []) }
     {
@@ -263,11 +253,7 @@ impl DrawnBoxes {
 
     /// Adds the drawn box, and passes its sizes in the other direction on to the boxes after it.
     #[inline(never)]
-    pub(crate) fn add(
-        &mut self,
-        direction: Direction,
-        all: &mut InheritingBox,
-    ) -> Result<(), AllocError>
+    pub fn add(&mut self, direction: Direction, all: &mut InheritingBox) -> Result<(), AllocError>
         ensures blocks { IfOk result (λ _. map block_sheet_of self.new.blocks.items
             ≡ map block_sheet_of self.old.blocks.items
             ++ (block_sheet_of self.old.next.block ∷ [])) }
@@ -293,11 +279,7 @@ impl DrawnBoxes {
     /// Joins the boxes. The sizes of all in their direction pass on, and in the other one those of
     /// the last.
     #[inline(never)]
-    pub(crate) fn join(
-        &mut self,
-        direction: Direction,
-        all: &mut InheritingBox,
-    ) -> Result<(), AllocError>
+    pub fn join(&mut self, direction: Direction, all: &mut InheritingBox) -> Result<(), AllocError>
         ensures { IfOk result (λ _. passed_on all.new ≡ joined direction (record {
           blocks = map block_sheet_of self.old.blocks.items;
           sizes = self.old.sizes.items;

@@ -2,14 +2,13 @@
 //! boxes meet.
 ghost use Rattle.std.specs.Prelude.{◌+◌, ◌-◌, ◌<◌, ◌==◌, ◌≡◌};
 ghost use Rattle.tabled_pool.specs.Drawn.{armed_char, main_of};
-ghost use Rattle.tabled_pool.specs.Plan.{has_bottom, has_top};
-ghost use Rattle.tabled_pool.specs.Plans.{plan_of};
+ghost use Rattle.tabled_pool.specs.Plan.{has_bottom, has_top, plan_of};
 
 use crate::places::{Drawing, Kind, Piece, Rectangle};
 use tabled_config::Borders;
 
 /// Whether there is a top border: any of its characters is set.
-pub(crate) fn has_top(borders: &Borders<char>) -> bool
+pub fn has_top(borders: &Borders<char>) -> bool
     ensures { result ≡ has_top borders.now }
 {
     borders.top.is_some()
@@ -19,7 +18,7 @@ pub(crate) fn has_top(borders: &Borders<char>) -> bool
 }
 
 /// Whether there is a bottom border: any of its characters is set.
-pub(crate) fn has_bottom(borders: &Borders<char>) -> bool
+pub fn has_bottom(borders: &Borders<char>) -> bool
     ensures { result ≡ has_bottom borders.now }
 {
     borders.bottom.is_some()
@@ -29,7 +28,7 @@ pub(crate) fn has_bottom(borders: &Borders<char>) -> bool
 }
 
 /// Whether `size` columns or lines from `start` on are the last of `whole`.
-pub(crate) fn ends_at(start: usize, size: usize, whole: usize) -> bool
+pub fn ends_at(start: usize, size: usize, whole: usize) -> bool
     ensures { result ≡ (start + size == whole) }
 {
     size <= whole && start == whole - size
@@ -62,7 +61,7 @@ fn main_of(drawing: &Drawing<'_, '_>, kind: Kind, place: Rectangle) -> Option<ch
 
 /// On which sides of a position a border is.
 #[derive(Clone, Copy)]
-pub(crate) struct Arms {
+pub struct Arms {
     pub left: bool,
     pub right: bool,
     pub up: bool,
@@ -71,7 +70,7 @@ pub(crate) struct Arms {
 
 /// The character of a border at a position: that of a junction if borders are at its left or right
 /// and above or below, else that of the border. A missing character is a space.
-pub(crate) fn border_char(drawing: &Drawing<'_, '_>, piece: &Piece<'_>, arms: Arms) -> char
+pub fn border_char(drawing: &Drawing<'_, '_>, piece: &Piece<'_>, arms: Arms) -> char
     ensures { result ≡ armed_char (plan_of drawing.now) piece.now.kind piece.now.place arms.left
         arms.right arms.up arms.down }
 {

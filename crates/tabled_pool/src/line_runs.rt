@@ -1,21 +1,19 @@
 //! The runs of a line of a drawing: columns of one text, or of equal border characters.
-ghost use Rattle.std.specs.Option.{option_map};
-ghost use Rattle.std.specs.Prelude.{Some, map, true, ℕ, ◌+◌, ◌-◌, ◌<◌, ◌==◌, ◌≡◌, ◌≤◌, ◌⊎◌};
-ghost use Rattle.tabled_pool.specs.Boxes.{is_line_kind};
-ghost use Rattle.tabled_pool.specs.Colours.{line_marks_of};
-ghost use Rattle.tabled_pool.specs.Cursors.{IsAt, RunsFrom};
+ghost use Rattle.std.specs.Prelude.{Some, map, option_map, true, ℕ, ◌+◌, ◌-◌, ◌<◌, ◌==◌, ◌≡◌, ◌≤◌};
+ghost use Rattle.std.specs.Prelude.{◌⊎◌};
+ghost use Rattle.tabled_pool.specs.Boxes.{is_border, is_border_above, is_line, is_line_kind, owner};
+ghost use Rattle.tabled_pool.specs.Boxes.{shown};
+ghost use Rattle.tabled_pool.specs.Colours.{AreNoMarks, line_marks_of};
+ghost use Rattle.tabled_pool.specs.Drawn.{IsAt, RunsFrom};
 ghost use Rattle.tabled_pool.specs.Numbers.{AreSized};
-ghost use Rattle.tabled_pool.specs.Owner.{is_border, is_border_above, is_line, owner};
-ghost use Rattle.tabled_pool.specs.Plans.{plan_of};
-ghost use Rattle.tabled_pool.specs.Shown.{shown};
-ghost use Rattle.tabled_pool.specs.Uncoloured.{AreNoMarks};
+ghost use Rattle.tabled_pool.specs.Plan.{plan_of};
 
 use crate::junction::{Arms, border_char};
 use crate::places::{Drawing, Piece, is_line_kind};
 use crate::sweep::{Sweep, piece_at};
 
 #[derive(Clone, Copy)]
-pub(crate) struct Line<'l, 's, 'd, 'a> {
+pub struct Line<'l, 's, 'd, 'a> {
     pub drawing: &'l Drawing<'d, 'a>,
     pub sweep: &'s Sweep,
     pub y: usize,
@@ -28,7 +26,7 @@ pub(crate) struct Line<'l, 's, 'd, 'a> {
 
 /// Columns of a line that belong to one piece and, if that is a border, have the same character.
 #[derive(Clone, Copy)]
-pub(crate) struct Run<'d, 'a> {
+pub struct Run<'d, 'a> {
     pub piece: &'d Piece<'a>,
     /// The character of a border.
     pub c: char,
@@ -38,7 +36,7 @@ pub(crate) struct Run<'d, 'a> {
 
 /// A column of a line, and what is known there.
 #[derive(Clone, Copy)]
-pub(crate) struct Cursor<'d, 'a> {
+pub struct Cursor<'d, 'a> {
     pub x: usize,
     /// The piece there, if the line doesn't end.
     pub piece: Option<&'d Piece<'a>>,
@@ -52,28 +50,22 @@ pub(crate) struct Cursor<'d, 'a> {
 
 /// Whether there are borders at a column and those after it, and where that ends.
 #[derive(Clone, Copy)]
-pub(crate) struct Stretch {
+pub struct Stretch {
     border: bool,
     end: usize,
 }
 
-/// The borders of line `y` at a column and after: those that are known, if they reach so far.
-fn stretch_at(
-    drawing: &Drawing<'_, '_>,
-    known: Stretch,
-    line: &[u32],
-    x: usize,
-    y: usize,
-) -> Stretch
+/// The borders of line `y` at a column and after: those that were seen, if they reach so far.
+fn stretch_at(drawing: &Drawing<'_, '_>, seen: Stretch, line: &[u32], x: usize, y: usize) -> Stretch
     requires inside { x < drawing.now.width }
-    requires known { (v : ℕ) → x ≤ v → v < known.end
-        → is_border (plan_of drawing.now).parts v y ≡ known.border }
+    requires known { (v : ℕ) → x ≤ v → v < seen.end
+        → is_border (plan_of drawing.now).parts v y ≡ seen.border }
     ensures some { x < result.end }
     ensures same { (v : ℕ) → x ≤ v → v < result.end
         → is_border (plan_of drawing.now).parts v y ≡ result.border }
 {
-    if x < known.end {
-        return known;
+    if x < seen.end {
+        return seen;
     }
     match piece_at(drawing, line, x, y) {
         Some(piece) => Stretch {
@@ -105,26 +97,9 @@ fn run_end(x: usize, end: usize, left: bool, behind: bool) -> usize
     end - 1
 }
 
-/// Whether a border follows the column before `last`, where those up to `end` are borders.
-fn is_followed(last: usize, end: usize, behind: bool) -> bool
-    ensures more { last < end → result ≡ true }
-    ensures all { end ≤ last → result ≡ behind }
-{
-    last < end || behind
-}
-
-fn is_line(piece: Option<&Piece<'_>>) -> bool
-    ensures { result ≡ is_line (option_map (λ p. shown p.now) piece.entry) }
-{
-    match piece {
-        Some(piece) => is_line_kind(piece.kind),
-        None => false,
-    }
-}
-
 impl<'l, 's, 'd, 'a> Line<'l, 's, 'd, 'a> {
     /// The first column.
-    pub(crate) fn start(&self) -> Cursor<'d, 'a>
+    pub fn start(&self) -> Cursor<'d, 'a>
         ensures first { result.x ≡ 0 }
         ensures at { IsAt (plan_of self.now.drawing.now) self.now.y result }
     {
@@ -158,19 +133,6 @@ impl<'l, 's, 'd, 'a> Line<'l, 's, 'd, 'a> {
         stretch_at(self.drawing, at.up, line, at.x, self.y - 1)
     }
 
-    /// The piece at column `end`; up to column `own` it is `piece`.
-    fn piece_behind(&self, piece: &'d Piece<'a>, own: usize, end: usize) -> Option<&'d Piece<'a>>
-        requires { end < own → owner (plan_of self.now.drawing.now).parts end self.now.y
-            ≡ Some (shown piece.now) }
-        ensures { option_map (λ p. shown p.now) result
-            ≡ owner (plan_of self.now.drawing.now).parts end self.now.y }
-    {
-        if end < own {
-            return Some(piece);
-        }
-        piece_at(self.drawing, self.sweep.here.as_slice(), end, self.y)
-    }
-
     /// The run of a border: as long as the same pieces are above and below, and borders are on
     /// both sides.
     fn border_run(&self, piece: &'d Piece<'a>, at: &mut Cursor<'d, 'a>) -> Run<'d, 'a>
@@ -185,16 +147,21 @@ impl<'l, 's, 'd, 'a> Line<'l, 's, 'd, 'a> {
         let down = stretch_at(self.drawing, at.down, line, at.x, self.y + 1);
         let own = piece.place.x + piece.place.width;
         let end = own.min(up.end).min(down.end);
-        let behind = self.piece_behind(piece, own, end);
-        let border = is_line(behind);
+        let behind = if end < own {
+            Some(piece)
+        } else {
+            piece_at(self.drawing, self.sweep.here.as_slice(), end, self.y)
+        };
+        let border = behind.is_some_and(|piece| is_line_kind(piece.kind));
         let last = run_end(at.x, end, at.left, border);
+        let next = if last < end { Some(piece) } else { behind };
+        let followed = last < end || border;
         let arms = Arms {
             left: at.left,
-            right: is_followed(last, end, border),
+            right: followed,
             up: up.border,
             down: down.border,
         };
-        let next = if last < end { Some(piece) } else { behind };
         let run = Run {
             piece,
             c: border_char(self.drawing, piece, arms),
@@ -211,7 +178,7 @@ impl<'l, 's, 'd, 'a> Line<'l, 's, 'd, 'a> {
     }
 
     /// The run at a cursor, where `piece` is. The cursor goes to the column after it.
-    pub(crate) fn next_run(&self, piece: &'d Piece<'a>, at: &mut Cursor<'d, 'a>) -> Run<'d, 'a>
+    pub fn next_run(&self, piece: &'d Piece<'a>, at: &mut Cursor<'d, 'a>) -> Run<'d, 'a>
         requires at { IsAt (plan_of self.now.drawing.now) self.now.y at.old }
         requires here { owner (plan_of self.now.drawing.now).parts at.old.x self.now.y
             ≡ Some (shown piece.now) }

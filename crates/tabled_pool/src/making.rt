@@ -4,8 +4,7 @@ ghost use Rattle.std.specs.Iterator.{IsFiniteIterable};
 ghost use Rattle.std.specs.Prelude.{IfErr, IfOk, List, OnOk, map, ◌≡◌, ◌⊎◌};
 ghost use Rattle.tabled_base.specs.Given.{Given};
 ghost use Rattle.tabled_base.specs.declared.error.TableError.TheVariants.{Memory, Range};
-ghost use Rattle.tabled_pool.specs.Applied.{IsApplied, WasOutOfRange};
-ghost use Rattle.tabled_pool.specs.NewPool.{IsCopy, IsPoolOfRows};
+ghost use Rattle.tabled_pool.specs.NewPool.{IsApplied, IsCopy, IsPoolOfRows, WasOutOfRange};
 ghost use Rattle.tabled_pool.specs.Tree.{across, leaf, tree_of, tree_of_row, trees};
 
 use crate::pool_table::PoolTable;
@@ -17,6 +16,8 @@ use tabled_records::EmptyRecords;
 use tabled_size::PoolTableDimension;
 
 impl PoolTable {
+    ghost use Rattle.tabled_pool.specs.contracts.pool_table.PoolTable.{the_row};
+
     /// Returns a table of rows, which may have different numbers of cells: a column of boxes, one
     /// for each row. Without rows it is drawn as an empty text. The settings are those of
     /// `from_value`. Fails only with `Memory`, if an allocation fails.
@@ -43,46 +44,6 @@ impl PoolTable {
             dimension: self.dimension,
         })
     }
-}
-
-fn collect_rows<I: IntoRecords>(alloc: Global, records: I) -> Result<Vec<TableValue>, AllocError>
-where
-    I::Cell: CellText + Drop,
-    requires { I.ends records }
-    ensures { IfOk result (λ rows. (cells : List (List I.Cell)) × I.gives records cells
-        × (map tree_of rows.items ≡ map tree_of_row (map (map I.Cell.text) cells))) }
-{
-    let mut rows = Vec::new(alloc);
-    for row in records.iter_rows() {
-        let value = row_of(collect_row(alloc, row)?);
-        rows.push(value)?;
-    }
-    Ok(rows)
-}
-
-fn row_of(children: Vec<TableValue>) -> TableValue
-    ensures { tree_of result ≡ across (trees (map tree_of children.items)) }
-{
-    TableValue::Row(children)
-}
-
-fn collect_row<I: IntoIterator>(alloc: Global, cells: I) -> Result<Vec<TableValue>, AllocError>
-where
-    I::Item: CellText + Drop,
-    requires { IsFiniteIterable I.into_iter_gives I.IntoIter.can_next I.IntoIter.remaining cells }
-    ensures { IfOk result (λ row. (items : List I.Item)
-        × Given I.into_iter_gives I.IntoIter.next_gives cells items
-        × (map tree_of row.items ≡ map leaf (map I.Item.text items))) }
-{
-    let mut row = Vec::new(alloc);
-    for cell in cells {
-        row.push(TableValue::Cell(String::from_str(alloc, cell.text())?))?;
-    }
-    Ok(row)
-}
-
-impl PoolTable {
-    ghost use Rattle.tabled_pool.specs.contracts.pool_table.PoolTable.{the_row};
 
     /// Applies an option to the settings. The option sees records without rows, and can't change
     /// the texts. Use this instead of `with` if you need the table after an error.
@@ -130,4 +91,34 @@ impl PoolTable {
             Err(error) => Err(error),
         }
     }
+}
+
+fn collect_rows<I: IntoRecords>(alloc: Global, records: I) -> Result<Vec<TableValue>, AllocError>
+where
+    I::Cell: CellText + Drop,
+    requires { I.ends records }
+    ensures { IfOk result (λ rows. (cells : List (List I.Cell)) × I.gives records cells
+        × (map tree_of rows.items ≡ map tree_of_row (map (map I.Cell.text) cells))) }
+{
+    let mut rows = Vec::new(alloc);
+    for row in records.iter_rows() {
+        let value = TableValue::Row(collect_row(alloc, row)?);
+        rows.push(value)?;
+    }
+    Ok(rows)
+}
+
+fn collect_row<I: IntoIterator>(alloc: Global, cells: I) -> Result<Vec<TableValue>, AllocError>
+where
+    I::Item: CellText + Drop,
+    requires { IsFiniteIterable I.into_iter_gives I.IntoIter.can_next I.IntoIter.remaining cells }
+    ensures { IfOk result (λ row. (items : List I.Item)
+        × Given I.into_iter_gives I.IntoIter.next_gives cells items
+        × (map tree_of row.items ≡ map leaf (map I.Item.text items))) }
+{
+    let mut row = Vec::new(alloc);
+    for cell in cells {
+        row.push(TableValue::Cell(String::from_str(alloc, cell.text())?))?;
+    }
+    Ok(row)
 }

@@ -1,23 +1,19 @@
-//! `Rectangle`; `Piece`, a text or a border in its rectangle; `Pieces`, a list of them; `Drawing`,
-//! the pieces and their settings; and the rectangles of texts, of the borders between boxes, and of
-//! those around a tree.
+//! `Rectangle`; `Piece`, a text or a border in its rectangle; `Drawing`, the pieces and their
+//! settings; and the rectangles of texts, of the borders between boxes, and of those around a tree.
 ghost use Rattle.std.specs.Prelude.{IfOk, Some, [], map, ◌++◌, ◌+◌, ◌<◌, ◌^◌, ◌∷◌, ◌≡◌, ◌≤◌};
-ghost use Rattle.tabled_pool.specs.Boxes.{IsSize, behind_border, border_kind, border_part};
-ghost use Rattle.tabled_pool.specs.Boxes.{box_along, box_of, first_part, is_line_kind, list_box};
-ghost use Rattle.tabled_pool.specs.Boxes.{part_of, place_along, rest_part, share};
-ghost use Rattle.tabled_pool.specs.Left.{CanSplit, given_in};
-ghost use Rattle.tabled_pool.specs.Shown.{Fits, shown};
-ghost use Rattle.tabled_pool.specs.Tiling.{AreTiles, framed};
+ghost use Rattle.tabled_pool.specs.Boxes.{AreTiles, CanSplit, Fits, IsSize, behind_border};
+ghost use Rattle.tabled_pool.specs.Boxes.{border_kind, border_part, box_along, box_of, first_part};
+ghost use Rattle.tabled_pool.specs.Boxes.{framed, given_in, is_line_kind, list_box, part_of};
+ghost use Rattle.tabled_pool.specs.Boxes.{place_along, rest_part, share, shown};
 
 use crate::sizes::{BoxSpacing, Direction, Size, own_size};
 use crate::tree::TableValue;
 use std::alloc::{AllocError, Global};
-use std::mem;
 use tabled_config::{ANSIStr, Borders, CellStyle, Sides};
 use tabled_size::DimensionPriority;
 
 /// A rectangle of a drawing, in columns from the left and lines from the top.
-#[derive(Clone, Copy, Debug, PartialEq, Eq)]
+#[derive(Clone, Copy)]
 pub struct Rectangle {
     /// The columns to its left.
     pub x: usize,
@@ -65,7 +61,7 @@ impl Rectangle {
     }
 }
 
-#[derive(Clone, Copy, Debug, PartialEq, Eq)]
+#[derive(Clone, Copy)]
 pub enum Kind {
     /// A text with its padding.
     Leaf,
@@ -75,17 +71,11 @@ pub enum Kind {
     Rule,
 }
 
-/// The number of no piece.
-pub(crate) const NO_PIECE: u32 = u32::MAX;
-
 /// A text or a border, with its rectangle.
 #[derive(Clone, Copy)]
 pub struct Piece<'a> {
     /// What it is.
     pub kind: Kind,
-    /// The number of the piece before it that begins on the same line. No contract says that it is
-    /// right.
-    pub earlier: u32,
     /// Where it is.
     pub place: Rectangle,
     /// Its text; a border has none.
@@ -101,56 +91,16 @@ pub fn is_line_kind(kind: Kind) -> bool
     }
 }
 
-/// Placed pieces, in the order of their tree.
-#[derive(Drop)]
-pub struct Pieces<'a> {
-    pub list: Vec<Piece<'a>>,
-    /// For each line, the number of the last piece that begins there. No contract says that it is
-    /// right. The list is empty if an allocation failed.
-    pub begins: Vec<u32>,
-}
-
-impl<'a> Pieces<'a> {
-    /// No pieces, for a drawing of `height` lines.
-    pub fn new(alloc: Global, height: usize) -> Pieces<'a>
-        ensures { result.list.items ≡ [] }
-    {
-        Pieces {
-            list: Vec::new(alloc),
-            begins: no_pieces(alloc, height),
-        }
-    }
-
-    /// Makes the next piece the last that begins on its line, and returns the one that was.
-    fn link(&mut self, place: Rectangle) -> u32
-        ensures { self.new.list.items ≡ self.old.list.items }
-    {
-        if place.width == 0 || place.height == 0 {
-            return NO_PIECE;
-        }
-        let number = u32::try_from(self.list.len()).unwrap_or(NO_PIECE);
-        match self.begins.get_mut(place.y) {
-            Some(last) => mem::replace(last, number),
-            None => NO_PIECE,
-        }
-    }
-}
-
-/// A list of `count` numbers of no piece, or an empty one if an allocation fails.
-pub(crate) fn no_pieces(alloc: Global, count: usize) -> Vec<u32> {
-    Vec::from_elem(alloc, NO_PIECE, count).unwrap_or_else(|_| Vec::new(alloc))
-}
-
 /// Placed pieces, and the settings that they are drawn with.
 #[derive(Clone, Copy)]
 pub struct Drawing<'d, 'a> {
+    /// In the order of their tree.
     pub pieces: &'d [Piece<'a>],
-    /// For each line, the number of the last piece that begins there, as `Pieces` has it.
-    pub begins: &'d [u32],
     pub width: usize,
     pub height: usize,
     pub borders: Borders<char>,
     pub style: CellStyle,
+    pub spacing: BoxSpacing,
     pub padding_colors: Sides<ANSIStr<'static>>,
     /// The colours of the borders.
     pub colors: Borders<ANSIStr<'static>>,
@@ -173,10 +123,7 @@ fn share(priority: DimensionPriority, surplus: usize, count: usize) -> usize
     match priority {
         DimensionPriority::First => surplus,
         DimensionPriority::Last => 0,
-        DimensionPriority::List => {
-            let more = if surplus % count == 0 { 0 } else { 1 };
-            surplus / count + more
-        }
+        DimensionPriority::List => surplus.div_ceil(count),
     }
 }
 
@@ -185,18 +132,12 @@ pub fn place_piece<'a>(
     kind: Kind,
     place: Rectangle,
     text: &'a str,
-    pieces: &mut Pieces<'a>,
+    pieces: &mut Vec<Piece<'a>>,
 ) -> Result<(), AllocError>
-    ensures { IfOk result (λ _. map shown pieces.new.list.items ≡ map shown pieces.old.list.items
+    ensures { IfOk result (λ _. map shown pieces.new.items ≡ map shown pieces.old.items
         ++ (part_of kind place text.now ∷ [])) }
 {
-    let earlier = pieces.link(place);
-    pieces.list.push(Piece {
-        kind,
-        earlier,
-        place,
-        text,
-    })?;
+    pieces.push(Piece { kind, place, text })?;
     Ok(())
 }
 
@@ -286,13 +227,13 @@ fn place_list<'a>(
     children: &'a [TableValue],
     spacing: &BoxSpacing,
     whole: BoxPlace,
-    pieces: &mut Pieces<'a>,
+    pieces: &mut Vec<Piece<'a>>,
 ) -> Result<(), AllocError>
     requires own { IsSize (Some whole.own)
         (list_box direction spacing.now (map (box_of spacing.now) children.now)) }
     requires fits { Fits (list_box direction spacing.now (map (box_of spacing.now) children.now))
         whole.place }
-    ensures { IfOk result (λ _. map shown pieces.new.list.items ≡ map shown pieces.old.list.items
+    ensures { IfOk result (λ _. map shown pieces.new.items ≡ map shown pieces.old.items
         ++ (list_box direction spacing.now (map (box_of spacing.now) children.now)).parts
         whole.place) }
 {
@@ -325,11 +266,11 @@ pub fn place_value<'a>(
     value: &'a TableValue,
     spacing: &BoxSpacing,
     whole: BoxPlace,
-    pieces: &mut Pieces<'a>,
+    pieces: &mut Vec<Piece<'a>>,
 ) -> Result<(), AllocError>
     requires own { IsSize (Some whole.own) (box_of spacing.now value.now) }
     requires fits { Fits (box_of spacing.now value.now) whole.place }
-    ensures { IfOk result (λ _. map shown pieces.new.list.items ≡ map shown pieces.old.list.items
+    ensures { IfOk result (λ _. map shown pieces.new.items ≡ map shown pieces.old.items
         ++ (box_of spacing.now value.now).parts whole.place) }
 {
     match value.inner() {
@@ -348,13 +289,13 @@ pub fn place_value<'a>(
 /// Adds the texts and borders of a tree and the borders around it, in a rectangle of their size.
 /// `frame` is the thickness of each outer border, in columns or lines. Recurses at each level of
 /// several boxes.
-#[tactic(auto, unfolding(crate::specs::Tiling::framed))]
+#[tactic(auto, unfolding(crate::specs::Boxes::framed))]
 pub fn place_tree<'a>(
     value: &'a TableValue,
     spacing: &BoxSpacing,
     frame: &Sides<usize>,
     whole: Rectangle,
-    pieces: &mut Pieces<'a>,
+    pieces: &mut Vec<Piece<'a>>,
 ) -> Result<(), AllocError>
     requires wide { whole.width
         ≡ frame.now.left + (box_of spacing.now value.now).width + frame.now.right }
@@ -362,7 +303,7 @@ pub fn place_tree<'a>(
         ≡ frame.now.top + (box_of spacing.now value.now).height + frame.now.bottom }
     requires right { whole.x + whole.width < 2 ^ 64 }
     requires low { whole.y + whole.height < 2 ^ 64 }
-    ensures { IfOk result (λ _. map shown pieces.new.list.items ≡ map shown pieces.old.list.items
+    ensures { IfOk result (λ _. map shown pieces.new.items ≡ map shown pieces.old.items
         ++ framed (frame.now) (box_of spacing.now value.now) whole) }
 {
     let rest = whole.rest_part(Direction::Across, frame.left);

@@ -1,16 +1,14 @@
 //! `PoolTable::is_plain` and `PoolTable::is_apart`: whether all lines are equally wide, and whether
 //! anything is coloured.
-ghost use Rattle.std.specs.Prelude.{◌↔◌, ◌≡◌, IsTrue, map, unwrap_or};
-ghost use Rattle.tabled_text.specs.Plain.{IsPlain};
-ghost use Rattle.tabled_pool.specs.Tree.{tree_of, trees, EachText, EachTextIn};
-ghost use Rattle.tabled_pool.specs.Characters.{EachCharacter, EachFill, IsOfKind};
-ghost use Rattle.tabled_pool.specs.Plain.{HasSettings, IsPlainPool};
-ghost use Rattle.tabled_pool.specs.Pool.{borders_of, style_of};
-ghost use Rattle.tabled_pool.specs.Apart.{HasSeparator, IsApartPool, IsStraightPool};
-ghost use Rattle.std.specs.Option.{option_map};
+ghost use Rattle.std.specs.Prelude.{IsTrue, map, option_map, unwrap_or, ◌↔◌, ◌≡◌};
 ghost use Rattle.tabled_config.specs.Compact.{each_side};
-ghost use Rattle.tabled_pool.specs.Colours.{line_marks_of, mark_of, marks_of, no_mark};
-ghost use Rattle.tabled_pool.specs.Uncoloured.{AreNoMarks, IsNoMark};
+ghost use Rattle.tabled_pool.specs.Colours.{AreNoMarks, IsNoMark, line_marks_of, mark_of, marks_of};
+ghost use Rattle.tabled_pool.specs.Colours.{no_mark};
+ghost use Rattle.tabled_pool.specs.Plain.{EachCharacter, EachFill, HasSeparator, HasSettings};
+ghost use Rattle.tabled_pool.specs.Plain.{IsApartPool, IsOfKind, IsPlainPool, IsStraightPool};
+ghost use Rattle.tabled_pool.specs.Pool.{borders_of, style_of};
+ghost use Rattle.tabled_pool.specs.Tree.{EachText, EachTextIn, tree_of, trees};
+ghost use Rattle.tabled_text.specs.Plain.{IsPlain};
 
 use crate::pool_table::PoolTable;
 use crate::tree::TableValue;
@@ -47,7 +45,7 @@ pub(crate) fn are_uncolored_sides(colors: &Sides<ANSIStr<'static>>) -> bool
 }
 
 /// Which characters are asked for. All take one column.
-#[derive(Clone, Copy, Debug, PartialEq, Eq)]
+#[derive(Clone, Copy)]
 pub(crate) enum CharacterKind {
     /// Plain characters and separators, whose columns add up.
     Additive,

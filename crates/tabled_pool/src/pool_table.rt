@@ -1,29 +1,27 @@
 //! `PoolTable`: its settings, its size, and how it is printed.
-ghost use Rattle.std.specs.Prelude.{◌≡◌, ◌⊎◌, IfErr, IfOk, MatchOption, length, map, ◌<◌, [], ◌++◌};
-ghost use Rattle.std.specs.Prelude.{not, string_bytes};
+ghost use Rattle.std.specs.Prelude.{IfErr, IfOk, MatchOption, [], length, map, not, string_bytes};
+ghost use Rattle.std.specs.Prelude.{◌++◌, ◌<◌, ◌≡◌, ◌⊎◌};
 ghost use Rattle.tabled_base.specs.declared.error.TableError.TheVariants.{Memory, Range};
 ghost use Rattle.tabled_config.specs.Styles.{ascii};
 ghost use Rattle.tabled_line.specs.Plain.{EachLineTakes};
-ghost use Rattle.tabled_line.specs.Sent.{Writes, Sent};
-ghost use Rattle.tabled_pool.specs.Shown.{shown};
-ghost use Rattle.tabled_priority.specs.Sums.{one_if};
+ghost use Rattle.tabled_line.specs.Sent.{Sent, Writes};
+ghost use Rattle.tabled_pool.specs.Boxes.{shown};
 ghost use Rattle.tabled_pool.specs.Colours.{marks_of};
-ghost use Rattle.tabled_pool.specs.Inherited.{has_zero_width};
-ghost use Rattle.tabled_pool.specs.DrawnBlocks.{block_sheet_of};
-ghost use Rattle.tabled_pool.specs.Plans.{plan_of};
-ghost use Rattle.tabled_pool.specs.Apart.{IsStraightPool};
-ghost use Rattle.tabled_pool.specs.Drawn.{drawn};
-ghost use Rattle.tabled_pool.specs.Pool.{HasColumns, IsInRange, IsOutOfRange, IsPadded, WritesPool};
-ghost use Rattle.tabled_pool.specs.Pool.{borders_of, frame_place};
-ghost use Rattle.tabled_pool.specs.Pool.{frame_of, framed_height, framed_width, spacing_of};
-ghost use Rattle.tabled_pool.specs.Pool.{margin_around, marks_for, plan, pool_lines, pool_text};
-ghost use Rattle.tabled_pool.specs.Pool.{style_of, total_height, total_width};
+ghost use Rattle.tabled_pool.specs.Drawn.{Tiled, drawn};
+ghost use Rattle.tabled_pool.specs.Inherited.{block_sheet_of, has_zero_width};
 ghost use Rattle.tabled_pool.specs.NewPool.{IsNewPool};
-ghost use Rattle.tabled_pool.specs.Tiled.{Tiled};
+ghost use Rattle.tabled_pool.specs.Plain.{IsStraightPool};
+ghost use Rattle.tabled_pool.specs.Plan.{plan_of};
+ghost use Rattle.tabled_pool.specs.Pool.{HasColumns, IsInRange, IsOutOfRange, IsPadded, WritesPool};
+ghost use Rattle.tabled_pool.specs.Pool.{borders_of, frame_of, frame_place, framed_height};
+ghost use Rattle.tabled_pool.specs.Pool.{framed_width, margin_around, marks_for, plan, pool_lines};
+ghost use Rattle.tabled_pool.specs.Pool.{pool_text, spacing_of, style_of, total_height};
+ghost use Rattle.tabled_pool.specs.Pool.{total_width};
+ghost use Rattle.tabled_priority.specs.Sums.{one_if};
 
 use crate::bordered_text::DrawnBlock;
 use crate::junction::{has_bottom, has_top};
-use crate::places::{Drawing, Piece, Pieces, Rectangle, place_tree};
+use crate::places::{Drawing, Piece, Rectangle, place_tree};
 use crate::sizes::{BoxSpacing, Size, own_size, sum};
 use crate::table_lines::{ColoredMargin, TableLines, draw_lines};
 use crate::tree::TableValue;
@@ -131,15 +129,9 @@ impl PoolTable {
     fn spacing(&self) -> BoxSpacing
         ensures { result ≡ spacing_of self.now }
     {
-        let padding = self.config.get_padding();
         let borders = self.config.get_borders();
         BoxSpacing {
-            padding: Sides {
-                left: padding.left.size,
-                right: padding.right.size,
-                top: padding.top.size,
-                bottom: padding.bottom.size,
-            },
+            padding: *self.config.get_padding(),
             bar: one_if(borders.has_left()),
             rule: one_if(has_top(borders)),
             across: self.dimension.width(),
@@ -180,9 +172,7 @@ impl PoolTable {
     {
         let frame = frame_of(self.config.get_borders());
         let margin = *self.config.get_margin();
-        let Some(own) = own_size(&self.value, &self.spacing()) else {
-            return None;
-        };
+        let own = own_size(&self.value, &self.spacing())?;
         let width = sum(frame.left, own.width, frame.right)?;
         let height = sum(frame.top, own.height, frame.bottom)?;
         sum(margin.left.size, width, margin.right.size)?;
@@ -190,12 +180,12 @@ impl PoolTable {
         Some(Size { width, height })
     }
 
-    fn pieces(&self, size: Size) -> Result<Pieces<'_>, AllocError>
+    fn pieces(&self, size: Size) -> Result<Vec<Piece<'_>>, AllocError>
         requires width { size.width ≡ framed_width self.now }
         requires height { size.height ≡ framed_height self.now }
-        ensures { IfOk result (λ pieces. map shown pieces.list.items ≡ (plan self.now).parts) }
+        ensures { IfOk result (λ pieces. map shown pieces.items ≡ (plan self.now).parts) }
     {
-        let mut pieces = Pieces::new(self.value.allocator(), size.height);
+        let mut pieces = Vec::new(self.value.allocator());
         let frame = frame_of(self.config.get_borders());
         let whole = Rectangle {
             x: 0,
@@ -207,21 +197,22 @@ impl PoolTable {
         Ok(pieces)
     }
 
-    fn drawing<'d, 'a>(&self, pieces: &'d Pieces<'a>, size: Size) -> Drawing<'d, 'a>
+    fn drawing<'d, 'a>(&self, pieces: &'d [Piece<'a>], size: Size) -> Drawing<'d, 'a>
         requires width { size.width ≡ framed_width self.now }
         requires height { size.height ≡ framed_height self.now }
-        requires places { map shown pieces.now.list.items ≡ (plan self.now).parts }
+        requires places { map shown pieces.now ≡ (plan self.now).parts }
         ensures plan { plan_of result ≡ plan self.now }
+        ensures spacing { result.spacing ≡ spacing_of self.now }
         ensures width { result.width ≡ size.width }
         ensures height { result.height ≡ size.height }
     {
         Drawing {
-            pieces: pieces.list.as_slice(),
-            begins: pieces.begins.as_slice(),
+            pieces,
             width: size.width,
             height: size.height,
             borders: *self.config.get_borders(),
             style: style_of(&self.config),
+            spacing: self.spacing(),
             padding_colors: *self.config.get_padding_color(),
             colors: *self.config.get_borders_color(),
             alloc: self.value.allocator(),
@@ -246,13 +237,13 @@ impl PoolTable {
             return Err(TableError::Range);
         };
         let pieces = self.pieces(size)?;
-        let has_columns = self.has_columns(pieces.list.as_slice());
-        let drawing = self.drawing(&pieces, size);
+        let has_columns = self.has_columns(pieces.as_slice());
+        let drawing = self.drawing(pieces.as_slice(), size);
         if has_columns {
             let margin = self.colored_margin(*self.config.get_margin());
             return draw_lines(sink, TableLines::Placed(&drawing), &margin);
         }
-        let block = draw_tree(&self.value, &self.spacing(), &drawing)?;
+        let block = draw_tree(&self.value, &drawing)?;
         let margin = self.colored_margin(self.margin_around(&block));
         draw_lines(sink, TableLines::Drawn(&block), &margin)
     }

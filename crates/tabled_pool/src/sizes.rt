@@ -1,18 +1,18 @@
 //! The sizes that boxes need, and `BoxSpacing`, on which they depend.
-ghost use Rattle.std.specs.Prelude.{◌≡◌, ◌≤◌, ◌^◌, ◌+◌, MatchOption, map};
+ghost use Rattle.std.specs.Prelude.{MatchOption, map, ◌+◌, ◌^◌, ◌≡◌, ◌≤◌};
 ghost use Rattle.tabled_pool.specs.Boxes.{IsSize, box_of, joined_box, leaf_box, list_box, pick};
 ghost use Rattle.tabled_pool.specs.Boxes.{sized};
 
 use crate::tree::TableValue;
-use tabled_config::Sides;
+use tabled_config::{Indent, Sides};
 use tabled_size::DimensionPriority;
 use tabled_text::text_measures;
 
 /// The padding of texts, the borders between boxes, and which boxes take a surplus.
-#[derive(Clone, Copy, Debug)]
+#[derive(Clone, Copy)]
 pub struct BoxSpacing {
-    /// The padding of each text: columns on the left and right, lines at the top and bottom.
-    pub padding: Sides<usize>,
+    /// The padding of each text.
+    pub padding: Sides<Indent>,
     /// The width of the border between boxes side by side, in columns.
     pub bar: usize,
     /// The height of the border between boxes below each other, in lines.
@@ -24,7 +24,7 @@ pub struct BoxSpacing {
 }
 
 /// A width and a height.
-#[derive(Clone, Copy, Debug, PartialEq, Eq)]
+#[derive(Clone, Copy)]
 pub struct Size {
     /// In columns.
     pub width: usize,
@@ -33,7 +33,7 @@ pub struct Size {
 }
 
 /// Whether boxes are side by side or below each other.
-#[derive(Clone, Copy, Debug, PartialEq, Eq)]
+#[derive(Clone, Copy)]
 pub enum Direction {
     /// Side by side, from the left.
     Across,
@@ -65,29 +65,24 @@ fn leaf_size(text: &str, spacing: &BoxSpacing) -> Option<Size>
 {
     let (columns, lines) = text_measures(text);
     let padding = spacing.padding;
-    let width = sum(columns, padding.left, padding.right)?;
-    let height = sum(lines, padding.top, padding.bottom)?;
+    let width = sum(columns, padding.left.size, padding.right.size)?;
+    let height = sum(lines, padding.top.size, padding.bottom.size)?;
     Some(Size { width, height })
 }
 
 /// The size that two boxes need with the border between them, if it fits in `usize`.
-fn joined_size(
-    direction: Direction,
-    spacing: &BoxSpacing,
-    first: Size,
-    second: Size,
-) -> Option<Size>
-    ensures { IsSize result (joined_box direction spacing.now 2 (sized first) (sized second)) }
+fn joined_size(direction: Direction, spacing: &BoxSpacing, first: Size, other: Size) -> Option<Size>
+    ensures { IsSize result (joined_box direction spacing.now 2 (sized first) (sized other)) }
 {
     match direction {
         Direction::Across => {
-            let width = sum(first.width, spacing.bar, second.width)?;
-            let height = first.height.max(second.height);
+            let width = sum(first.width, spacing.bar, other.width)?;
+            let height = first.height.max(other.height);
             Some(Size { width, height })
         }
         Direction::Down => {
-            let height = sum(first.height, spacing.rule, second.height)?;
-            let width = first.width.max(second.width);
+            let height = sum(first.height, spacing.rule, other.height)?;
+            let width = first.width.max(other.width);
             Some(Size { width, height })
         }
     }

@@ -1,23 +1,33 @@
 //! `Sweep`: where to look first for the pieces on a line and on the lines next to it; and the piece
 //! at a position.
-ghost use Rattle.tabled_pool.specs.Tiling.{within};
-ghost use Rattle.std.specs.Prelude.{◌+◌, ◌<◌, ◌≡◌, ◌≤◌, map, true};
-ghost use Rattle.std.specs.Option.{option_map};
-ghost use Rattle.tabled_pool.specs.Shown.{shown};
-ghost use Rattle.tabled_pool.specs.Owner.{contains, owner};
+ghost use Rattle.std.specs.Prelude.{map, option_map, true, ◌+◌, ◌<◌, ◌≡◌, ◌≤◌};
+ghost use Rattle.tabled_pool.specs.Boxes.{contains, owner, shown, within};
 ghost use Rattle.tabled_pool.specs.Numbers.{IsNumber};
 
-use crate::places::{Drawing, Piece, Rectangle, no_pieces};
+use crate::places::{Drawing, Piece, Rectangle};
 use std::alloc::Global;
 use std::mem;
 
-/// The numbers of the pieces on three lines, by column. No contract says that they are right: who
-/// uses one looks whether the piece is there. A list is too short if an allocation failed.
+/// The number of no piece.
+const NO_PIECE: u32 = u32::MAX;
+
+/// A list of `count` numbers of no piece, or an empty one if an allocation fails.
+fn no_pieces(alloc: Global, count: usize) -> Vec<u32> {
+    Vec::from_elem(alloc, NO_PIECE, count).unwrap_or_else(|_| Vec::new(alloc))
+}
+
+/// Numbers of pieces. No contract says that they are right: who uses one looks whether the piece is
+/// there. A list is too short if an allocation failed.
 #[derive(Drop)]
-pub(crate) struct Sweep {
+pub struct Sweep {
+    /// The pieces on three lines, by column.
     pub above: Vec<u32>,
     pub here: Vec<u32>,
     pub below: Vec<u32>,
+    /// For each line, the last piece that begins there.
+    begins: Vec<u32>,
+    /// For each piece, the one before it that begins on the same line.
+    earlier: Vec<u32>,
 }
 
 /// Sets the number of the piece in the columns of a rectangle.
@@ -30,42 +40,57 @@ fn mark(line: &mut [u32], place: Rectangle, number: u32) {
 
 impl Sweep {
     /// A sweep over no pieces.
-    pub(crate) fn empty(alloc: Global) -> Sweep {
+    pub fn empty(alloc: Global) -> Sweep {
         Sweep {
             above: Vec::new(alloc),
             here: Vec::new(alloc),
             below: Vec::new(alloc),
+            begins: Vec::new(alloc),
+            earlier: Vec::new(alloc),
         }
     }
 
     /// A sweep above the first line.
-    pub(crate) fn new(drawing: &Drawing<'_, '_>) -> Sweep {
+    pub fn new(drawing: &Drawing<'_, '_>) -> Sweep {
         let mut sweep = Sweep {
             above: Vec::new(drawing.alloc),
             here: no_pieces(drawing.alloc, drawing.width),
             below: no_pieces(drawing.alloc, drawing.width),
+            begins: no_pieces(drawing.alloc, drawing.height),
+            earlier: no_pieces(drawing.alloc, drawing.pieces.len()),
         };
+        for number in 0..drawing.pieces.len() {
+            sweep.link(drawing.pieces[number].place, number);
+        }
         sweep.mark_line(drawing, 0);
         sweep
     }
 
+    /// Makes a piece the last that begins on its line.
+    fn link(&mut self, place: Rectangle, number: usize) {
+        if place.width > 0
+            && place.height > 0
+            && let Some(last) = self.begins.get_mut(place.y)
+            && let Some(earlier) = self.earlier.get_mut(number)
+        {
+            *earlier = mem::replace(last, u32::try_from(number).unwrap_or(NO_PIECE));
+        }
+    }
+
     /// Sets the pieces that begin on line `y`, which is the line below.
     fn mark_line(&mut self, drawing: &Drawing<'_, '_>, y: usize) {
-        let Some(last) = drawing.begins.get(y) else {
-            return;
-        };
-        let mut number = *last;
+        let mut number = self.begins.get(y).copied().unwrap_or(NO_PIECE);
         'pieces: while let Some(piece) = drawing.pieces.get(number as usize) {
             mark(self.below.as_mut_slice(), piece.place, number);
-            if piece.earlier >= number {
-                return;
+            match self.earlier.get(number as usize) {
+                Some(earlier) if *earlier < number => number = *earlier,
+                _ => return,
             }
-            number = piece.earlier;
         }
     }
 
     /// Goes on to line `y`.
-    pub(crate) fn advance(&mut self, drawing: &Drawing<'_, '_>, y: usize) {
+    pub fn advance(&mut self, drawing: &Drawing<'_, '_>, y: usize) {
         mem::swap(&mut self.above, &mut self.here);
         mem::swap(&mut self.here, &mut self.below);
         self.below.clear();
@@ -102,12 +127,7 @@ fn find(pieces: &[Piece<'_>], x: usize, y: usize) -> Option<usize>
 
 /// Returns the number of the piece at a position: the one that `line` has for the column, if it is
 /// there, else the one that a search finds.
-pub(crate) fn number_at(
-    drawing: &Drawing<'_, '_>,
-    line: &[u32],
-    x: usize,
-    y: usize,
-) -> Option<usize>
+pub fn number_at(drawing: &Drawing<'_, '_>, line: &[u32], x: usize, y: usize) -> Option<usize>
     ensures { IsNumber drawing.now.pieces.now x y result }
 {
     if let Some(number) = line.get(x)
@@ -125,7 +145,7 @@ pub(crate) fn number_at(
     find(drawing.pieces, x, y)
 }
 
-pub(crate) fn piece_at<'d, 'a>(
+pub fn piece_at<'d, 'a>(
     drawing: &Drawing<'d, 'a>,
     line: &[u32],
     x: usize,

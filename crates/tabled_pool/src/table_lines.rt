@@ -1,12 +1,12 @@
 //! `TableLines`: all lines of a table, and how they are written with the margin around them.
-ghost use Rattle.std.specs.Prelude.{◌<◌, ◌∷◌, ◌≡◌, [], length, map, replicate};
-ghost use Rattle.std.specs.List.{join_with_byte, slice_index_or};
-ghost use Rattle.tabled_line.specs.Leading.{WritesLines};
-ghost use Rattle.tabled_line.specs.Sent.{Writes, Sent};
-ghost use Rattle.tabled_pool.specs.Colours.{marks_of, coloured};
-ghost use Rattle.tabled_pool.specs.Margins.{with_margin, within_margin};
-ghost use Rattle.tabled_pool.specs.TableLines.{AreSizedLines, content_of, sheet_of};
+ghost use Rattle.std.specs.List.{join_with_byte};
+ghost use Rattle.std.specs.Prelude.{[], length, map, replicate, slice_index_or, ◌<◌, ◌∷◌, ◌≡◌};
 ghost use Rattle.tabled_line.specs.Fill.{indent};
+ghost use Rattle.tabled_line.specs.Leading.{WritesLines};
+ghost use Rattle.tabled_line.specs.Sent.{Sent, Writes};
+ghost use Rattle.tabled_pool.specs.Colours.{coloured, marks_of};
+ghost use Rattle.tabled_pool.specs.Pool.{with_margin, within_margin};
+ghost use Rattle.tabled_pool.specs.TableLines.{AreSizedLines, content_of, sheet_of};
 
 use crate::bordered_text::DrawnBlock;
 use crate::color_marks::draw_colored_fill;
@@ -28,7 +28,7 @@ pub struct ColoredMargin {
 
 /// The lines of a table without its margin.
 #[derive(Clone, Copy)]
-pub(crate) enum TableLines<'l, 'd, 'a> {
+pub enum TableLines<'l, 'd, 'a> {
     /// Of placed pieces: they are drawn one by one.
     Placed(&'l Drawing<'d, 'a>),
     /// Of a block that is drawn already.
@@ -37,7 +37,7 @@ pub(crate) enum TableLines<'l, 'd, 'a> {
 
 /// What is between the side margins of a line.
 #[derive(Clone, Copy)]
-pub(crate) enum LineContent<'l, 's, 'd, 'a> {
+pub enum LineContent<'l, 's, 'd, 'a> {
     /// Copies of a character in a colour, as in the top and bottom margin.
     Fill(ANSIStr<'static>, char, usize),
     Placed(Line<'l, 's, 'd, 'a>),
@@ -154,7 +154,7 @@ fn draw_inner_lines<S: TextSink>(
 }
 
 /// Writes all lines with their margin, with line feeds between them.
-pub(crate) fn draw_lines<S: TextSink>(
+pub fn draw_lines<S: TextSink>(
     sink: &mut S,
     lines: TableLines<'_, '_, '_>,
     margin: &ColoredMargin,

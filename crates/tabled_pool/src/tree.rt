@@ -1,10 +1,8 @@
 //! `TableValue`, a tree of texts: how it is dropped, and how it is copied.
 ghost use Rattle.std.specs.Prelude.{IfErr, IfOk, IfSome, MatchOption, [], map, ◌+◌, ◌<◌, ◌≡◌, ◌≤◌};
 ghost use Rattle.tabled_base.specs.declared.error.TableError.TheVariants.{Memory};
-ghost use Rattle.tabled_pool.specs.Inner.{IsInner, IsOnlyChild};
-ghost use Rattle.tabled_pool.specs.Levels.{IsBegun, left_in, list, within};
-ghost use Rattle.tabled_pool.specs.Nodes.{nodes, nodes_in};
-ghost use Rattle.tabled_pool.specs.Tree.{tree_of};
+ghost use Rattle.tabled_pool.specs.Tree.{IsBegun, IsInner, IsOnlyChild, left_in, list, nodes};
+ghost use Rattle.tabled_pool.specs.Tree.{nodes_in, tree_of, within};
 
 use std::alloc::{AllocError, Global};
 use tabled_base::TableError;

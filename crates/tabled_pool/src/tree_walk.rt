@@ -1,26 +1,24 @@
 //! The walk over a tree that is drawn box by box, and where a box is in it.
 ghost use Rattle.std.specs.Prelude.{IfOk, None, [], if◌then◌else◌, map, string_bytes, ◌+◌, ◌<◌};
 ghost use Rattle.std.specs.Prelude.{◌^◌, ◌∷◌, ◌≡◌, ◌≤◌};
-ghost use Rattle.tabled_pool.specs.Boxes.{box_of, list_box};
-ghost use Rattle.tabled_pool.specs.DrawnBlocks.{block_sheet_of};
-ghost use Rattle.tabled_pool.specs.Inherited.{drawer, first_flags, has_zero_width, inherited_block};
-ghost use Rattle.tabled_pool.specs.Inherited.{inheriting_box, is_bottom, is_left, is_right, is_top};
-ghost use Rattle.tabled_pool.specs.Inherited.{later_flags, list_drawer, own_borders, passed_on};
-ghost use Rattle.tabled_pool.specs.Inherited.{top_left};
-ghost use Rattle.tabled_pool.specs.Plans.{plan_of};
-ghost use Rattle.tabled_pool.specs.Shown.{Fits, shown};
+ghost use Rattle.tabled_pool.specs.Boxes.{Fits, box_of, list_box, shown};
+ghost use Rattle.tabled_pool.specs.Inherited.{block_sheet_of, drawer, first_flags, has_zero_width};
+ghost use Rattle.tabled_pool.specs.Inherited.{inherited_block, inheriting_box, is_bottom, is_left};
+ghost use Rattle.tabled_pool.specs.Inherited.{is_right, is_top, later_flags, list_drawer};
+ghost use Rattle.tabled_pool.specs.Inherited.{own_borders, passed_on, top_left};
+ghost use Rattle.tabled_pool.specs.Plan.{plan_of};
 
 use crate::bordered_text::DrawnBlock;
 use crate::inheriting_box::{DrawnBoxes, InheritingBox};
 use crate::places::{BoxesLeft, Drawing, Piece, Rectangle, is_line_kind};
-use crate::sizes::{BoxSpacing, Direction, Size, list_size, own_size};
+use crate::sizes::{Direction, Size, list_size, own_size};
 use crate::tree::TableValue;
 use std::alloc::AllocError;
 use tabled_config::{Borders, Sides};
 
 /// Where a box is in its tree, and which borders meet at its top left corner.
 #[derive(Clone, Copy)]
-pub(crate) struct Flags {
+pub struct Flags {
     /// Nothing is to its left.
     pub first_column: bool,
     /// Nothing is to its right.
@@ -101,7 +99,7 @@ fn either(first: bool, c: Option<char>, d: Option<char>) -> Option<char>
 }
 
 /// The borders of a text. One that it doesn't draw has no character.
-pub(crate) fn own_borders(borders: &Borders<char>, flags: Flags) -> Borders<char>
+pub fn own_borders(borders: &Borders<char>, flags: Flags) -> Borders<char>
     ensures { result ≡ own_borders borders.now flags }
 {
     let right = borders.right_intersection;
@@ -121,7 +119,7 @@ pub(crate) fn own_borders(borders: &Borders<char>, flags: Flags) -> Borders<char
 }
 
 /// Which borders a text has: those whose character, or that of a corner, is set.
-pub(crate) fn own_sides(own: &Borders<char>) -> Sides<bool>
+pub fn own_sides(own: &Borders<char>) -> Sides<bool>
     ensures left { result.left ≡ is_left own.now }
     ensures right { result.right ≡ is_right own.now }
     ensures top { result.top ≡ is_top own.now }
@@ -150,34 +148,28 @@ pub fn has_zero_width(pieces: &[Piece<'_>]) -> bool
     false
 }
 
-#[derive(Clone, Copy)]
-struct TreeSettings<'r, 'd, 'a> {
-    drawing: &'r Drawing<'d, 'a>,
-    spacing: &'r BoxSpacing,
-}
-
 #[cycle(draws)]
 #[inline(never)]
 #[tactic(auto, using(crate::proofs::Steps::left_first, crate::proofs::Steps::left_all, crate::proofs::Steps::left_count,))]
 fn draw_list(
     direction: Direction,
     children: &[TableValue],
-    settings: TreeSettings<'_, '_, '_>,
+    drawing: &Drawing<'_, '_>,
     inherited: &mut InheritingBox,
     drawn: &mut DrawnBoxes,
 ) -> Result<(), AllocError>
     requires blocks { drawn.old.blocks.items ≡ [] }
     requires sizes { drawn.old.sizes.items ≡ [] }
-    requires fits { Fits (list_box direction settings.spacing.now
-        (map (box_of settings.spacing.now) children.now)) inherited.old.place }
+    requires fits { Fits (list_box direction drawing.now.spacing
+        (map (box_of drawing.now.spacing) children.now)) inherited.old.place }
     ensures { IfOk result (λ _. passed_on inherited.new
-        ≡ (list_drawer direction (plan_of settings.entry.drawing.now) settings.entry.spacing.now
-        (map (drawer (plan_of settings.entry.drawing.now) settings.entry.spacing.now)
-        children.now)).draw (inheriting_box inherited.old)) }
+        ≡ (list_drawer direction (plan_of drawing.now) drawing.now.spacing
+        (map (drawer (plan_of drawing.now) drawing.now.spacing) children.now)).draw
+        (inheriting_box inherited.old)) }
 {
-    let spacing = settings.spacing;
+    let spacing = &drawing.spacing;
     let Some((last, front)) = children.split_last() else {
-        return inherited.draw_text(settings.drawing, "");
+        return inherited.draw_text(drawing, "");
     };
     let Some(own) = list_size(direction, children, spacing) else {
         unreachable!()
@@ -188,13 +180,13 @@ fn draw_list(
     let mut left = BoxesLeft { size, count };
     for child in front {
         let own = inherited.pass_to(direction, &mut drawn.next, child, spacing, left)?;
-        draw_value(child, settings, &mut drawn.next)?;
+        draw_value(child, drawing, &mut drawn.next)?;
         drawn.add(direction, inherited)?;
         left.size -= own + border;
         left.count -= 1;
     }
     inherited.pass_rest(direction, &mut drawn.next)?;
-    draw_value(last, settings, &mut drawn.next)?;
+    draw_value(last, drawing, &mut drawn.next)?;
     drawn.add(direction, inherited)?;
     drawn.join(direction, inherited)
 }
@@ -204,43 +196,39 @@ fn draw_list(
 #[tactic(auto, using(crate::proofs::Steps::left_first, crate::proofs::Steps::left_all, crate::proofs::Steps::left_count,))]
 fn draw_value(
     value: &TableValue,
-    settings: TreeSettings<'_, '_, '_>,
+    drawing: &Drawing<'_, '_>,
     inherited: &mut InheritingBox,
 ) -> Result<(), AllocError>
-    requires { Fits (box_of settings.spacing.now value.now) inherited.old.place }
+    requires { Fits (box_of drawing.now.spacing value.now) inherited.old.place }
     ensures { IfOk result (λ _. passed_on inherited.new
-        ≡ (drawer (plan_of settings.entry.drawing.now) settings.entry.spacing.now value.now).draw
+        ≡ (drawer (plan_of drawing.now) drawing.now.spacing value.now).draw
         (inheriting_box inherited.old)) }
 {
-    let alloc = settings.drawing.alloc;
+    let alloc = drawing.alloc;
     match value {
-        TableValue::Cell(text) => inherited.draw_text(settings.drawing, text.as_str()),
+        TableValue::Cell(text) => inherited.draw_text(drawing, text.as_str()),
         TableValue::Row(children) => {
             let mut drawn = DrawnBoxes::boxed(alloc, inherited.place)?;
             let children = children.as_slice();
-            draw_list(Direction::Across, children, settings, inherited, &mut drawn)
+            draw_list(Direction::Across, children, drawing, inherited, &mut drawn)
         }
         TableValue::Column(children) => {
             let mut drawn = DrawnBoxes::boxed(alloc, inherited.place)?;
             let children = children.as_slice();
-            draw_list(Direction::Down, children, settings, inherited, &mut drawn)
+            draw_list(Direction::Down, children, drawing, inherited, &mut drawn)
         }
     }
 }
 
 /// Draws a tree in a rectangle of the size that it needs.
 #[tactic(auto, unfolding(crate::specs::Inherited::inherited_block))]
-pub fn draw_tree(
-    value: &TableValue,
-    spacing: &BoxSpacing,
-    drawing: &Drawing<'_, '_>,
-) -> Result<DrawnBlock, AllocError>
-    requires wide { (box_of spacing.now value.now).width ≤ drawing.now.width }
-    requires tall { (box_of spacing.now value.now).height ≤ drawing.now.height }
+pub fn draw_tree(value: &TableValue, drawing: &Drawing<'_, '_>) -> Result<DrawnBlock, AllocError>
+    requires wide { (box_of drawing.now.spacing value.now).width ≤ drawing.now.width }
+    requires tall { (box_of drawing.now.spacing value.now).height ≤ drawing.now.height }
     ensures { IfOk result (λ block. block_sheet_of block
-        ≡ inherited_block (plan_of drawing.now) spacing.now value.now) }
+        ≡ inherited_block (plan_of drawing.now) drawing.now.spacing value.now) }
 {
-    let Some(Size { width, height }) = own_size(value, spacing) else {
+    let Some(Size { width, height }) = own_size(value, &drawing.spacing) else {
         unreachable!()
     };
     let place = Rectangle {
@@ -250,6 +238,6 @@ pub fn draw_tree(
         height,
     };
     let mut whole = InheritingBox::new(drawing.alloc, place);
-    draw_value(value, TreeSettings { drawing, spacing }, &mut whole)?;
+    draw_value(value, drawing, &mut whole)?;
     Ok(whole.block)
 }

@@ -1,5 +1,5 @@
 use Rattle.tabled_pool.proofs.Names.{block_sheet_of, drop, map, ◌+◌, ◌≡◌}
-use Rattle.tabled_pool.specs.DrawnBlocks.{all_columns}
+use Rattle.tabled_pool.specs.Inherited.{all_columns}
 use Rattle.tabled_pool.proofs.bordered_text.all_columns.Given as goal
 
 abbrev pub invariant-loop-block : goal.invariant-loop-block

@@ -1,5 +1,5 @@
 use Rattle.tabled_pool.proofs.Names.{block_sheet_of, drop, map, max, ◌≡◌}
-use Rattle.tabled_pool.specs.DrawnBlocks.{most_lines}
+use Rattle.tabled_pool.specs.Inherited.{most_lines}
 use Rattle.tabled_pool.proofs.bordered_text.most_lines.Given as goal
 
 abbrev pub invariant-loop-block : goal.invariant-loop-block

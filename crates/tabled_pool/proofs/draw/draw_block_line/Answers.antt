@@ -1,5 +1,6 @@
-use Rattle.tabled_pool.proofs.Names.{CellStyle, List, Mark, None, Rectangle, Sides, [], ap, arith, coloured, fill, get_or, leaf_line, length, lines_of}
-use Rattle.tabled_pool.proofs.Names.{marks_of, nat_tests, part_of, plan_of, pool_block, slice_get, sym, Leaf, ℕ, ◌-◌, ◌∙◌, ◌<◌, ◌≡◌, ◌≤◌}
+use Rattle.tabled_pool.proofs.Names.{CellStyle, List, Mark, None, Rectangle, Sides, [], ap, arith, coloured, fill, get_or, leaf_line}
+use Rattle.tabled_pool.proofs.Names.{length, lines_of, marks_of, nat_tests, part_of, plan_of, pool_block, slice_get, sym, Leaf, ℕ, ◌-◌, ◌∙◌}
+use Rattle.tabled_pool.proofs.Names.{◌<◌, ◌≡◌, ◌≤◌}
 use Rattle.tabled_pool.specs.declared.places.Drawing.{Drawing}
 use Rattle.tabled_pool.specs.Block.{line_below, lines_above}
 use Rattle.tabled_pool.proofs.PoolBlocks.{block-above, block-top, block-text, block-past, block-below}

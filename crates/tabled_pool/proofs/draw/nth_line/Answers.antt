@@ -1,4 +1,4 @@
-use Rattle.tabled_pool.proofs.Names.{lit<}
+use Rattle.std.proofs.Common.{lit<}
 use Rattle.std.proofs.lemmas.Iterator.Splits.{YieldsList-from_str_split}
 use Rattle.std.proofs.lemmas.Iterator.Consumers.{nth_from_yields_List}
 use Rattle.tabled_pool.proofs.draw.nth_line.Goals as goal

@@ -1,8 +1,9 @@
-use Rattle.tabled_pool.proofs.Names.{Some, [], ap, refl, trees, ◌++◌, ◌∙◌, ◌∷◌}
+use Rattle.tabled_pool.proofs.Names.{Some, [], ap, map, refl, rules, the_lemmas, tree_of, trees, ◌++◌, ◌∙◌, ◌∷◌, ◌≡◌}
 use Rattle.std.proofs.iter.Next.{Yields-more}
 use Rattle.std.proofs.lemmas.List.Elements.{All-pop}
 use Rattle.std.specs.Iterator.{IsFiniteIterable}
 use Rattle.tabled_pool.specs.Tree.{across}
+use Rattle.tabled_pool.specs.declared.tree.TableValue.TheViews as value
 use Rattle.tabled_pool.proofs.CollectedValues.{collected-more}
 use Rattle.tabled_pool.proofs.making.collect_rows.Goals as goal
 
@@ -22,5 +23,7 @@ collect_row-requires g c =
 pub loop-row-preserved : goal.loop-row-preserved
 loop-row-preserved g c =
     let came = c.in_ok-collect_row.ensures in
-    collected-more c.loop-row.rows.items c.push.new.self.items c.row_of-value.result
-    c.loop-row.invariant c.in_ok-push.ensures.items came.1 (c.row_of-value.ensures ∙ ap (λ u. across (trees u)) came.2)
+    let row = c.in_ok-collect_row.field-0 in
+    let tree : tree_of (value.Row row) ≡ across (trees (map tree_of row.items)) = search (rules, the_lemmas) in
+    collected-more c.loop-row.rows.items c.push.new.self.items (value.Row row)
+    c.loop-row.invariant c.in_ok-push.ensures.items came.1 (tree ∙ ap (λ u. across (trees u)) came.2)

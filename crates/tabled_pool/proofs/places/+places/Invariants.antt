@@ -1,5 +1,5 @@
 use Rattle.tabled_pool.proofs.Names.{AreLeft, box_of, boxes_left, drop, list_box, map, nodes, nodes_in, ◌*◌, ◌+◌}
-use Rattle.tabled_pool.specs.Left.{Placing}
+use Rattle.tabled_pool.specs.Boxes.{Placing}
 use Rattle.tabled_pool.proofs.places.+places.Given as goal
 
 abbrev pub invariant-place_list-loop-child : goal.invariant-place_list-loop-child
@@ -7,7 +7,7 @@ invariant-place_list-loop-child l =
     let bs = boxes_left l.spacing (drop l.child-index l.front) l.last in
     record {
       placing : Placing (list_box l.direction l.spacing (map (box_of l.spacing) l.children)) (list_box l.direction l.spacing bs)
-          l.fn.whole.place l.place l.initial.pieces.list.items l.pieces.list.items;
+          l.fn.whole.place l.place l.initial.pieces.items l.pieces.items;
       left : AreLeft l.direction l.spacing bs l.left;
     }
 

@@ -1,5 +1,5 @@
 use Rattle.tabled_pool.proofs.Names.{Fits, box_of, first_part, place_along, rest_part, rules, subst, sym, ◌≡◌, ◌≤◌}
-use Rattle.tabled_pool.specs.Left.{given_in}
+use Rattle.tabled_pool.specs.Boxes.{given_in}
 use Rattle.tabled_pool.proofs.Directions.{Cut, cut_facts}
 use Rattle.tabled_pool.proofs.places.split.Goals.{Start, After-rest_part-behind}
 use Rattle.tabled_pool.proofs.places.split.Goals as goal

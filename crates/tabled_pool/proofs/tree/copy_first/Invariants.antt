@@ -1,5 +1,5 @@
 use Rattle.tabled_pool.proofs.Names.{nodes}
-use Rattle.tabled_pool.specs.Levels.{GoesDown}
+use Rattle.tabled_pool.specs.Tree.{GoesDown}
 use Rattle.tabled_pool.proofs.tree.copy_first.Given as goal
 
 abbrev pub invariant-values : goal.invariant-values

@@ -4,8 +4,8 @@ use Rattle.tabled_pool.proofs.tree_walk.+draws.Given as goal
 
 abbrev pub invariant-draw_list-loop-child : goal.invariant-draw_list-loop-child
 invariant-draw_list-loop-child l =
-    let t = plan_of l.settings.drawing.now in
-    let g = l.settings.spacing.now in
+    let t = plan_of l.drawing in
+    let g = l.drawing.spacing in
     let d = l.direction in
     let bs = boxes_left g (drop l.child-index l.front) l.last in
     record {

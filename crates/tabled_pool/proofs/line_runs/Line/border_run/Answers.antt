@@ -1,11 +1,17 @@
-use Rattle.tabled_pool.proofs.Names.{ap, arith, is_line, option_map, owner, plan_of, shown, subst, sym, ◌∙◌, ◌≡◌}
+use Rattle.tabled_pool.proofs.Names.{Bool, None, Option, Part, Some, ap, arith, common_steps, false, is_line, is_line_kind, nat_tests}
+use Rattle.tabled_pool.proofs.Names.{option_map, owner, plan_of, rules, shown, subst, sym, ◌∙◌, ◌≡◌}
+use Rattle.std.specs.Prelude.{MatchOption}
 use Rattle.tabled_pool.proofs.Runs.{Arms, Ends, Owns, kind_before, owns, run_chars}
-use Rattle.tabled_pool.proofs.line_runs.Line.border_run.Goals.{Start, then-last-end, else-last-end}
+use Rattle.tabled_pool.proofs.line_runs.Line.border_run.Goals.{Start, then-end-own, else-end-own, then-last-end, else-last-end, then-last-end-2, else-last-end-2}
 use Rattle.tabled_pool.proofs.line_runs.Line.border_run.Goals as goal
 
 own : (c : Start) → Owns (plan_of c.args.self.now.drawing.now) c.args.at.now.x c.args.self.now.y (shown c.args.piece.now)
 own c =
     let l = c.args.self.now in owns (plan_of l.drawing.now) c.args.at.now.x l.y (shown c.args.piece.now) l.drawing.now.tiles c.requires.here
+
+line-some : {P : Type 0} (f : P → Part) (o : Option P) (r : Bool) → MatchOption o (r ≡ false) (λ x. r ≡ is_line_kind (f x).kind) → r ≡ is_line (option_map f o)
+line-some f None r h = h
+line-some f (Some x) r h = h
 
 pub above-up-requires-clause-inside : goal.above-up-requires-clause-inside
 above-up-requires-clause-inside c = let o = own (goal.at.above-up-requires-clause-inside c).Start in omega (arith, o.to, o.fits)
@@ -15,11 +21,6 @@ stretch_at-down-requires-clause-inside c = let o = own (goal.at.stretch_at-down-
 
 pub overflow_add-own : goal.overflow_add-own
 overflow_add-own c = let o = own (goal.at.overflow_add-own c).Start in omega (arith, o.to, o.fits)
-
-pub piece_behind-behind-requires : goal.piece_behind-behind-requires
-piece_behind-behind-requires c =
-    let o = own (goal.at.piece_behind-behind-requires c).Start in
-    λ h. o.more c.min-end.result (omega (arith, o.to, c.above-up.ensures.some, c.stretch_at-down.ensures.some)) (omega (arith, h))
 
 pub run_end-last-requires : goal.run_end-last-requires
 run_end-last-requires c =
@@ -32,30 +33,43 @@ returns c =
     let p = shown c.args.piece.now in
     let o = own (goal.at.returns c).Start in
     let ends = c.run_end-last.ensures in
-    let arms : Arms t p c.args.at.now.x l.y c.min-end.result c.args.at.now.left c.is_line-border.result
+    let behind : option_map (λ q. shown q.now) c.if-end-own.behind ≡ owner t.parts c.min-end.result l.y = elim c.if-end-own.branch [
+      | then-end-own w ↦ rw w.behind-is
+          (sym (o.more c.min-end.result (omega (arith, ends.some, ends.within)) (omega (arith, w.if-end-own.true))))
+      | else-end-own w ↦ rw w.behind-is w.piece_at-behind.ensures
+    ] in
+    let border : c.is_some_and-border.result ≡ is_line (option_map (λ q. shown q.now) c.if-end-own.behind) =
+    first_of (search (rules, line-some), grind (arith, common_steps, line-some)) in
+    let arms : Arms t p c.args.at.now.x l.y c.min-end.result c.args.at.now.left c.is_some_and-border.result
     c.above-up.result.border c.stretch_at-down.result.border = record {
       some = omega (arith, ends.some, ends.within);
       own = λ v a b. o.more v a (omega arith);
       above = λ v a b. c.above-up.ensures.same v a (omega arith);
       below = λ v a b. c.stretch_at-down.ensures.same v a (omega arith);
       before = sym c.requires.at.left;
-      after = sym (ap is_line c.piece_behind-behind.ensures) ∙ sym c.is_line-border.ensures;
+      after = sym (ap is_line behind) ∙ sym border;
     } in
-    let stop : Ends c.args.at.now.x c.min-end.result c.run_end-last.result c.args.at.now.left c.is_line-border.result
-    c.is_followed.result = record {
+    let stop : Ends c.args.at.now.x c.min-end.result c.run_end-last.result c.args.at.now.left c.is_some_and-border.result
+    c.if-last-end-2.followed = record {
       some = ends.some;
       within = ends.within;
       begun = ends.begun;
       ended = ends.ended;
-      more = c.is_followed.ensures.more;
-      all = c.is_followed.ensures.all;
+      more = λ h. elim c.if-last-end-2.branch [
+        | then-last-end-2 w ↦ w.followed-is ∙ grind (arith, nat_tests)
+        | else-last-end-2 w ↦ absurd (omega (arith, h, w.if-last-end-2.false))
+      ];
+      all = λ h. elim c.if-last-end-2.branch [
+        | then-last-end-2 w ↦ absurd (omega (arith, h, w.if-last-end-2.true))
+        | else-last-end-2 w ↦ w.followed-is
+      ];
     } in
     let next : option_map (λ q. shown q.now) c.if-last-end.next ≡ owner t.parts c.run_end-last.result l.y = elim c.if-last-end.branch [
       | then-last-end w ↦ rw w.next-is
           (sym (o.more c.run_end-last.result (omega (arith, ends.some)) (omega (arith, w.if-last-end.true))))
       | else-last-end w ↦ rw w.next-is
-          (subst (λ v. option_map (λ q. shown q.now) c.piece_behind-behind.result ≡ owner t.parts v l.y)
-          (omega (arith, w.if-last-end.false, ends.within)) c.piece_behind-behind.ensures)
+          (subst (λ v. option_map (λ q. shown q.now) c.if-end-own.behind ≡ owner t.parts v l.y)
+          (omega (arith, w.if-last-end.false, ends.within)) behind)
     ] in
     record {
       run = record {

@@ -6,4 +6,4 @@ unfolding plan
 returns c =
     let e = rw (c.requires.width, c.requires.height, c.frame_of-frame.ensures, c.get_borders.ensures, c.spacing.ensures)
     at c.in_ok-place_tree.ensures in
-    rw c.new-pieces.ensures at e
+    rw c.new-pieces.ensures.items at e

@@ -1,6 +1,6 @@
 -- `with` by hand: the table is lent again to `apply`, comes back as that left it, and is passed on or given up.
-use Rattle.tabled_pool.proofs.Names.{List, [], inl, inr, lit<, refl, subst, sym, ℕ, ◌++◌, ◌∷◌, ◌≡◌}
-use Rattle.std.proofs.Common.{MutBor}
+use Rattle.tabled_pool.proofs.Names.{List, [], inl, inr, refl, subst, sym, ℕ, ◌++◌, ◌∷◌, ◌≡◌}
+use Rattle.std.proofs.Common.{MutBor, lit<}
 use Rattle.std.proofs.raw_atomic.Walks.{proved_at}
 use Rattle.std.specs.Prelude.{Result, Ok, Err, OnOk, IfErr, ⊤}
 use seplogic.Ra.Ura.{Ura}
@@ -45,7 +45,7 @@ use Rattle.tabled_base.proofs.Refusals.{Done, IsCause, accepted, cause, refused,
 use Rattle.tabled_base.specs.declared.error.TableError.{TableError}
 use Rattle.tabled_base.specs.declared.error.TableError.TheVariants.{Range}
 use Rattle.tabled_base.specs.contracts.error.TableError.{the_row as TE}
-use Rattle.tabled_pool.specs.Applied.{IsApplied, WasOutOfRange}
+use Rattle.tabled_pool.specs.NewPool.{IsApplied, WasOutOfRange}
 use Rattle.tabled_pool.specs.contracts.pool_table.PoolTable.{the_row as R}
 use Rattle.tabled_pool.specs.contracts.pool_table.PoolTable.with as f
 use Rattle.tabled_pool.proofs.pool_table.PoolTable.with.Statement.{statement}

@@ -1,5 +1,5 @@
-use Rattle.tabled_pool.proofs.Names.{AreSized, DrawingPlan, PoolTable, ap, arith, common_steps, false, has_zero_width, inr, marks_for, plan, subst, sym, true}
-use Rattle.tabled_pool.proofs.Names.{◌∙◌, ◌≡◌}
+use Rattle.tabled_pool.proofs.Names.{AreSized, DrawingPlan, PoolTable, ap, arith, common_steps, false, has_zero_width, inr, marks_for, plan}
+use Rattle.tabled_pool.proofs.Names.{subst, sym, true, ◌∙◌, ◌≡◌}
 use Rattle.std.specs.Prelude.{Result, Ok, Err}
 use Rattle.tabled_base.specs.declared.error.TableError.{TableError}
 use Rattle.tabled_line.specs.Sent.{Sent, Writes}
@@ -27,16 +27,16 @@ returns-then-has_columns g c =
     (m.colors ∙ ap (marks_for t) c.get_margin.ensures)) c.draw_lines.ensures)
 
 pub draw_tree-requires-clause-wide : goal.draw_tree-requires-clause-wide
-draw_tree-requires-clause-wide g c = rw c.spacing.ensures (omega (arith, c.drawing-drawing.ensures.width, c.in-Some.ensures.0))
+draw_tree-requires-clause-wide g c = rw c.drawing-drawing.ensures.spacing (omega (arith, c.drawing-drawing.ensures.width, c.in-Some.ensures.0))
 
 pub draw_tree-requires-clause-tall : goal.draw_tree-requires-clause-tall
-draw_tree-requires-clause-tall g c = rw c.spacing.ensures (omega (arith, c.drawing-drawing.ensures.height, c.in-Some.ensures.1))
+draw_tree-requires-clause-tall g c = rw c.drawing-drawing.ensures.spacing (omega (arith, c.drawing-drawing.ensures.height, c.in-Some.ensures.1))
 
 pub returns : goal.returns
 returns g c =
     let t = c.args.self.now in
     let m = c.colored_margin-margin-2.ensures in
     let bare : has_zero_width (plan t).parts ≡ true = grind (arith, common_steps) in
-    let block = rw (c.drawing-drawing.ensures.plan, c.spacing.ensures) at c.in_ok-block.ensures in
+    let block = rw (c.drawing-drawing.ensures.plan, c.drawing-drawing.ensures.spacing) at c.in_ok-block.ensures in
     written t _ _ _ c.in-Some.ensures.2
     (rw (inherited_text t _ _ _ bare block (m.indent ∙ c.margin_around.ensures) (m.colors ∙ ap (marks_for t) (sym m.indent))) c.draw_lines-2.ensures)

@@ -1,5 +1,5 @@
 use Rattle.tabled_pool.proofs.Names.{left_in, tree_of, ◌≡◌}
-use Rattle.tabled_pool.specs.Levels.{within}
+use Rattle.tabled_pool.specs.Tree.{within}
 use Rattle.tabled_pool.proofs.tree.TableValue.clone.Given as goal
 
 abbrev pub invariant-values : goal.invariant-values

@@ -1,5 +1,5 @@
 use Rattle.tabled_pool.proofs.Names.{nodes}
-use Rattle.tabled_pool.specs.Inner.{IsInner}
+use Rattle.tabled_pool.specs.Tree.{IsInner}
 use Rattle.tabled_pool.proofs.tree.TableValue.inner.Given as goal
 
 abbrev pub invariant-lists : goal.invariant-lists
