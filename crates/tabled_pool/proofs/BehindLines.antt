@@ -1,9 +1,9 @@
 -- Each text of a framed tree stands behind a line, where one stands between boxes side by side and at the left.
 use Rattle.tabled_pool.proofs.Names.{Across, Bar, Box, BoxSpacing, Direction, Down, IsUtf8, IsUtf8-nil, Leaf, List, None, Option, Part}
-use Rattle.tabled_pool.proofs.Names.{Rectangle, Rule, Sides, Some, TableValue, [], ap, arith, behind_border, border_part, bottom_part}
-use Rattle.tabled_pool.proofs.Names.{box_of, covering, first_part, framed, given_size, inl, inr, is_border_before, is_line, is_line_kind}
-use Rattle.tabled_pool.proofs.Names.{joined_box, leaf_box, left_part, needed_by, owner, part_of, place_along, refl, right_part, subst, suc}
-use Rattle.tabled_pool.proofs.Names.{sym, top_part, true, within, zero, ℕ, ⊎_elim, ◌++◌, ◌+◌, ◌-◌, ◌<◌, ◌∙◌, ◌∷◌, ◌≡◌, ◌≤◌, ◌⊎◌}
+use Rattle.tabled_pool.proofs.Names.{Rectangle, Rule, Sides, Some, TableValue, [], ap, arith, behind_border, border_part, box_of, covering}
+use Rattle.tabled_pool.proofs.Names.{first_part, framed, given_size, inl, inr, is_border_before, is_line, is_line_kind, joined_box}
+use Rattle.tabled_pool.proofs.Names.{leaf_box, needed_by, owner, part_of, place_along, refl, rest_part, subst, suc, sym, true, within, zero}
+use Rattle.tabled_pool.proofs.Names.{ℕ, ⊎_elim, ◌++◌, ◌+◌, ◌-◌, ◌<◌, ◌∙◌, ◌∷◌, ◌≡◌, ◌≤◌, ◌⊎◌}
 use Rattle.tabled_pool.proofs.Directions.{shares}
 use Rattle.tabled_pool.proofs.Owners.{Inside, inside-within, within-inside, within-le, owner-inside, owner-here, owner-behind, counted}
 use Rattle.tabled_pool.proofs.Owners.{is-1}
@@ -156,14 +156,14 @@ pub framed-behind : (g : BoxSpacing) → g.bar ≡ 1 → (t : TableValue) (e : S
 unfolding framed
 framed-behind g f t e w l h v x y p o k s =
     let b = box_of g t in
-    let rest = right_part e.left w in
-    let middle = left_part (rest.width - e.right) rest in
-    let below = bottom_part e.top middle in
-    let left = part_of Bar (left_part e.left w) [] in
-    let right = part_of Bar (right_part (rest.width - e.right) rest) [] in
-    let top = part_of Rule (top_part e.top middle) [] in
-    let bottom = part_of Rule (bottom_part (below.height - e.bottom) below) [] in
-    let inner = top_part (below.height - e.bottom) below in
+    let rest = rest_part Across e.left w in
+    let middle = first_part Across (rest.width - e.right) rest in
+    let below = rest_part Down e.top middle in
+    let left = part_of Bar (first_part Across e.left w) [] in
+    let right = part_of Bar (rest_part Across (rest.width - e.right) rest) [] in
+    let top = part_of Rule (first_part Down e.top middle) [] in
+    let bottom = part_of Rule (rest_part Down (below.height - e.bottom) below) [] in
+    let inner = first_part Down (below.height - e.bottom) below in
     let ls = right ∷ (top ∷ (bottom ∷ [])) in
     let qs = b.parts inner in
     let all = left ∷ (ls ++ qs) in

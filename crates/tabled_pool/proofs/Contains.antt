@@ -1,6 +1,5 @@
 -- What the tests of a place say.
-use Rattle.tabled_pool.proofs.Names.{Rectangle, arith, contains, false, ltb, nat_tests, refl, spans, ℕ, ◌+◌, ◌-◌, ◌<◌}
-use Rattle.tabled_pool.proofs.Names.{◌==◌, ◌≡◌, ◌≤◌}
+use Rattle.tabled_pool.proofs.Names.{Rectangle, arith, contains, false, ltb, nat_tests, refl, spans, ℕ, ◌+◌, ◌-◌, ◌<◌, ◌==◌, ◌≡◌, ◌≤◌}
 use Rattle.std.proofs.Math.Nat.{mul-zero, one-mul, zero-mul}
 
 spans-0 : (a n p : ℕ) → (p < a + n → p < a) → spans a n p ≡ 0

@@ -1,5 +1,4 @@
--- The names of the crates below, and of the definitions of this one, that its proofs use. Declares
--- nothing.
+-- The names that the proofs use, of the crates below and of this one. Declares nothing.
 pub use Rattle.std.proofs.Common.{Bool, List, None, Option, Some, [], add-one, ap, append-nil, append_assoc, arith, cond, drop, encode_utf8}
 pub use Rattle.std.proofs.Common.{false, get_or, if◌then◌else◌, inl, inr, length, ltb, map, max, refl, replicate, rules, slice_get}
 pub use Rattle.std.proofs.Common.{string_bytes, subst, suc, sym, take, true, unwrap_or, zero, ℕ, ⊎_elim, ◌&&◌, ◌*◌, ◌++◌, ◌+◌, ◌-◌, ◌<◌}
@@ -32,9 +31,9 @@ pub use Rattle.tabled_line.specs.Sent.{Sends}
 pub use Rattle.tabled_pool.specs.Around.{across, around_at, around_part, around_text, beside, is_last_row, run_side}
 pub use Rattle.tabled_pool.specs.Block.{text_line, without_sides}
 unfoldable pub use Rattle.tabled_pool.specs.Block.{leaf_line, pool_block}
-pub use Rattle.tabled_pool.specs.Boxes.{Box, IsSize, Part, behind_border, border_kind, border_part, border_size, bottom_part, box_across}
-pub use Rattle.tabled_pool.specs.Boxes.{box_along, box_of, box_step, first_part, given_size, is_line_kind, joined_box, leaf_box, left_part}
-pub use Rattle.tabled_pool.specs.Boxes.{list_box, needed_by, part_of, pick, place_along, rest_part, right_part, sized, top_part, AreLeft}
+pub use Rattle.tabled_pool.specs.Boxes.{Box, IsSize, Part, behind_border, border_kind, border_part, border_size, box_across}
+pub use Rattle.tabled_pool.specs.Boxes.{box_along, box_of, box_step, first_part, given_size, is_line_kind, joined_box, leaf_box}
+pub use Rattle.tabled_pool.specs.Boxes.{list_box, needed_by, part_of, pick, place_along, rest_part, sized, AreLeft}
 pub use Rattle.tabled_pool.specs.Boxes.{boxes_left, contains, is_border, is_border_above, is_border_before, is_line, owner, Fits, shown}
 pub use Rattle.tabled_pool.specs.Boxes.{AreTiles, covering, within}
 pub use Rattle.tabled_pool.specs.Plain.{EachCharacter, EachFill}

@@ -9,7 +9,7 @@ use Rattle.std.proofs.lemmas.Bool.{cases_lt}
 use Rattle.tabled_line.specs.Block.{free_lines}
 use Rattle.tabled_pool.specs.Block.{lines_above, line_below}
 
-past_from_none : {X : Type 0} (xs : List X) (k : ℕ) → None ≡ slice_get xs k → length xs ≤ k
+pub past_from_none : {X : Type 0} (xs : List X) (k : ℕ) → None ≡ slice_get xs k → length xs ≤ k
 past_from_none xs k e =
     ⊎_elim (λ h. absurd (let f : Some h.0 ≡ None = sym h.2 ∙ sym e in cc)) (λ h. h.0) (slice_get_cases xs k).1
 
@@ -58,10 +58,6 @@ pub block-text : (s : CellStyle) (ms : Sides Mark) (w h : ℕ) (t : List ℕ) (k
     → Some line ≡ slice_get (lines_of t) (k - lines_above s h t - s.padding.top.size) → get_or (pool_block s ms w h t) k [] ≡ text_line s ms w t line
 block-text s ms w h t k line l m e = padded s ms w h t k l m ∙ within_text (text_line s ms w t) (lines_of t) [] _ _ line e
 
-pub block-past : (s : CellStyle) (ms : Sides Mark) (w h : ℕ) (t : List ℕ) (k : ℕ) → lines_above s h t ≤ k → s.padding.top.size ≤ k - lines_above s h t
-    → None ≡ slice_get (lines_of t) (k - lines_above s h t - s.padding.top.size) → length (lines_of t) ≤ k - lines_above s h t - s.padding.top.size
-block-past s ms w h t k l m e = past_from_none (lines_of t) _ e
-
 pub block-below : (s : CellStyle) (ms : Sides Mark) (w h : ℕ) (t : List ℕ) (k : ℕ) → k < h → lines_above s h t ≤ k → s.padding.top.size ≤ k - lines_above s h t
     → length (lines_of t) ≤ k - lines_above s h t - s.padding.top.size
     → get_or (pool_block s ms w h t) k [] ≡ line_below s ms w (k - lines_above s h t - s.padding.top.size - length (lines_of t))
@@ -84,7 +80,7 @@ each_line P s ms w h t k blank top bottom texts n =
     (λ m. subst P (sym (block-top s ms w h t k l m)) top)
     (λ m. ⊎_elim
     (λ x. subst P (sym (block-text s ms w h t k (get_or (lines_of t) j []) l m (sym (slice_get-get_or (lines_of t) j [] x.1)))) (texts j x.1))
-    (λ x. subst P (sym (block-below s ms w h t k n l m (block-past s ms w h t k l m (sym x.1))))
+    (λ x. subst P (sym (block-below s ms w h t k n l m (past_from_none (lines_of t) _ (sym x.1))))
     (elim (ltb (j - length (lines_of t)) s.padding.bottom.size) as (λ b. P (cond b (coloured ms.bottom (fill s.padding.bottom.fill w)) (fill 32 w))) [
       | true ↦ bottom
       | false ↦ blank

@@ -1,13 +1,13 @@
 -- Pool tables as plans.
 use Rattle.tabled_pool.proofs.Names.{AreTiles, BlockSheet, Borders, CellStyle, DrawingPlan, HasColumns, Indent, List, Mark, Part, PoolTable}
-use Rattle.tabled_pool.proofs.Names.{Sides, ap, arith, borders_of, covering, drawn, frame_of, frame_place, framed_height, framed_width}
-use Rattle.tabled_pool.proofs.Names.{has_zero_width, line_marks_of, margin_marks, margin_of, marks_for, marks_of, plan, pool_lines, refl}
-use Rattle.tabled_pool.proofs.Names.{spacing_of, sym, true, with_margin, within, ℕ, ◌∙◌, ◌≡◌}
+use Rattle.tabled_pool.proofs.Names.{Sides, ap, arith, borders_of, covering, drawn, frame_of, frame_place, framed_width, has_zero_width}
+use Rattle.tabled_pool.proofs.Names.{line_marks_of, margin_marks, margin_of, marks_for, marks_of, plan, pool_lines, refl, spacing_of, sym}
+use Rattle.tabled_pool.proofs.Names.{true, with_margin, within, ℕ, ◌∙◌, ◌≡◌}
 use Rattle.std.specs.List.{join_with_byte}
 use Rattle.tabled_pool.proofs.Tiling.{framed-tiles}
 use Rattle.tabled_pool.specs.Colours.{LineMarks}
 use Rattle.tabled_pool.specs.Inherited.{inherited_block}
-use Rattle.tabled_pool.specs.Pool.{margin_around, margined, pool_text, style_of}
+use Rattle.tabled_pool.specs.Pool.{framed_height, margin_around, margined, pool_text, style_of}
 
 -- the lines of a table whose texts have columns, and of another one
 pub lined : (t : PoolTable) → HasColumns t

@@ -2,7 +2,7 @@
 use Rattle.tabled_pool.proofs.Names.{AreTiles, Bar, Bool, DrawingPlan, IsAt, Kind, Leaf, List, None, Part, Rectangle, Rule, Some, [], ap}
 use Rattle.tabled_pool.proofs.Names.{append-nil, append_assoc, arith, around_at, border_char, border_text, encode_utf8, false, fill}
 use Rattle.tabled_pool.proofs.Names.{flat_map, inr, is_border, is_border_above, is_border_before, is_line, is_line_kind, nothing_around}
-use Rattle.tabled_pool.proofs.Names.{owned_text, owner, part_text, place_text, range_with_len, refl, suc, sym, true, whole, within}
+use Rattle.tabled_pool.proofs.Names.{owned_text, owner, part_text, place_text, range_with_len, refl, suc, sym, true, whole}
 use Rattle.tabled_pool.proofs.Names.{within_marks, zero, ℕ, ⊎_elim, ◌++◌, ◌+◌, ◌-◌, ◌<◌, ◌∙◌, ◌≡◌, ◌≤◌, ◌⊎◌}
 use Rattle.tabled_pool.specs.declared.line_runs.Cursor.{Cursor}
 use Rattle.tabled_pool.specs.Drawn.{armed_char, IsRun}
@@ -150,7 +150,7 @@ pub first_only : (f : ℕ → List ℕ) (x n : ℕ) → 0 < n → ((v : ℕ) →
 first_only f x zero l h = absurd (omega arith)
 first_only f x (suc n) l h = rw (nothing_from f (x + 1) n (λ v a b. h v (omega arith) (omega arith)), append-nil (f x)) refl
 
-part-border : (t : DrawingPlan) (k : Kind) (p : Part) (x y : ℕ) → is_line_kind k ≡ true → part_text t k p x y ≡ border_text t k p.place x y
+pub part-border : (t : DrawingPlan) (k : Kind) (p : Part) (x y : ℕ) → is_line_kind k ≡ true → part_text t k p x y ≡ border_text t k p.place x y
 part-border t Leaf p x y h = cc
 part-border t Bar p x y h = refl
 part-border t Rule p x y h = refl
@@ -160,7 +160,7 @@ border-marked : (t : DrawingPlan) (k : Kind) (r : Rectangle) (x y c : ℕ) → b
 unfolding border_text
 border-marked t k r x y c e = ap (λ d. within_marks (around_at t t.parts x y) (encode_utf8 d)) e
 
-place-owned : (t : DrawingPlan) (x y : ℕ) (p : Part) → owner t.parts x y ≡ Some p → place_text t y x ≡ part_text t p.kind p x y
+pub place-owned : (t : DrawingPlan) (x y : ℕ) (p : Part) → owner t.parts x y ≡ Some p → place_text t y x ≡ part_text t p.kind p x y
 unfolding place_text
 place-owned t x y p o = ap (λ z. owned_text t z x y) o
 

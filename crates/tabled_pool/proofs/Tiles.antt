@@ -1,10 +1,11 @@
 -- What is drawn tiles its parts.
-use Rattle.tabled_pool.proofs.Names.{Bar, DrawingPlan, Kind, Leaf, List, Part, Rule, Some, Tiled, ap, arith, border_char, drawn_line}
-use Rattle.tabled_pool.proofs.Names.{encode_utf8, flat_map, inl, inr, is_line_kind, leaf_line, owned_text, owner, part_text, place_text}
-use Rattle.tabled_pool.proofs.Names.{range_with_len, refl, true, whole, within, ℕ, ◌++◌, ◌+◌, ◌-◌, ◌<◌, ◌∙◌, ◌≡◌, ◌≤◌, ◌⊎◌}
+use Rattle.tabled_pool.proofs.Names.{DrawingPlan, Leaf, List, Part, Some, Tiled, ap, arith, drawn_line, flat_map, inl, inr, leaf_line}
+use Rattle.tabled_pool.proofs.Names.{owner, part_text, place_text, range_with_len, refl, whole, within, ℕ, ◌++◌, ◌+◌, ◌-◌, ◌<◌, ◌∙◌, ◌≡◌}
+use Rattle.tabled_pool.proofs.Names.{◌≤◌, ◌⊎◌}
 use Rattle.tabled_line.proofs.Each.{each-rest}
 use Rattle.tabled_pool.specs.Drawn.{StandsAt}
 use Rattle.tabled_pool.proofs.Owners.{inside-within, within-inside, within-le, owner-inside, counted}
+use Rattle.tabled_pool.proofs.Runs.{part-border, place-owned}
 use Rattle.tabled_pool.proofs.UpcomingCells.{ahead, whole-inside, unique, Begins, Goes, before, leaf-begins, out-line}
 use Rattle.tabled_pool.proofs.Columns.{border-bare, out, prefix}
 use Rattle.tabled_pool.proofs.Drawable.{IsDrawable}
@@ -19,16 +20,6 @@ stands t d x y piece h v e0 e = record {
       (λ u. flat_map (place_text t y) (range_with_len 0 x) ++ (u ++ flat_map (place_text t y) (range_with_len (x + 1) (t.width - x - 1)))) e;
   columns = d.columns y x (out t y x) (ahead t y x) (prefix t d y x (omega arith) v) ∙ e0;
 }
-
-text-of : (t : DrawingPlan) (x y : ℕ) (p : Part) → owner t.parts x y ≡ Some p → place_text t y x ≡ part_text t p.kind p x y
-unfolding place_text
-text-of t x y p o = ap (λ z. owned_text t z x y) o
-
-char-of : {Out : ℕ → ℕ → List ℕ → ℕ → Type 0} (t : DrawingPlan) (d : IsDrawable t Out) (x y : ℕ) (p : Part) (k : Kind) → is_line_kind k ≡ true
-    → part_text t k p x y ≡ encode_utf8 (border_char t k p.place x y)
-char-of t d x y p Leaf l = cc
-char-of t d x y p Bar l = border-bare t d Bar p.place x y
-char-of t d x y p Rule l = border-bare t d Rule p.place x y
 
 begins-leaf : (t : DrawingPlan) (y : ℕ) (p : Part) → Begins t y p.place.x p ⊎ Goes t y p.place.x p → ahead t y p.place.x ≡ p.place.x
 begins-leaf t y p (inl b) = b.out
@@ -47,12 +38,12 @@ leaf-stands t d u v y p o e a b =
     let tall : y < t.height = omega (arith, inner.bottom) in
     stands t d p.place.x y (leaf_line t p (y - p.place.y)) wide tall
     (begins-leaf t y p (before t d.once y p.place.x p wide tall here))
-    (text-of t p.place.x y p here ∙ ap (λ k. part_text t k p p.place.x y) e ∙ leaf-begins t p p.place.x y refl)
+    (place-owned t p.place.x y p here ∙ ap (λ k. part_text t k p p.place.x y) e ∙ leaf-begins t p p.place.x y refl)
 
 pub drawn_tiles : {Out : ℕ → ℕ → List ℕ → ℕ → Type 0} (t : DrawingPlan) → IsDrawable t Out → Tiled t
 drawn_tiles t d = record {
   once = λ x y h v. d.once x y ∙ whole-inside t x y h v;
   leaf = λ u v y p o e a b. leaf-stands t d u v y p o e a b;
   border = λ x y p h v o l. stands t d x y _ h v (out-line t y x p p.kind refl l (before t d.once y x p h v o))
-      (text-of t x y p o ∙ char-of t d x y p p.kind l);
+      (place-owned t x y p o ∙ part-border t p.kind p x y l ∙ border-bare t d p.kind p.place x y);
 }

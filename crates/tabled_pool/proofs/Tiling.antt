@@ -1,10 +1,9 @@
 -- The parts of a tree fill its rectangle: each place is in one part, and each text is held by its part.
 use Rattle.tabled_pool.proofs.Names.{Across, AreTiles, Bar, Box, BoxSpacing, Direction, Down, EachText, IsUtf8, IsUtf8-nil, Kind, Leaf}
 use Rattle.tabled_pool.proofs.Names.{List, Part, Rectangle, Rule, Sides, Some, TableValue, [], arith, behind_border, border_kind}
-use Rattle.tabled_pool.proofs.Names.{border_part, border_size, bottom_part, box_of, covering, first_part, framed, given_size, is_line_kind}
-use Rattle.tabled_pool.proofs.Names.{joined_box, left_part, length, lines_of, nat_tests, needed_by, owner, part_of, place_along, refl}
-use Rattle.tabled_pool.proofs.Names.{rest_part, right_part, spans, subst, sym, text_columns, top_part, tree_of, true, within, ℕ, ⊎_elim}
-use Rattle.tabled_pool.proofs.Names.{◌++◌, ◌+◌, ◌-◌, ◌<◌, ◌∙◌, ◌∷◌, ◌≡◌, ◌≤◌}
+use Rattle.tabled_pool.proofs.Names.{border_part, border_size, box_of, covering, first_part, framed, given_size, is_line_kind, joined_box}
+use Rattle.tabled_pool.proofs.Names.{length, lines_of, nat_tests, needed_by, owner, part_of, place_along, refl, rest_part, spans, subst}
+use Rattle.tabled_pool.proofs.Names.{sym, text_columns, tree_of, true, within, ℕ, ⊎_elim, ◌++◌, ◌+◌, ◌-◌, ◌<◌, ◌∙◌, ◌∷◌, ◌≡◌, ◌≤◌}
 use Rattle.std.proofs.Math.Nat.{add-mul, mul-add}
 use Rattle.tabled_pool.proofs.Directions.{shares}
 use Rattle.tabled_pool.proofs.Owners.{owner-here, owner-behind, is-1}
@@ -109,9 +108,9 @@ pub framed-tiles : (g : BoxSpacing) (t : TableValue) (e : Sides ℕ) (w : Rectan
     → e.left + (box_of g t).width + e.right ≤ w.width → e.top + (box_of g t).height + e.bottom ≤ w.height → AreTiles (framed e (box_of g t) w) w
 unfolding framed
 framed-tiles g t e w h v = λ px py.
-    let rest = right_part e.left w in
-    let middle = left_part (rest.width - e.right) rest in
-    let below = bottom_part e.top middle in
+    let rest = rest_part Across e.left w in
+    let middle = first_part Across (rest.width - e.right) rest in
+    let below = rest_part Down e.top middle in
     let f = of-tree (filled g IsUtf8 IsUtf8-nil) t (tree-utf8 t) in
     omega (
       arith,
@@ -119,7 +118,7 @@ framed-tiles g t e w h v = λ px py.
       within-split Across (rest.width - e.right) rest px py (omega arith),
       within-split Down e.top middle px py (omega arith),
       within-split Down (below.height - e.bottom) below px py (omega arith),
-      f.once (top_part (below.height - e.bottom) below) px py (omega arith) (omega arith),
+      f.once (first_part Down (below.height - e.bottom) below) px py (omega arith) (omega arith),
     )
 
 pub framed-held : (g : BoxSpacing) (IsText : List ℕ → Type 0) → IsText [] → (t : TableValue) → EachText IsText (tree_of t)

@@ -1,8 +1,8 @@
 -- The lines of a whole pool table.
 use Rattle.tabled_pool.proofs.Names.{DrawingPlan, HasColumns, Indent, List, Mark, PoolTable, Sides, [], ap, arith, drawn, drawn_line}
-use Rattle.tabled_pool.proofs.Names.{framed_height, framed_width, get_or, get_or-map-range_with_len, length, length-map}
-use Rattle.tabled_pool.proofs.Names.{length-map-range_with_len, length-replicate, map, margin_line, margin_marks, margin_of, plan}
-use Rattle.tabled_pool.proofs.Names.{pool_lines, refl, replicate, sym, with_margin, within_margin, ℕ, ◌++◌, ◌+◌, ◌<◌, ◌∙◌, ◌≡◌}
+use Rattle.tabled_pool.proofs.Names.{framed_width, get_or, get_or-map-range_with_len, length, length-map, length-map-range_with_len}
+use Rattle.tabled_pool.proofs.Names.{length-replicate, map, margin_line, margin_marks, margin_of, plan, pool_lines, replicate, sym}
+use Rattle.tabled_pool.proofs.Names.{with_margin, within_margin, ℕ, ◌++◌, ◌+◌, ◌<◌, ◌∙◌, ◌≡◌}
 use Rattle.std.proofs.lemmas.List.{length-append}
 use Rattle.tabled_pool.specs.Pool.{total_height}
 use Rattle.tabled_pool.proofs.PoolLemmas.{lined}
@@ -30,11 +30,8 @@ margin-length m ms w lines =
       length-replicate m.bottom.size (margin_line m ms ms.bottom m.bottom.fill w),
     )
 
-plan-height : (t : PoolTable) → (plan t).height ≡ framed_height t
-unfolding plan
-plan-height t = refl
-
 pub whole_lines : (t : PoolTable) → HasColumns t → length (pool_lines t) ≡ total_height t
+unfolding plan
 whole_lines t h =
     let inside = margin-length (margin_of t) (margin_marks t) (framed_width t) (drawn (plan t)) in
-    ap length (lined t h) ∙ omega (arith, inside, drawn-length (plan t), plan-height t)
+    ap length (lined t h) ∙ omega (arith, inside, drawn-length (plan t))

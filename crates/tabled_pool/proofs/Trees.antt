@@ -1,6 +1,6 @@
 -- What holds of the boxes of texts, and of boxes that are joined, holds of the box of each tree.
 use Rattle.tabled_pool.proofs.Names.{Across, Box, BoxSpacing, Cell, Column, Direction, Down, EachText, IsUtf8, List, Row, TableValue, Tree}
-use Rattle.tabled_pool.proofs.Names.{[], arith, box_of, box_step, fold-roll-TableValue, ind-TableValue, joined_box, leaf, leaf_box, length}
+use Rattle.tabled_pool.proofs.Names.{[], arith, box_of, box_step, fold-roll-TableValue, ind-TableValue, joined_box, leaf_box, length}
 use Rattle.tabled_pool.proofs.Names.{list_box, map, map-TableValue, roll-TableValue, string_bytes, subst, sym, tree_of, trees, ℕ, ◌+◌, ◌<◌}
 use Rattle.tabled_pool.proofs.Names.{◌∷◌}
 use Rattle.std.proofs.lemmas.Str.{IsUtf8-string_bytes}

@@ -39,32 +39,20 @@ share First surplus k = surplus
 share Last surplus k = 0
 share Each surplus k = div_ceil surplus k
 
--- the first n columns of a rectangle, and those after them; the first n lines, and those below them
-abbrev pub left_part : ℕ → Rectangle → Rectangle
-left_part n r = record r { width = n }
-
-abbrev pub right_part : ℕ → Rectangle → Rectangle
-right_part n r = record r { x = r.x + n; width = r.width - n }
-
-abbrev pub top_part : ℕ → Rectangle → Rectangle
-top_part n r = record r { height = n }
-
-abbrev pub bottom_part : ℕ → Rectangle → Rectangle
-bottom_part n r = record r { y = r.y + n; height = r.height - n }
-
 -- ---- by direction: side by side or below each other
 
 abbrev pub pick : {A : Type 0} → Direction → A → A → A
 pick Across a b = a
 pick Down a b = b
 
+-- the first n columns or lines of a rectangle, and those after them
 abbrev pub first_part : Direction → ℕ → Rectangle → Rectangle
-first_part Across n r = left_part n r
-first_part Down n r = top_part n r
+first_part Across n r = record r { width = n }
+first_part Down n r = record r { height = n }
 
 abbrev pub rest_part : Direction → ℕ → Rectangle → Rectangle
-rest_part Across n r = right_part n r
-rest_part Down n r = bottom_part n r
+rest_part Across n r = record r { x = r.x + n; width = r.width - n }
+rest_part Down n r = record r { y = r.y + n; height = r.height - n }
 
 -- sizes in a direction, and in the other one
 abbrev pub box_along : Direction → Box → ℕ
@@ -213,14 +201,14 @@ AreTiles parts r = (px py : ℕ) → covering parts px py ≡ within r px py
 -- a box with the outer borders around it
 unfoldable pub framed : Sides ℕ → Box → Rectangle → List Part
 framed e b w =
-    let rest = right_part e.left w in
-    let middle = left_part (rest.width - e.right) rest in
-    let below = bottom_part e.top middle in
-    part_of Bar (left_part e.left w) []
-    ∷ (part_of Bar (right_part (rest.width - e.right) rest) []
-    ∷ (part_of Rule (top_part e.top middle) []
-    ∷ (part_of Rule (bottom_part (below.height - e.bottom) below) []
-    ∷ b.parts (top_part (below.height - e.bottom) below))))
+    let rest = rest_part Across e.left w in
+    let middle = first_part Across (rest.width - e.right) rest in
+    let below = rest_part Down e.top middle in
+    part_of Bar (first_part Across e.left w) []
+    ∷ (part_of Bar (rest_part Across (rest.width - e.right) rest) []
+    ∷ (part_of Rule (first_part Down e.top middle) []
+    ∷ (part_of Rule (rest_part Down (below.height - e.bottom) below) []
+    ∷ b.parts (first_part Down (below.height - e.bottom) below))))
 
 -- ---- which part is at a position
 

@@ -34,6 +34,17 @@ fn add_char(line: &mut String, marks: Marks, there: bool, c: Option<char>) -> Re
     Ok(())
 }
 
+fn add_text(line: &mut String, marks: Marks, text: &str) -> Result<(), AllocError>
+    ensures { IfOk result (λ _. string_bytes line.new
+        ≡ string_bytes line.old ++ within_marks (around_of marks) text.now) }
+{
+    line.push_str(marks.close)?;
+    line.push_str(marks.start)?;
+    line.push_str(text)?;
+    line.push_str(marks.behind)?;
+    Ok(())
+}
+
 /// A horizontal border of `width` columns, with `split` where vertical ones meet it.
 fn run_text(
     alloc: Global,
@@ -84,11 +95,7 @@ impl BorderedText<'_, '_, '_> {
         let last = if sides.right { colors.right } else { None };
         let mut line = String::new(self.drawing.alloc);
         add_char(&mut line, begun(None, colors.corner), sides.left, start)?;
-        let main = begun(first, colors.main);
-        line.push_str(main.close)?;
-        line.push_str(main.start)?;
-        line.push_str(run)?;
-        line.push_str(main.behind)?;
+        add_text(&mut line, begun(first, colors.main), run)?;
         add_char(&mut line, begun(used, colors.right), sides.right, end)?;
         line.push_str(ended(used_after(used, last)))?;
         Ok(line)

@@ -3,7 +3,7 @@ use Rattle.tabled_pool.proofs.Names.{length, lines_of, marks_of, nat_tests, part
 use Rattle.tabled_pool.proofs.Names.{◌<◌, ◌≡◌, ◌≤◌}
 use Rattle.tabled_pool.specs.declared.places.Drawing.{Drawing}
 use Rattle.tabled_pool.specs.Block.{line_below, lines_above}
-use Rattle.tabled_pool.proofs.PoolBlocks.{block-above, block-top, block-text, block-past, block-below}
+use Rattle.tabled_pool.proofs.PoolBlocks.{block-above, block-top, block-text, past_from_none, block-below}
 use Rattle.tabled_pool.proofs.draw.draw_block_line.Goals as goal
 
 shown_line : (d : Drawing) (r : Rectangle) (text t : List ℕ) (k : ℕ) (line : List ℕ) → t ≡ text
@@ -23,7 +23,7 @@ below : (d : Drawing) (r : Rectangle) (text t : List ℕ) (k : ℕ) → t ≡ te
     ≡ line_below d.style (marks_of d.padding_colors) r.width (k - lines_above d.style r.height t - d.style.padding.top.size - length (lines_of t))
 below d r text t k e h l m n =
     let ms = marks_of d.padding_colors in
-    shown_line d r text t k _ e (block-below d.style ms r.width r.height t k h l m (block-past d.style ms r.width r.height t k l m n))
+    shown_line d r text t k _ e (block-below d.style ms r.width r.height t k h l m (past_from_none (lines_of t) _ n))
 
 pub returns-then-index-above : goal.returns-then-index-above
 returns-then-index-above g c =

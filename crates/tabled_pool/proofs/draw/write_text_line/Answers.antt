@@ -1,5 +1,4 @@
-use Rattle.tabled_pool.proofs.Names.{append_assoc, coloured, finished, further, indent, marks_of, refl, stopped, stopped-first}
-use Rattle.tabled_pool.proofs.Names.{sym}
+use Rattle.tabled_pool.proofs.Names.{append_assoc, coloured, finished, further, indent, marks_of, refl, stopped, stopped-first, sym}
 use Rattle.tabled_pool.proofs.PlainBlocks.{bare-text_line}
 use Rattle.tabled_pool.specs.Colours.{mark_of}
 use Rattle.tabled_pool.proofs.draw.write_text_line.Goals as goal

@@ -1,4 +1,4 @@
-use Rattle.tabled_pool.proofs.Names.{ap, line_marks_of, map, marks_of, shown, ◌∙◌}
+use Rattle.tabled_pool.proofs.Names.{ap, line_marks_of, marks_of}
 use Rattle.tabled_pool.proofs.PoolLemmas.{plan_is, plan_tiles}
 use Rattle.tabled_pool.proofs.pool_table.PoolTable.drawing.Goals as goal
 
