@@ -32,10 +32,15 @@ fn main(rt: HostRuntime) -> Result<()> {
 
 /// Prints the answer of a query of a file.
 fn put_file(rt: &HostRuntime, path: &str, query: &str, ahead: Option<usize>) -> Result<()> {
-    // An open would make a file that is missing.
-    ensure!(fs::exists(rt, path)?, "there is no file {path}");
+    find_file(rt, path)?;
     let mut connection = Connection::open(rt, path)?;
     put_query(rt, &mut connection, query, ahead)
+}
+
+/// Fails where there is no file: an open would make one.
+fn find_file(rt: &HostRuntime, path: &str) -> Result<()> {
+    ensure!(fs::exists(rt, path)?, "there is no file {path}");
+    Ok(())
 }
 
 /// A number of rows that are read ahead.
@@ -101,7 +106,10 @@ fn put_all<S: Alter, W: Write>(
     answer: Answer<'_, S>,
     out: &mut W,
 ) -> Result<(), TableError> {
-    let mut table = Table::from(Builder::from_iter(alloc, answer)?);
+    put_table(Table::from(Builder::from_iter(alloc, answer)?), out)
+}
+
+fn put_table<W: Write>(mut table: Table, out: &mut W) -> Result<(), TableError> {
     table.apply(Style::modern())?;
     table.write_to(&mut IoSink::new(&mut *out))
 }
@@ -115,6 +123,8 @@ fn put_stream<S: Alter, W: Write>(
 ) -> Result<(), TableError> {
     let mut table = IterTable::new(answer);
     table.sniff(ahead);
-    table.apply(Style::modern())?;
-    table.build(alloc, out)
+    match table.apply(Style::modern()) {
+        Ok(()) => table.build(alloc, out),
+        Err(error) => Err(error),
+    }
 }
