@@ -1,7 +1,7 @@
 #!/usr/bin/env python3
-"""Writes what becomes of tables that are set by 0, 1 and the greatest `usize`, alone and in pairs: the lines that the program `test_hostile` reads.
+"""Writes what becomes of tables that are set by 0, 1 and the greatest `usize`, alone and in pairs: the lines that the program `test_cases` reads.
 
-usage: extremes.py [all] >crates/test_hostile/stdin
+usage: extremes.py [all] >crates/test_cases/data/extremes
 
 Each line has the kind of a table, what is set around its cells, its other settings, and what is wanted, between bars. The table always has
 the cells a and bb, and below them ccc and an empty one. What is wanted is worked out here, with numbers of any size, from the

@@ -1,11 +1,11 @@
 #!/usr/bin/env python3
 """Has each growth of a call refused in turn, and judges what the call answers and leaves.
 
-usage: refusals.py HOSTILE TABPRINT
+usage: refusals.py TEST_CASES TABPRINT
 
 The two programs are built ones. A small library before the C library's allocator counts the calls that ask for memory, and refuses the
-one with a given number: this script builds it with `cc`. Each call that `HOSTILE names` lists is made anew with its first growth refused,
-its second, and so on, until a run needs fewer growths than that. HOSTILE itself compares what is left with what has to be left; here its
+one with a given number: this script builds it with `cc`. Each call that `TEST_CASES names` lists is made anew with its first growth refused,
+its second, and so on, until a run needs fewer growths than that. TEST_CASES itself compares what is left with what has to be left; here its
 answers are counted: `refused` (with Memory, and the state that is wanted), `whole` (it does what it is for without that growth), and
 `elsewhere` (the growth was refused while the call was prepared or its answer was judged). TABPRINT is run so over an input for each list of
 words: it has to answer Memory with a beginning of its output, or all of it. Whatever else is found is told, and the status is 1.
@@ -138,15 +138,15 @@ def tell(name, counts, growths, last, allowed):
     return right
 
 
-def try_calls(refuser, hostile):
+def try_calls(refuser, test_cases):
     """Each call by itself. Those that take no memory, and a compact table into a room, may not meet a refusal."""
     right = True
-    names = subprocess.run([hostile, "names"], capture_output=True, text=True, check=True).stdout
+    names = subprocess.run([test_cases, "names"], capture_output=True, text=True, check=True).stdout
     for line in names.splitlines():
         kind, number, name = line.split(" ", 2)
         spares = kind == "sparing" or (kind, name) == ("room", "Compact")
         allowed = {"elsewhere"} if spares else {"elsewhere", "refused", "whole"}
-        found = sweep(refuser, [hostile, kind, number], "", lambda _, done: call_answer(done))
+        found = sweep(refuser, [test_cases, kind, number], "", lambda _, done: call_answer(done))
         right = tell(f"{kind}, {name}", *found, allowed) and right
     return right
 
@@ -173,10 +173,10 @@ def try_runs(refuser, tabprint):
 def main():
     if len(sys.argv) != 3:
         sys.exit(__doc__)
-    hostile, tabprint = map(str, map(pathlib.Path.resolve, map(pathlib.Path, sys.argv[1:])))
+    test_cases, tabprint = map(str, map(pathlib.Path.resolve, map(pathlib.Path, sys.argv[1:])))
     with tempfile.TemporaryDirectory() as folder:
         refuser = Refuser(pathlib.Path(folder))
-        calls = try_calls(refuser, hostile)
+        calls = try_calls(refuser, test_cases)
         runs = try_runs(refuser, tabprint)
     sys.exit(0 if calls and runs else 1)
 

@@ -39,8 +39,8 @@ pub fn property(alloc: Global, table: &Table, key: &str) -> Result<String, Fault
         "widths" => shown_sizes(alloc, table.get_dimension().get_widths()),
         "heights" => shown_sizes(alloc, table.get_dimension().get_heights()),
         "cells" => shown_cells(alloc, table.get_records()),
-        "plain" => Ok(format!(in alloc; "{}", table.is_plain())?),
-        "apart" => Ok(format!(in alloc; "{}", table.is_apart())?),
+        "plain" => shown_answer(alloc, table.is_plain()),
+        "apart" => shown_answer(alloc, table.is_apart()),
         "extremes" => extremes(alloc, table),
         _ => Err(Fault::Unknown("no such question")),
     }
@@ -61,6 +61,10 @@ fn printed_property(alloc: Global, table: &Table, key: &str) -> Result<String, F
 
 pub fn error_name(alloc: Global, error: TableError) -> Result<String, Fault> {
     Ok(format!(in alloc; "{error:?}")?)
+}
+
+pub fn shown_answer(alloc: Global, answer: bool) -> Result<String, Fault> {
+    Ok(String::from_str(alloc, if answer { "true" } else { "false" })?)
 }
 
 fn shown_number(alloc: Global, outcome: Result<usize, TableError>) -> Result<String, Fault> {

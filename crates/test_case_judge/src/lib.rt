@@ -1,8 +1,9 @@
 //! Checks test cases that are written as data: input, commands and expected results.
-//! The program `test_cases` reads them, and prints a report for each one that fails.
+//! The program `test_cases` reads them, and prints what is found.
 #![tactic(auto)]
 
 mod checking;
+mod document;
 mod drawing;
 mod fault;
 mod never;
@@ -16,8 +17,7 @@ mod shrinking;
 mod sizing;
 mod words;
 
-pub use checking::check_case;
+pub use document::check_document;
 pub use fault::Fault;
-pub use reading::{list_of, text_of};
 pub use settings::set;
 pub use words::Words;

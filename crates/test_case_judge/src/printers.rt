@@ -1,7 +1,7 @@
 //! Runs the printers that keep no `Table`: `IterTable`, `CompactTable`, `PoolTable` and
 //! `ExtendedTable`.
 
-use crate::drawing::{error_name, texts_of};
+use crate::drawing::{error_name, shown_answer, texts_of};
 use crate::fault::Fault;
 use crate::print_options::PrintOptions;
 use crate::reading::{list_at, list_of, text_of};
@@ -45,8 +45,8 @@ impl Printed {
                 Ok(()) => Ok(String::new(alloc)),
                 Err(error) => error_name(alloc, error),
             },
-            ("apart", Some(is_apart), _, _) => Ok(format!(in alloc; "{is_apart}")?),
-            ("plain", _, Some(is_plain), _) => Ok(format!(in alloc; "{is_plain}")?),
+            ("apart", Some(is_apart), _, _) => shown_answer(alloc, is_apart),
+            ("plain", _, Some(is_plain), _) => shown_answer(alloc, is_plain),
             ("truncated", _, _, Some(count)) => Ok(format!(in alloc; "{count}")?),
             _ => Err(Fault::Unknown("no such question")),
         }
@@ -56,29 +56,40 @@ impl Printed {
 /// Prints the rows or the tree of a case of the given kind.
 pub fn print_case(alloc: Global, kind: &str, case: &toml::Table) -> Result<Printed, Fault> {
     let commands = list_at(case, "set")?;
-    let rows = rows_of(alloc, list_at(case, "rows")?)?;
     if kind == "records" {
-        return print_records(alloc, rows, commands);
+        return print_records(alloc, rows_of(alloc, case)?, commands);
     }
+    print_set(alloc, kind, case, &options_of(alloc, kind, commands)?)
+}
+
+fn options_of(alloc: Global, kind: &str, commands: &[Value]) -> Result<PrintOptions, Fault> {
     let mut options = PrintOptions::new(alloc);
     for command in commands {
         options.set(alloc, kind, text_of(command)?)?;
     }
+    Ok(options)
+}
+
+fn print_set(
+    alloc: Global,
+    kind: &str,
+    case: &toml::Table,
+    options: &PrintOptions,
+) -> Result<Printed, Fault> {
     match (kind, case.get("tree")) {
-        ("stream", None) => print_stream(alloc, rows, &options),
-        ("compact", None) => print_compact(alloc, rows, options),
-        ("boxes", None) => print_boxes(alloc, PoolTable::new(alloc, rows)?, &options),
+        ("stream", None) => print_stream(alloc, rows_of(alloc, case)?, options),
+        ("compact", None) => print_compact(alloc, rows_of(alloc, case)?, options),
+        ("boxes", None) => print_boxes(PoolTable::new(alloc, rows_of(alloc, case)?)?, options),
         ("boxes", Some(tree)) => {
-            let tree = tree_of(alloc, tree, 9)?;
-            print_boxes(alloc, PoolTable::from_value(tree), &options)
+            print_boxes(PoolTable::from_value(tree_of(alloc, tree, 9)?), options)
         }
         _ => Err(Fault::Unknown("no such kind of case")),
     }
 }
 
-fn rows_of<'a>(alloc: Global, list: &'a [Value]) -> Result<Vec<Vec<&'a str>>, Fault> {
+fn rows_of<'a>(alloc: Global, case: &'a toml::Table) -> Result<Vec<Vec<&'a str>>, Fault> {
     let mut rows = Vec::new(alloc);
-    for row in list {
+    for row in list_at(case, "rows")? {
         rows.push(texts_of(alloc, list_of(row)?)?)?;
     }
     Ok(rows)
@@ -90,7 +101,14 @@ fn print_stream(
     options: &PrintOptions,
 ) -> Result<Printed, Fault> {
     let mut table = IterTable::new(rows);
-    table.with(options.config)?;
+    table.apply(options.config)?;
+    limit_stream(&mut table, options);
+    let mut printed = Printed::new(alloc);
+    printed.outcome = table.fmt(alloc, &mut printed.text);
+    Ok(printed)
+}
+
+fn limit_stream(table: &mut IterTable<Vec<Vec<&str>>>, options: &PrintOptions) {
     if let Some(count) = options.sniff {
         table.sniff(count);
     }
@@ -106,54 +124,46 @@ fn print_stream(
     if let Some(lines) = options.height {
         table.height(lines);
     }
-    let mut printed = Printed::new(alloc);
-    printed.outcome = table.fmt(alloc, &mut printed.text);
-    Ok(printed)
 }
 
 fn print_compact(
     alloc: Global,
     rows: Vec<Vec<&str>>,
-    options: PrintOptions,
+    options: &PrintOptions,
 ) -> Result<Printed, Fault> {
-    let PrintOptions {
-        config,
-        widths,
-        width,
-        columns,
-        rows: limit,
-        skip,
-        ..
-    } = options;
-    let widths = match width {
-        Some(width) => DimensionValue::Exact(width),
-        None => DimensionValue::List(widths),
-    };
-    let sizes = StaticDimension::new(widths, DimensionValue::Exact(1));
-    let mut table = CompactTable::with_dimension(rows, sizes)
-        .columns(columns.unwrap_or(0))
-        .skip(skip)
-        .with(config)?;
-    if let Some(count) = limit {
+    let mut table = CompactTable::with_dimension(rows, sizes_of(alloc, options)?)
+        .columns(options.columns.unwrap_or(0))
+        .skip(options.skip);
+    if let Some(count) = options.rows {
         table = table.rows(count);
     }
+    let table = table.with(options.config)?;
     let mut printed = Printed::new(alloc);
     printed.outcome = table.fmt(&mut printed.text);
     Ok(printed)
 }
 
-fn print_boxes(
-    alloc: Global,
-    mut table: PoolTable,
-    options: &PrintOptions,
-) -> Result<Printed, Fault> {
-    table.with(CompactMultilineConfig::from(options.config))?;
-    table.with(options.boxes)?;
-    let mut printed = Printed::new(alloc);
+// The widths of a compact table, whose rows have one line.
+fn sizes_of(alloc: Global, options: &PrintOptions) -> Result<StaticDimension, Fault> {
+    let widths = match options.width {
+        Some(width) => DimensionValue::Exact(width),
+        None => DimensionValue::List(Vec::from_slice(alloc, options.widths.as_slice())?),
+    };
+    Ok(StaticDimension::new(widths, DimensionValue::Exact(1)))
+}
+
+fn print_boxes(mut table: PoolTable, options: &PrintOptions) -> Result<Printed, Fault> {
+    set_boxes(&mut table, options)?;
+    let mut printed = Printed::new(*options.widths.allocator());
     printed.is_apart = Some(table.is_apart());
     printed.is_plain = Some(table.is_plain());
     printed.outcome = table.write_to(&mut printed.text);
     Ok(printed)
+}
+
+fn set_boxes(table: &mut PoolTable, options: &PrintOptions) -> Result<(), TableError> {
+    table.apply(CompactMultilineConfig::from(options.config))?;
+    table.apply(options.boxes)
 }
 
 // A text, or a row or a column of values. Fails if the tree is deeper than `levels`.
@@ -183,18 +193,28 @@ fn print_records(
     commands: &[Value],
 ) -> Result<Printed, Fault> {
     let mut table = ExtendedTable::from_rows(alloc, rows)?;
-    let mut count: usize = 0;
-    for command in commands {
-        let mut words = Words::new(text_of(command)?);
-        if words.word() != "truncate" {
-            return Err(Fault::Unknown("no such command"));
-        }
-        if table.truncate(words.number()?, words.others())? {
-            count = count.saturating_add(1);
-        }
-    }
+    let count = truncate_by_each(&mut table, commands)?;
     let mut printed = Printed::new(alloc);
     printed.truncated = Some(count);
     printed.outcome = table.write_to(&mut printed.text);
     Ok(printed)
+}
+
+// Returns the number of commands that changed something.
+fn truncate_by_each(table: &mut ExtendedTable, commands: &[Value]) -> Result<usize, Fault> {
+    let mut count: usize = 0;
+    for command in commands {
+        if truncate(table, text_of(command)?)? {
+            count = count.saturating_add(1);
+        }
+    }
+    Ok(count)
+}
+
+fn truncate(table: &mut ExtendedTable, command: &str) -> Result<bool, Fault> {
+    let mut words = Words::new(command);
+    if words.word() != "truncate" {
+        return Err(Fault::Unknown("no such command"));
+    }
+    Ok(table.truncate(words.number()?, words.others())?)
 }

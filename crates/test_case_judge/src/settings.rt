@@ -59,16 +59,31 @@ fn set_sizes(
     kind: &str,
     words: &mut Words<'_>,
 ) -> Result<(), Fault> {
-    let direction = if kind == "list" { words.word() } else { kind };
+    if kind == "list" {
+        let direction = words.word();
+        return apply_list(alloc, table, direction, words.numbers(alloc)?);
+    }
     let sizes = words.numbers(alloc)?;
-    match (kind, direction) {
-        ("list", "widths") => table.apply(Width::list(alloc, sizes)?)?,
-        ("list", "heights") => table.apply(Height::list(alloc, sizes)?)?,
-        (_, "widths") => table.get_dimension_mut().set_widths(sizes),
-        (_, "heights") => table.get_dimension_mut().set_heights(sizes),
-        _ => return Err(Fault::Unknown("no such list")),
+    if kind == "widths" {
+        table.get_dimension_mut().set_widths(sizes);
+    } else {
+        table.get_dimension_mut().set_heights(sizes);
     }
     Ok(())
+}
+
+fn apply_list(
+    alloc: Global,
+    table: &mut Table,
+    direction: &str,
+    sizes: Vec<usize>,
+) -> Result<(), Fault> {
+    let outcome = match direction {
+        "widths" => table.apply(Width::list(alloc, sizes)?),
+        "heights" => table.apply(Height::list(alloc, sizes)?),
+        _ => return Err(Fault::Unknown("no such list")),
+    };
+    Ok(outcome?)
 }
 
 fn set_format(table: &mut Table, kind: &str, words: &mut Words<'_>) -> Result<(), Fault> {
@@ -171,11 +186,11 @@ pub fn read_sides(words: &mut Words<'_>) -> Result<Sides<Indent>, Fault> {
 fn set_padding(table: &mut Table, words: &mut Words<'_>) -> Result<(), Fault> {
     let part = words.part()?;
     let padding = Padding::from(read_sides(words)?);
-    match part {
-        None => table.apply(padding)?,
-        Some(entity) => set_part(table, entity, &padding)?,
-    }
-    Ok(())
+    let outcome = match part {
+        None => table.apply(padding),
+        Some(entity) => set_part(table, entity, &padding),
+    };
+    Ok(outcome?)
 }
 
 // `lines` sets whether each line of a cell is aligned separately.
@@ -184,16 +199,16 @@ fn set_alignment(table: &mut Table, kind: &str, words: &mut Words<'_>) -> Result
         return Err(Fault::Unknown("no such entity"));
     };
     let config = table.get_config_mut().as_mut();
-    match (kind, words.word()) {
-        ("horizontal", "left") => config.set_alignment_horizontal(entity, Horizontal::Left)?,
-        ("horizontal", "center") => config.set_alignment_horizontal(entity, Horizontal::Center)?,
-        ("horizontal", "right") => config.set_alignment_horizontal(entity, Horizontal::Right)?,
-        ("vertical", "top") => config.set_alignment_vertical(entity, Vertical::Top)?,
-        ("vertical", "center") => config.set_alignment_vertical(entity, Vertical::Center)?,
-        ("vertical", "bottom") => config.set_alignment_vertical(entity, Vertical::Bottom)?,
-        ("lines", "each") => config.set_line_alignment(entity, true)?,
-        ("lines", "together") => config.set_line_alignment(entity, false)?,
+    let outcome = match (kind, words.word()) {
+        ("horizontal", "left") => config.set_alignment_horizontal(entity, Horizontal::Left),
+        ("horizontal", "center") => config.set_alignment_horizontal(entity, Horizontal::Center),
+        ("horizontal", "right") => config.set_alignment_horizontal(entity, Horizontal::Right),
+        ("vertical", "top") => config.set_alignment_vertical(entity, Vertical::Top),
+        ("vertical", "center") => config.set_alignment_vertical(entity, Vertical::Center),
+        ("vertical", "bottom") => config.set_alignment_vertical(entity, Vertical::Bottom),
+        ("lines", "each") => config.set_line_alignment(entity, true),
+        ("lines", "together") => config.set_line_alignment(entity, false),
         _ => return Err(Fault::Unknown("no such alignment")),
-    }
-    Ok(())
+    };
+    Ok(outcome?)
 }

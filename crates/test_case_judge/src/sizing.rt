@@ -137,18 +137,18 @@ pub fn set_part<O: CellOption<VecRecords<Text<String>>, ColoredConfig>>(
 }
 
 fn resize_table(table: &mut Table, change: Change, sizing: Sizing<'_>) -> Result<(), Fault> {
-    match sizing.priority {
-        "none" => resize_by(table, change, sizing, Priority::none())?,
-        "left" => resize_by(table, change, sizing, Priority::left())?,
-        "right" => resize_by(table, change, sizing, Priority::right())?,
-        "max_left" => resize_by(table, change, sizing, Priority::max(false))?,
-        "max_right" => resize_by(table, change, sizing, Priority::max(true))?,
-        "min_left" => resize_by(table, change, sizing, Priority::min(false))?,
-        "min_right" => resize_by(table, change, sizing, Priority::min(true))?,
-        "never" => resize_by(table, change, sizing, Never)?,
+    let outcome = match sizing.priority {
+        "none" => resize_by(table, change, sizing, Priority::none()),
+        "left" => resize_by(table, change, sizing, Priority::left()),
+        "right" => resize_by(table, change, sizing, Priority::right()),
+        "max_left" => resize_by(table, change, sizing, Priority::max(false)),
+        "max_right" => resize_by(table, change, sizing, Priority::max(true)),
+        "min_left" => resize_by(table, change, sizing, Priority::min(false)),
+        "min_right" => resize_by(table, change, sizing, Priority::min(true)),
+        "never" => resize_by(table, change, sizing, Never),
         _ => return Err(Fault::Unknown("no such priority")),
-    }
-    Ok(())
+    };
+    Ok(outcome?)
 }
 
 fn resize_by<P: Peaker + Drop>(
@@ -168,32 +168,32 @@ fn resize_by<P: Peaker + Drop>(
 
 /// Wraps the table to the width of its widest or narrowest cell, or to a percentage of its width.
 pub fn wrap_to(table: &mut Table, measure: &str) -> Result<(), Fault> {
-    match measure {
-        "max" => table.apply(Width::wrap(Max))?,
-        "min" => table.apply(Width::wrap(Min))?,
-        _ => table.apply(Width::wrap(percent(measure)?))?,
-    }
-    Ok(())
+    let outcome = match measure {
+        "max" => table.apply(Width::wrap(Max)),
+        "min" => table.apply(Width::wrap(Min)),
+        _ => table.apply(Width::wrap(percent(measure)?)),
+    };
+    Ok(outcome?)
 }
 
 /// Truncates the table to a width as in `wrap_to`.
 pub fn truncate_to(table: &mut Table, measure: &str) -> Result<(), Fault> {
-    match measure {
-        "max" => table.apply(Width::truncate(Max))?,
-        "min" => table.apply(Width::truncate(Min))?,
-        _ => table.apply(Width::truncate(percent(measure)?))?,
-    }
-    Ok(())
+    let outcome = match measure {
+        "max" => table.apply(Width::truncate(Max)),
+        "min" => table.apply(Width::truncate(Min)),
+        _ => table.apply(Width::truncate(percent(measure)?)),
+    };
+    Ok(outcome?)
 }
 
 /// Makes all cells equally wide: as the widest, as the narrowest, or n columns.
 pub fn justify_to(table: &mut Table, measure: &str) -> Result<(), Fault> {
-    match measure {
-        "max" => table.apply(Justify::max())?,
-        "min" => table.apply(Justify::min())?,
-        _ => table.apply(Width::justify(number(measure)?))?,
-    }
-    Ok(())
+    let outcome = match measure {
+        "max" => table.apply(Justify::max()),
+        "min" => table.apply(Justify::min()),
+        _ => table.apply(Width::justify(number(measure)?)),
+    };
+    Ok(outcome?)
 }
 
 /// Limits the table to a percentage of its height.
@@ -206,11 +206,12 @@ pub fn limit_to(table: &mut Table, measure: &str) -> Result<(), Fault> {
 /// another width.
 pub fn narrow_by(table: &mut Table, kind: &str, less: usize) -> Result<(), Fault> {
     let wanted = table.total_width()?.saturating_sub(less);
-    if kind == "wrap_by" {
-        table.apply(Width::wrap(wanted))?;
+    let outcome = if kind == "wrap_by" {
+        table.apply(Width::wrap(wanted))
     } else {
-        table.apply(Width::truncate(wanted))?;
-    }
+        table.apply(Width::truncate(wanted))
+    };
+    outcome?;
     if table.total_width()? == wanted {
         Ok(())
     } else {

@@ -1,56 +1,71 @@
-//! Checks the test cases on standard input, and prints a report for each one that fails.
+//! Checks the cases on standard input and the lines of the file `extremes`, and tests writers that
+//! stop early and calls in which an allocation may fail. With the argument `names` it lists these
+//! calls instead; with a kind and a number it runs one of them.
 #![tactic(auto)]
 
-use anyhow::{Result, bail};
-use std::alloc::Global;
-use std::io;
-use test_case_judge::{check_case, list_of, text_of};
-use toml::Value;
+use anyhow::Result;
+use std::{env, fs, io};
+use tabled::TableError;
+use test_case_judge::check_document;
+use test_hostile_uses::{names, stopped_printers, stopped_runs, told, tried, tried_all};
+use test_refused_uses::Found;
 
 fn main(rt: HostRuntime) -> Result<()> {
+    let mut words = env::args(&rt)?.skip(1);
+    match (words.next(), words.next()) {
+        (Some(kind), Some(number)) => tell_call(&rt, kind.as_str(), number.as_str()),
+        (Some(_), None) => tell_names(&rt),
+        _ => tell_all(&rt),
+    }
+}
+
+fn tell_all(rt: &HostRuntime) -> Result<()> {
+    tell_cases(rt)?;
+    tell_lines(rt)?;
+    tell_tests(rt)
+}
+
+fn tell_cases(rt: &HostRuntime) -> Result<()> {
     let input = io::read_to_string(rt.alloc(), rt.stdin())?;
     let document = toml::table_from_str(rt.alloc(), input.as_str())?;
-    let mut passed: usize = 0;
-    let mut failed: usize = 0;
-    for (kind, cases) in &document {
-        let (more_passed, more_failed) = check_all(&rt, rt.alloc(), kind.as_str(), cases)?;
-        passed = passed.saturating_add(more_passed);
-        failed = failed.saturating_add(more_failed);
-    }
-    if failed > 0 {
-        bail!("{failed} cases don't hold, {passed} do");
-    }
-    println!(rt; "{passed} cases hold")?;
+    print!(rt; "{}", check_document(rt.alloc(), &document)?)?;
     Ok(())
 }
 
-// Prints the reports of one kind of cases, and returns the numbers of passed and failed cases.
-fn check_all(rt: &impl Print, alloc: Global, kind: &str, cases: &Value) -> Result<(usize, usize)> {
-    let mut passed: usize = 0;
-    let mut failed: usize = 0;
-    for case in list_of(cases)? {
-        if check(rt, alloc, kind, case)? {
-            passed = passed.saturating_add(1);
-        } else {
-            failed = failed.saturating_add(1);
-        }
-    }
-    Ok((passed, failed))
+fn tell_lines(rt: &HostRuntime) -> Result<()> {
+    let lines = fs::read_to_string(rt, "extremes")?;
+    print!(rt; "{}", told(rt.alloc(), lines.as_str())?)?;
+    Ok(())
 }
 
-// Prints the report of a case that fails, and returns whether the case passed.
-fn check(rt: &impl Print, alloc: Global, kind: &str, case: &Value) -> Result<bool> {
-    let Some(case) = case.as_table() else {
-        bail!("a case is no table");
-    };
-    let report = check_case(alloc, kind, case)?;
-    if report.is_empty() {
-        return Ok(true);
+fn tell_tests(rt: &HostRuntime) -> Result<()> {
+    let alloc = rt.alloc();
+    print!(rt; "{}{}", stopped_printers(alloc)?, stopped_runs(alloc)?)?;
+    print!(rt; "{}", tried_all(alloc)?)?;
+    Ok(())
+}
+
+fn tell_names(rt: &HostRuntime) -> Result<()> {
+    print!(rt; "{}", names(rt.alloc())?)?;
+    Ok(())
+}
+
+fn tell_call(rt: &HostRuntime, kind: &str, number: &str) -> Result<()> {
+    let number = number.parse().unwrap_or(usize::MAX);
+    let (outcome, what) = outcome(tried(rt.alloc(), kind, number));
+    println!(rt; "{outcome}{what}")?;
+    Ok(())
+}
+
+// The outcome of a call in one word, and what is wrong. `elsewhere`: an allocation failed in the
+// setup or the check of the call.
+fn outcome(found: Result<Option<Found>, TableError>) -> (&'static str, &'static str) {
+    match found {
+        Ok(Some(Found::Whole)) => ("whole", ""),
+        Ok(Some(Found::Refused)) => ("refused", ""),
+        Ok(Some(Found::Wrong(what))) => ("wrong: ", what),
+        Ok(None) => ("wrong: ", "no such call"),
+        Err(TableError::Memory) => ("elsewhere", ""),
+        Err(_) => ("wrong: ", "another refusal"),
     }
-    let name = match case.get("name").or(case.get("text")) {
-        Some(name) => text_of(name)?,
-        None => "without a name",
-    };
-    println!(rt; "{kind}: {name}\n{report}")?;
-    Ok(false)
 }

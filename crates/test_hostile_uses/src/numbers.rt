@@ -2,7 +2,7 @@
 
 use crate::meagre::{End, Meagre};
 use crate::sides::{new_config, set_sides};
-use std::alloc::Global;
+use std::alloc::{AllocError, Global};
 use tabled::grid::config::{CompactConfig, CompactMultilineConfig};
 use tabled::iter::LayoutIterator;
 use tabled::tables::{CompactTable, ExtendedTable, IterTable, PoolTable};
@@ -190,19 +190,40 @@ fn tried(alloc: Global, kind: &str, settings: &str, numbers: &str) -> Result<Str
     }
 }
 
-/// Checks a line `kind | settings | numbers | expected`. Returns an empty string if it passes, and
-/// otherwise the line with the actual outcome.
-pub fn told(alloc: Global, line: &str) -> Result<String, Fault> {
-    let mut parts = line.split(" | ");
+/// Checks lines `kind | settings | numbers | expected`. Returns each line that fails with what was
+/// found, and then a line with how many pass and fail.
+pub fn told(alloc: Global, lines: &str) -> Result<String, AllocError> {
+    let mut report = String::new(alloc);
+    let mut held: usize = 0;
+    let mut failed: usize = 0;
+    for line in lines.lines() {
+        if holds(alloc, line, &mut report)? {
+            held = held.saturating_add(1);
+        } else {
+            failed = failed.saturating_add(1);
+        }
+    }
+    write!(report, "{held} lines hold, {failed} don't\n")?;
+    Ok(report)
+}
+
+// Reports a line that doesn't hold.
+fn holds(alloc: Global, line: &str, report: &mut String) -> Result<bool, AllocError> {
+    let (told, wanted) = line.rsplit_once(" | ").unwrap_or((line, ""));
+    match found(alloc, told) {
+        Ok(found) if found.as_str() == wanted => return Ok(true),
+        Ok(found) => write!(report, "{line}: {found}\n")?,
+        Err(fault) => write!(report, "{line}: {fault}\n")?,
+    }
+    Ok(false)
+}
+
+fn found(alloc: Global, told: &str) -> Result<String, Fault> {
+    let mut parts = told.split(" | ");
     let kind = parts.next().unwrap_or("");
     let settings = parts.next().unwrap_or("");
-    let numbers = parts.next().unwrap_or("");
-    let Some(wanted) = parts.next() else {
-        return Err(Fault::Unknown("a line without four parts"));
-    };
-    let found = tried(alloc, kind, settings, numbers)?;
-    if found.as_str() == wanted {
-        return Ok(String::new(alloc));
+    match parts.next() {
+        Some(numbers) => tried(alloc, kind, settings, numbers),
+        None => Err(Fault::Unknown("a line without four parts")),
     }
-    Ok(format!(in alloc; "{line}: {found}")?)
 }
