@@ -121,7 +121,7 @@ def page():
     lines = [*HEAD.splitlines(), "", *paragraph("Parts: " + ", ".join(links) + "."), *paragraph(ROWS)]
     for _, name, _, body, _ in functions((PAGES / "given.rt").read_text()):
         if name.startswith("of_"):
-            lines += fenced("rust", [line for line in body if not line.startswith("picture(")])
+            lines += fenced("rust", [line for line in body if not line.startswith("Table::nohead(")])
     for module in PARTS:
         lines += part(module, found)
     for name in found:

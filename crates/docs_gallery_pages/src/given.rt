@@ -1,66 +1,53 @@
 //! The tables of which pictures are made.
-ghost use Rattle.std.specs.Prelude.{◌≡◌};
 
 use std::alloc::Global;
 use tabled::{Table, TableError};
 
-// The text of a table to which something was done.
-fn picture<F: FnOnce(&mut Table) -> Result<(), TableError>>(
-    mut table: Table,
-    change: F,
-) -> Result<String, TableError>
-    requires { F.IsAlwaysCallable change }
-{
-    change(&mut table)?;
-    table.to_text()
+/// The kinds of tables.
+#[derive(Clone, Copy)]
+pub enum Sample {
+    Cities,
+    Notes,
+    Keys,
+    Lines,
 }
 
-/// A table of cities and people, to which something was done.
-pub fn of_cities<F: FnOnce(&mut Table) -> Result<(), TableError> + Drop>(
-    alloc: Global,
-    change: F,
-) -> Result<String, TableError>
-    requires { F.IsAlwaysCallable change }
-{
+/// A new table of a kind.
+pub fn table_of(alloc: Global, sample: Sample) -> Result<Table, TableError> {
+    match sample {
+        Sample::Cities => of_cities(alloc),
+        Sample::Notes => of_notes(alloc),
+        Sample::Keys => of_keys(alloc),
+        Sample::Lines => of_lines(alloc),
+    }
+}
+
+/// A table of cities and people.
+fn of_cities(alloc: Global) -> Result<Table, TableError> {
     let rows = [("City", "People"), ("Paris", "2103778"), ("Oslo", "717710")];
-    picture(Table::nohead(alloc, rows)?, change)
+    Table::nohead(alloc, rows)
 }
 
-/// A table of two longer texts, to which something was done.
-pub fn of_notes<F: FnOnce(&mut Table) -> Result<(), TableError> + Drop>(
-    alloc: Global,
-    change: F,
-) -> Result<String, TableError>
-    requires { F.IsAlwaysCallable change }
-{
+/// A table of two longer texts.
+fn of_notes(alloc: Global) -> Result<Table, TableError> {
     let rows = [
         ("Tab", "goes to the next field"),
         ("Esc", "leaves the prompt"),
     ];
-    picture(Table::nohead(alloc, rows)?, change)
+    Table::nohead(alloc, rows)
 }
 
-/// A table of three columns, to which something was done.
-pub fn of_keys<F: FnOnce(&mut Table) -> Result<(), TableError> + Drop>(
-    alloc: Global,
-    change: F,
-) -> Result<String, TableError>
-    requires { F.IsAlwaysCallable change }
-{
+/// A table of three columns.
+fn of_keys(alloc: Global) -> Result<Table, TableError> {
     let rows = [
         ("in each text field", "Ctrl+Tab", "goes to the next field"),
         ("at the prompt", "Esc", "leaves it"),
     ];
-    picture(Table::nohead(alloc, rows)?, change)
+    Table::nohead(alloc, rows)
 }
 
-/// A table of texts of one and of three lines, to which something was done.
-pub fn of_lines<F: FnOnce(&mut Table) -> Result<(), TableError> + Drop>(
-    alloc: Global,
-    change: F,
-) -> Result<String, TableError>
-    requires { F.IsAlwaysCallable change }
-{
+/// A table of texts of one and of three lines.
+fn of_lines(alloc: Global) -> Result<Table, TableError> {
     let rows = [("a", "one\nthree\nfive"), ("six", "two")];
-    picture(Table::nohead(alloc, rows)?, change)
+    Table::nohead(alloc, rows)
 }

@@ -2,19 +2,20 @@
 //! beside it.
 #![tactic(auto)]
 
-pub mod alignments;
-pub mod borders;
-pub mod cell_widths;
-pub mod from_tabled;
+mod alignments;
+mod borders;
+mod cell_widths;
+mod from_tabled;
 mod given;
-pub mod heights;
-pub mod objects;
-pub mod printers;
-pub mod rows;
-pub mod spaces;
-pub mod streams;
-pub mod styles;
-pub mod texts;
-pub mod widths;
+mod heights;
+mod objects;
+mod page;
+mod printers;
+mod rows;
+mod spaces;
+mod streams;
+mod styles;
+mod texts;
+mod widths;
 
-pub use given::{of_cities, of_keys, of_lines, of_notes};
+pub use page::all_pictures;
