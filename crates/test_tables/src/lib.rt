@@ -1,9 +1,11 @@
-//! Tests of whole tables that `test_cases` doesn't cover: counts, grids of many columns, printing
-//! to a given width, custom options, and the program.
+//! Tests what no contract states and `test_cases` doesn't cover: texts, priorities, options that a
+//! user would write, records and their printers, whole tables, and the program.
 #![tactic(auto)]
 
 #[cfg(test)]
 mod applying;
+#[cfg(test)]
+mod boxes;
 #[cfg(test)]
 mod faulty;
 #[cfg(test)]
@@ -15,10 +17,28 @@ mod making;
 #[cfg(test)]
 mod modifying;
 #[cfg(test)]
+mod named;
+#[cfg(test)]
+mod options;
+#[cfg(test)]
 mod printing;
+#[cfg(test)]
+mod priorities;
+#[cfg(test)]
+mod reading;
+#[cfg(test)]
+mod records;
+#[cfg(test)]
+mod rows;
 #[cfg(test)]
 mod runs;
 #[cfg(test)]
 mod showing;
 #[cfg(test)]
+mod shown;
+#[cfg(test)]
+mod sinks;
+#[cfg(test)]
 mod sized;
+#[cfg(test)]
+mod texts;

@@ -2,8 +2,6 @@
 ghost use Rattle.std.specs.Prelude.{◌<◌, length};
 
 use std::alloc::Global;
-use std::process::Abort;
-use std::test::Fail;
 use tabled_base::{Builder, PeekableRecords, Position, TableError, Text, VecRecords};
 
 pub(crate) type Rows = &'static [&'static [&'static str]];
@@ -37,15 +35,5 @@ fn show_row<R: PeekableRecords>(all: &mut String, records: &R, row: usize) -> Re
     for column in 0..records.count_columns() {
         write!(all, "[{}]", records.get_text(Position { row, column }))?;
     }
-    Ok(())
-}
-
-/// Fails the test if the text differs or is an error.
-pub(crate) fn assert_text(
-    rt: &impl Abort,
-    text: Result<String, TableError>,
-    wanted: &str,
-) -> Result<(), Fail> {
-    assert_eq!(rt; text?.as_str(), wanted);
     Ok(())
 }

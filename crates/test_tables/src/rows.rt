@@ -1,6 +1,7 @@
 //! Tests the messages of errors, and the types of rows and records that can be iterated.
 
-use crate::shown::{assert_text, records_of, shown};
+use crate::showing::assert_text;
+use crate::shown::{records_of, shown};
 use std::alloc::Global;
 use std::test::Fail;
 use tabled_base::{Builder, CellText, IntoRecords, Records, TableError};

@@ -1,7 +1,7 @@
 //! Tests `ExtendedTable`: escaping, copies, and headers that a function returns.
 
 use crate::named::Quoted;
-use crate::shown::assert_text;
+use crate::showing::assert_text;
 use std::alloc::{AllocError, Global};
 use std::test::Fail;
 use tabled_base::TableError;
