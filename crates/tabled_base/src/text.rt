@@ -90,6 +90,7 @@ impl Text<String> {
 
     /// Copies and measures a text. Texts of at most 16 bytes are stored inline, so only a longer
     /// one may fail with `Memory`.
+    #[inline(always)]
     pub fn copied(alloc: Global, text: &str) -> Result<Text<String>, TableError>
         ensures ok { IfOk result (λ copy. copy ≡ text.now) }
         ensures only { IfErr result (λ e. e ≡ Memory) }
@@ -193,6 +194,7 @@ impl ShortOr<String> {
     }
 
     /// Copies a text. Allocates only if it has more than 16 bytes, and may then fail with `Memory`.
+    #[inline(always)]
     pub fn copied(alloc: Global, text: &str) -> Result<ShortOr<String>, AllocError>
         ensures ok { IfOk result (λ copy. bytes_of string_bytes copy ≡ text.now) }
         ensures long { IfErr result (λ _. SHORT_TEXT < length text.now) }
