@@ -1,25 +1,21 @@
 -- The styles of a row's cells.
 use Rattle.std.specs.Prelude.{ℕ, ◌≡◌, false}
 use Rattle.std.specs.List.{slice_index_or}
-use Rattle.tabled_config.specs.declared.sides.Indent.{Indent}
 use Rattle.tabled_config.specs.declared.alignment.AlignmentHorizontal.TheVariants.{Left}
 use Rattle.tabled_config.specs.declared.alignment.AlignmentVertical.TheVariants.{Top}
 use Rattle.tabled_config.specs.declared.spanned.CellStyle.{CellStyle}
 use Rattle.tabled_config.specs.declared.spanned.row_styles.RowStyles.{RowStyles}
 use Rattle.tabled_config.specs.declared.spanned.row_styles.RowStyles.TheVariants.{Alike, Listed, Set}
 use Rattle.tabled_config.specs.declared.spanned.row_styles.SetStyles.{SetStyles}
+use Rattle.tabled_config.specs.Compact.{each_side, no_indent}
 use Rattle.tabled_config.specs.Settings.{style_at}
 use Rattle.tabled_entity.specs.RowValues.{value_at}
-
--- no indent on one side
-abbrev pub no_indent : Indent
-no_indent = record { size = 0; fill = 32 }
 
 -- the style of a cell without settings
 abbrev pub plain_style : CellStyle
 plain_style =
     record {
-      padding = record { left = no_indent; right = no_indent; top = no_indent; bottom = no_indent };
+      padding = each_side no_indent;
       horizontal = Left;
       vertical = Top;
       line_alignment = false;

@@ -41,15 +41,12 @@ impl<'a> RowStyles<'a> {
     {
         match self {
             RowStyles::Alike(style) => *style,
-            RowStyles::Listed(styles) => match styles.get(column) {
-                Some(style) => *style,
-                None => CellStyle {
-                    padding: Sides::filled(Indent::zero()),
-                    horizontal: AlignmentHorizontal::Left,
-                    vertical: AlignmentVertical::Top,
-                    line_alignment: false,
-                },
-            },
+            RowStyles::Listed(styles) => styles.get(column).copied().unwrap_or(CellStyle {
+                padding: Sides::filled(Indent::zero()),
+                horizontal: AlignmentHorizontal::Left,
+                vertical: AlignmentVertical::Top,
+                line_alignment: false,
+            }),
             RowStyles::Set(styles) => CellStyle {
                 padding: *styles.padding.at(column),
                 horizontal: *styles.horizontal.at(column),
