@@ -2,7 +2,6 @@ pub mod EstimatedTotals
 pub mod Greatest
 pub mod Names
 pub mod Passing
-pub mod Raising
 pub mod Reaching
 pub mod ShrunkTotals
 pub mod Totalling

@@ -1,8 +1,8 @@
 -- What a dimension answers, place by place.
-use Rattle.tabled_size.proofs.Names.{List, None, Option, Some, [], ap, arith, effective_sizes, false, get_or, get_or-map-range_with_len}
-use Rattle.tabled_size.proofs.Names.{is_some, length, length-map-range_with_len, map, range_with_len, reached, refl, slice_index, stored_at}
-use Rattle.tabled_size.proofs.Names.{suc, sym, take, true, zero, ℕ, ◌<◌, ◌∙◌, ◌∷◌, ◌≡◌, ◌≤◌}
-use Rattle.std.proofs.Common.{Bool, nat_lt, unwrap_or, min}
+use Rattle.tabled_size.proofs.Names.{List, None, Option, Some, [], ap, arith, cases_lt, effective_sizes, false, get_or}
+use Rattle.tabled_size.proofs.Names.{get_or-map-range_with_len, is_some, length, length-map-range_with_len, map, range_with_len, reached, refl}
+use Rattle.tabled_size.proofs.Names.{slice_index, stored_at, suc, sym, take, true, zero, ℕ, ⊎_elim, ◌<◌, ◌∙◌, ◌∷◌, ◌≡◌, ◌≤◌}
+use Rattle.std.proofs.Common.{nat_lt, unwrap_or, min}
 use Rattle.std.proofs.lemmas.Bool.Decides.{nat_tests}
 use Rattle.std.proofs.Math.Seq.{take-length}
 use Rattle.std.proofs.lemmas.List.{ext_get_or, get_or-take, length-take}
@@ -66,27 +66,17 @@ entry_there sizes i h = let e : nat_lt i (length sizes) ≡ true = grind (arith,
 entry_missing : (sizes : List ℕ) (i : ℕ) → length sizes ≤ i → entry sizes i ≡ None
 entry_missing sizes i h = let e : nat_lt i (length sizes) ≡ false = grind (arith, nat_tests) in rw e refl
 
--- of a stored list the places that it has are reached
-stored_length : (sizes : List ℕ) (count k : ℕ) → k ≤ count → k ≤ length sizes → k ≤ length (reached (stored_at (Some sizes)) count)
-stored_length sizes count k h l = reached_so (stored_at (Some sizes)) count k h
-    (λ i lt. ap is_some (entry_there sizes i (omega arith)))
-
 stored_no_more : (sizes : List ℕ) (count : ℕ) → length (reached (stored_at (Some sizes)) count) ≤ length sizes
-stored_no_more sizes count = by_cases (nat_lt (length sizes) count) refl
-  where
-    by_cases : (shorter : Bool) → nat_lt (length sizes) count ≡ shorter → length (reached (stored_at (Some sizes)) count) ≤ length sizes
-    by_cases true e =
-        let lt : length sizes < count = grind (arith, nat_tests) in
-        reached_none (stored_at (Some sizes)) count (length sizes) lt (entry_missing sizes (length sizes) (omega arith))
-    by_cases false e =
-        let le : count ≤ length sizes = grind (arith, nat_tests) in
-        omega (arith, reached_le (stored_at (Some sizes)) count)
+stored_no_more sizes count = ⊎_elim
+    (λ lt. reached_none (stored_at (Some sizes)) count (length sizes) lt (entry_missing sizes (length sizes) (omega arith)))
+    (λ le. omega (arith, reached_le (stored_at (Some sizes)) count)) (cases_lt (length sizes) count)
 
 stored_long : (sizes : List ℕ) (count : ℕ) → length (reached (stored_at (Some sizes)) count) ≡ min count (length sizes)
 stored_long sizes count =
     let most = stored_no_more sizes count in
     let le = reached_le (stored_at (Some sizes)) count in
-    let least = stored_length sizes count (min count (length sizes)) (omega arith) (omega arith) in
+    let least = reached_so (stored_at (Some sizes)) count (min count (length sizes)) (omega arith)
+    (λ i lt. ap is_some (entry_there sizes i (omega arith))) in
     omega arith
 
 same_some : {m n : ℕ} → Some m ≡ Some n → m ≡ n

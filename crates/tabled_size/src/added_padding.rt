@@ -102,13 +102,11 @@ impl<'a> RowPadding for &'a [Extent] {
 
     #[inline(always)]
     fn at(&self, column: usize) -> Option<Extent> {
-        match self.get(column) {
-            Some(extent) => Some(*extent),
-            None => Some(Extent {
-                columns: 0,
-                lines: 0,
-            }),
-        }
+        let nothing = Extent {
+            columns: 0,
+            lines: 0,
+        };
+        Some(self.get(column).copied().unwrap_or(nothing))
     }
 }
 

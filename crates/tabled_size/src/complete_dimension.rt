@@ -98,10 +98,9 @@ impl CompleteDimension {
     {
         match hint {
             None => {}
-            Some(Entity::Global) => self.clear(),
+            Some(Entity::Global | Entity::Cell(_, _)) => self.clear(),
             Some(Entity::Row(_)) => self.clear_height(),
             Some(Entity::Column(_)) => self.clear_width(),
-            Some(Entity::Cell(_, _)) => self.clear(),
         }
     }
 

@@ -1,14 +1,13 @@
 //! The widths and heights that the cells of a table need, and estimates for sizes that aren't
 //! stored.
-ghost use Rattle.std.specs.Prelude.{◌≡◌, ◌⊎◌, ◌<◌, ◌≤◌, ◌^◌, IfOk, IfErr, IfNone, IfSome};
-ghost use Rattle.std.specs.Prelude.{MatchOption, length, IsOk, IsTrue, OnErr, OnOk};
-ghost use Rattle.tabled_base.specs.Cells.{IsInside, columns};
+ghost use Rattle.std.specs.Prelude.{◌≡◌, ◌⊎◌, ◌<◌, IfOk, IfErr, IfNone, IfSome, IsOk, IsTrue};
+ghost use Rattle.std.specs.Prelude.{MatchOption, length, OnErr, OnOk};
+ghost use Rattle.tabled_base.specs.Cells.{columns};
 ghost use Rattle.tabled_base.specs.declared.error.TableError.TheVariants.{Memory, Range};
-ghost use Rattle.tabled_config.specs.Settings.{style_at};
 ghost use Rattle.tabled_size.specs.Added.{DescribesAdded, KnowsAdded};
 ghost use Rattle.tabled_size.specs.Estimates.{IsMeasured, IsTooHigh, IsTooLarge, IsTooWide};
-ghost use Rattle.tabled_size.specs.Estimates.{estimated_heights, estimated_widths, needed_width};
-ghost use Rattle.tabled_size.specs.Estimates.{raised, row_height};
+ghost use Rattle.tabled_size.specs.Estimates.{column_width, estimated_heights, estimated_widths};
+ghost use Rattle.tabled_size.specs.Estimates.{row_height};
 ghost use Rattle.tabled_size.specs.FilledIn.{HasNoEstimate, IsFilledIn};
 ghost use Rattle.tabled_size.specs.Stored.{is_stored};
 
@@ -17,47 +16,26 @@ use crate::complete_dimension::CompleteDimension;
 use crate::dimension::Estimate;
 use std::alloc::Global;
 use tabled_base::{PeekableRecords, Position, TableError};
-use tabled_config::{ColoredConfig, Indent, Sides, SpannedConfig};
+use tabled_config::{ColoredConfig, SpannedConfig};
 
-#[inline(always)]
-pub(crate) fn padded_width<R: PeekableRecords>(
+pub(crate) fn column_width<R: PeekableRecords>(
     records: &R,
     config: &SpannedConfig,
-    at: Position,
-    padding: Sides<Indent>,
+    column: usize,
 ) -> Option<usize>
-    requires inside { IsInside (R.cells records.now) at.row at.column }
-    requires padding { padding ≡ (style_at config.now at.row at.column).padding }
-    ensures { MatchOption result
-        (2 ^ 64 ≤ needed_width (R.cells records.now) config.now at.row at.column)
-        (λ n. n ≡ needed_width (R.cells records.now) config.now at.row at.column) }
+    requires { column < columns (R.cells records.now) }
+    ensures { MatchOption result (IsTooWide (R.cells records.now) config.now)
+        (λ n. n ≡ column_width (R.cells records.now) config.now column) }
 {
-    let _config = config;
-    let sides = padding.left.size.checked_add(padding.right.size)?;
-    records.get_width(at).checked_add(sides)
-}
-
-fn raise_widths<R: PeekableRecords>(
-    records: &R,
-    config: &SpannedConfig,
-    row: usize,
-    widths: &mut [usize],
-) -> Result<(), TableError>
-    requires row_in { row < length (R.cells records.now) }
-    requires columns { length widths.old ≡ columns (R.cells records.now) }
-    ensures ok { IfOk result (λ _. widths.new
-        ≡ raised widths.old (R.cells records.now) config.now row) }
-    ensures err { IfErr result (λ e. (e ≡ Range) × IsTooWide (R.cells records.now) config.now) }
-{
-    let paddings = config.paddings_in(row);
-    'columns: for column in 0..records.count_columns() {
+    let mut most: usize = 0;
+    'rows: for row in 0..records.count_rows() {
         let at = Position { row, column };
-        let Some(width) = padded_width(records, config, at, *paddings.at(column)) else {
-            return Err(TableError::Range);
-        };
-        widths[column] = widths[column].max(width);
+        let padding = config.get_padding(at);
+        let sides = padding.left.size.checked_add(padding.right.size)?;
+        let width = records.get_width(at).checked_add(sides)?;
+        most = most.max(width);
     }
-    Ok(())
+    Some(most)
 }
 
 /// Estimates the width of each column. Errors: `Memory`, or `Range` if a cell needs more than
@@ -71,9 +49,12 @@ pub fn estimate_widths<R: PeekableRecords>(
     ensures err { IfErr result (λ e. (e ≡ Memory)
         ⊎ ((e ≡ Range) × IsTooWide (R.cells records.now) config.now)) }
 {
-    let mut widths = vec![in alloc; 0usize; records.count_columns()]?;
-    'rows: for row in 0..records.count_rows() {
-        raise_widths(records, config, row, &mut widths)?;
+    let mut widths = Vec::with_capacity(alloc, records.count_columns())?;
+    'columns: for column in 0..records.count_columns() {
+        let Some(width) = column_width(records, config, column) else {
+            return Err(TableError::Range);
+        };
+        widths.push(width)?;
     }
     Ok(widths)
 }

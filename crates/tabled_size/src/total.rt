@@ -10,7 +10,7 @@ ghost use Rattle.tabled_base.specs.declared.error.TableError.TheVariants.{ShortW
 ghost use Rattle.tabled_priority.specs.Sums.{one_if, sum_below};
 ghost use Rattle.tabled_size.specs.Effective.{effective};
 ghost use Rattle.tabled_size.specs.EffectiveTotals.{ReturnsHeight, ReturnsWidth};
-ghost use Rattle.tabled_size.specs.Estimates.{IsTooHigh, IsTooWide, column_width};
+ghost use Rattle.tabled_size.specs.Estimates.{IsTooHigh, IsTooWide};
 ghost use Rattle.tabled_size.specs.Estimates.{estimated_heights, estimated_widths};
 ghost use Rattle.tabled_size.specs.Reached.{reached};
 ghost use Rattle.tabled_size.specs.Sheet.{is_empty, estimated};
@@ -20,8 +20,8 @@ ghost use Rattle.tabled_size.specs.Totals.{framed_width, part_height, total_heig
 
 use crate::complete_dimension::CompleteDimension;
 use crate::dimension::Dimension;
-use crate::estimate::{estimate_heights, estimate_widths, padded_width, row_height};
-use tabled_base::{ExactRecords, PeekableRecords, Position, TableError};
+use crate::estimate::{column_width, estimate_heights, estimate_widths, row_height};
+use tabled_base::{ExactRecords, PeekableRecords, TableError};
 use tabled_config::SpannedConfig;
 
 /// Whether there are no rows or no columns.
@@ -233,24 +233,6 @@ pub fn total_height<R: PeekableRecords>(
             reached_height(config, rows, &sizes)
         }
     }
-}
-
-fn column_width<R: PeekableRecords>(
-    records: &R,
-    config: &SpannedConfig,
-    column: usize,
-) -> Option<usize>
-    requires { column < columns (R.cells records.now) }
-    ensures { MatchOption result (IsTooWide (R.cells records.now) config.now)
-        (λ n. n ≡ column_width (R.cells records.now) config.now column) }
-{
-    let mut most: usize = 0;
-    'rows: for row in 0..records.count_rows() {
-        let at = Position { row, column };
-        let width = padded_width(records, config, at, config.get_padding(at))?;
-        most = most.max(width);
-    }
-    Some(most)
 }
 
 #[tactic(auto, using(tabled_priority::proofs::Sums::sum_step, crate::proofs::Passing::width_at))]

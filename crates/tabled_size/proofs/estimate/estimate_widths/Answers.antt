@@ -1,25 +1,17 @@
-use Rattle.tabled_size.proofs.Names.{ap, arith, column_width, columns, estimated_widths, length, map, needed_width, range_with_len}
-use Rattle.tabled_size.proofs.Names.{replicate, rules, ℕ, ◌∙◌, ◌≡◌}
-use Rattle.tabled_size.proofs.Greatest.{greatest_below, greatest_each, greatest_none, written_back}
+use Rattle.tabled_size.proofs.Names.{[], ap, arith, column_width, columns, estimated_widths, map, map-range_with_len_more, range_with_len}
+use Rattle.tabled_size.proofs.Names.{sym, ◌++◌, ◌∙◌, ◌∷◌, ◌≡◌}
 use Rattle.tabled_size.proofs.estimate.estimate_widths.Goals as goal
 
-pub rows-init : goal.rows-init
-rows-init g c =
-    c.in_ok-widths.ensures.items_if_clones_equal (λ y h. search rules)
-    ∙ ap (λ n. replicate {A = ℕ} n 0) c.count_columns.ensures.columns
-    ∙ greatest_none (columns (g.R.ExactRecords.cells c.args.records.now))
-
-pub rows-preserved : goal.rows-preserved
-rows-preserved g c =
-    let cells = g.R.ExactRecords.cells c.args.records.now in
-    written_back _ _ _ (omega (arith, c.raise_widths.auto.widths, c.deref_mut.ensures.len))
-    ∙ c.in_ok-raise_widths.ensures.ok
-    ∙ greatest_each (λ r k. needed_width cells c.args.config.now r k) c.deref_mut.result.now c.rows.row
-    (columns cells) (c.deref_mut.ensures.value ∙ c.rows.invariant)
+pub columns-preserved : goal.columns-preserved
+columns-preserved g c =
+    let f = column_width (g.R.ExactRecords.cells c.args.records.now) c.args.config.now in
+    c.in_ok-push.ensures.items ∙ ap (λ xs. xs ++ c.in-Some.width ∷ []) c.columns.invariant
+    ∙ ap (λ w. map f (range_with_len 0 c.columns.column) ++ w ∷ []) c.in-Some.ensures
+    ∙ sym (map-range_with_len_more f 0 c.columns.column c.columns.column (omega arith))
 
 pub returns-clause-ok : goal.returns-clause-ok
-unfolding estimated_widths column_width
+unfolding estimated_widths
 returns-clause-ok g c =
     let cells = g.R.ExactRecords.cells c.args.records.now in
-    let e : c.rows.row ≡ length cells = omega (arith, c.count_rows-row-end.ensures) in
-    c.rows.invariant ∙ ap (λ n. map (λ k. greatest_below (λ r. needed_width cells c.args.config.now r k) n) (range_with_len 0 (columns cells))) e
+    let e : c.columns.column ≡ columns cells = omega (arith, c.count_columns-column-end.ensures.columns) in
+    c.columns.invariant ∙ ap (λ n. map (column_width cells c.args.config.now) (range_with_len 0 n)) e

@@ -5,14 +5,12 @@ use Rattle.tabled_size.proofs.total.check_widths.Goals as goal
 pub returns-then-not-has_width-clause-err : goal.returns-then-not-has_width-clause-err
 returns-then-not-has_width-clause-err g c =
     let asked = c.count_asked-column-end.ensures.within in
-    (refl, missing_at (g.D.Dimension.width_at c.args.sizes.now) c.args.columns c.columns.column (omega (arith, asked, c.columns-test.true)) cc)
+    (refl, missing_at _ _ c.columns.column (omega (arith, asked, c.columns-test.true)) cc)
 
 pub returns-clause-ok : goal.returns-clause-ok
 returns-clause-ok g c =
     let n = c.count_asked-column-end.result in
-    reached_so (g.D.Dimension.width_at c.args.sizes.now) c.args.columns c.args.columns (omega arith)
-    (λ i lt.
-    ⊎_elim
+    reached_so _ _ _ (omega arith) (λ i lt. ⊎_elim
     (λ (l : i < n). c.columns.invariant i (omega arith))
     (λ (l : n ≤ i).
     let asked = c.count_asked-column-end.ensures.rest i l lt in

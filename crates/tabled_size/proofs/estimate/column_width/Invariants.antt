@@ -1,6 +1,6 @@
 use Rattle.tabled_size.proofs.Names.{needed_width, ◌≡◌}
 use Rattle.tabled_size.proofs.Greatest.{greatest_below}
-use Rattle.tabled_size.proofs.total.column_width.Given as goal
+use Rattle.tabled_size.proofs.estimate.column_width.Given as goal
 
 abbrev pub invariant-rows : goal.invariant-rows
 invariant-rows g l =
