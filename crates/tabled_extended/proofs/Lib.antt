@@ -1,11 +1,8 @@
-pub mod CollectedRows
 pub mod CutOff
 pub mod Dashed
 pub mod Digits
-pub mod EscapedRecords
-pub mod FirstRow
+pub mod MadeRows
 pub mod Names
 pub mod Records
 pub mod Stopped
-pub mod TruncatedTable
 pub mod Zipped

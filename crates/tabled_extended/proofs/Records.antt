@@ -109,19 +109,13 @@ record-printed answers refused lines a b p q (Ok x) label printed g h e = (label
 record-printed answers refused lines a b p q (Err d) label printed g h e = inr (label, g, subst (λ l. LineStops a p d b l) e h)
 
 pub records-stopped : {answers : ℕ → List ℕ → Type 0} (fails : ℕ → Type 0) {fields : List (List ℕ)} {records : List (List (List ℕ))} {n : ℕ} {a b c : Sent} {q : Bool}
-    (r : Bool) (res : Result (Unit {0}) TableError) (e : TableError) (f v : ℕ) → f ≡ widest fields → v ≡ widest_value records
-    → PrintedSoFar answers fields records n a false b q → n < length records
-    → (IsTooWide fields records → ⊥)
-    → PrintsRecord {T = Unit {0}} (answers n) (fails n) (λ label. record_lines f v fields label (get_or records n [])) b q (Err e) c r
+    (r : Bool) (res : Result (Unit {0}) TableError) (e : TableError) → PrintedSoFar answers fields records n a false b q
+    → n < length records → (IsTooWide fields records → ⊥)
+    → PrintsRecord {T = Unit {0}} (answers n) (fails n)
+    (λ label. record_lines (widest fields) (widest_value records) fields label (get_or records n [])) b q (Err e) c r
     → IsErrAnd res (λ d. d ≡ e) → PrintsRecords answers fails fields records a res c
-records-stopped fails r (Ok x) e f v ef ev h l w k i = absurd i
-records-stopped {answers} fails {fields} {records} {n} {a} {b} {c} {q} r (Err d) e f v ef ev h l w k i =
-    let k₁ = subst (λ (x : ℕ). PrintsRecord {T = Unit {0}} (answers n) (fails n) (λ label. record_lines x v fields label (get_or records n [])) b q (Err e) c r) ef k in
-    let k₂ = subst (λ (x : ℕ). PrintsRecord {T = Unit {0}} (answers n) (fails n)
-    (λ label. record_lines (widest fields) x fields label (get_or records n [])) b q (Err e) c r) ev k₁ in
-    inr (
-      w,
-      so_far-stopped r d h l
-          (subst (λ (x : TableError). PrintsRecord {T = Unit {0}} (answers n) (fails n)
-          (λ label. record_lines (widest fields) (widest_value records) fields label (get_or records n [])) b q (Err x) c r) (sym i) k₂),
-    )
+records-stopped fails r (Ok x) e h l w k i = absurd i
+records-stopped {answers} fails {fields} {records} {n} {a} {b} {c} {q} r (Err d) e h l w k i =
+    let P : TableError → Type 0 = λ x. PrintsRecord {T = Unit {0}} (answers n) (fails n)
+    (λ label. record_lines (widest fields) (widest_value records) fields label (get_or records n [])) b q (Err x) c r in
+    inr (w, so_far-stopped r d h l (subst P (sym i) k))

@@ -1,12 +1,14 @@
--- Things of a list that are changed one after another.
+-- Lists that are changed one after another, and tables that are truncated so.
 use Rattle.tabled_extended.proofs.Names.{AllZip, Global, List, Vec, [], ap, append-nil, append_assoc, arith, get_or, length, length-append}
 use Rattle.tabled_extended.proofs.Names.{length-map, length_push, map, map-id, refl, row_texts, suc, sym, zero, ℕ, ◌++◌, ◌+◌, ◌<◌, ◌∙◌, ◌∷◌}
-use Rattle.tabled_extended.proofs.Names.{◌≡◌}
+use Rattle.tabled_extended.proofs.Names.{◌≡◌, Err, IsTruncated, Ok, OnOk, Option, Result, Some, if_sized, subst}
 use Rattle.std.proofs.Math.Seq.{set-append_seam}
 use Rattle.std.proofs.Math.ListN.{set}
 use Rattle.std.proofs.lemmas.List.{map-set}
 use Rattle.std.proofs.lemmas.List.Elements.{AllZip-push, length_all_zip}
-use Rattle.tabled_extended.specs.Truncated.{IsStopped}
+use Rattle.tabled_extended.specs.Truncated.{IsStopped, AreTruncated}
+use Rattle.std.proofs.Common.{None}
+use Rattle.tabled_extended.specs.declared.truncating.TextWidths.{TextWidths}
 
 -- so many are changed, and the others stay
 pub record ChangedSoFar {A : Type 0} (change : A → A → Type 0) (count : ℕ) (old new : List A) : Type 0 where
@@ -111,3 +113,24 @@ row_texts-read (r ∷ rows) (suc i) row h e = row_texts-read rows i row (omega (
 
 pub row_texts-long : (rows : List (Vec (List ℕ) Global)) → length (row_texts rows) ≡ length rows
 row_texts-long rows = length-map rows (λ (r : Vec (List ℕ) Global). map (λ t. t) r.items)
+
+-- ---- a table whose fields are truncated, or not
+
+pub ok_both : {T E : Type 0} (r : Result T E) (suffix : List ℕ) (text_widths : TextWidths) (fields : List (List ℕ)) (records : List (List (List ℕ)))
+    (fields' : List (List ℕ)) (records' : List (List (List ℕ))) → AllZip (if_sized (IsTruncated suffix) text_widths.fields) fields fields'
+    → OnOk r (AllZip (AllZip (IsTruncated suffix text_widths.values)) records records') → OnOk r (AreTruncated suffix text_widths fields records fields' records')
+ok_both (Ok x) suffix text_widths fields records fields' records' f h = record { each_field = f; each_value = h }
+ok_both (Err d) suffix text_widths fields records fields' records' f h = h
+
+each_itself : (R : List ℕ → List ℕ → Type 0) → ((x : List ℕ) → R x x) → (xs : List (List ℕ)) → AllZip R xs xs
+each_itself R f [] = tt
+each_itself R f (x ∷ xs) = (f x, each_itself R f xs)
+
+none_of : (room : Option ℕ) → ((n : ℕ) → room ≡ Some n → ⊥) → room ≡ None
+none_of None h = refl
+none_of (Some n) h = absurd (h n refl)
+
+pub in_none : (change : ℕ → List ℕ → List ℕ → Type 0) (room : Option ℕ) → ((n : ℕ) → room ≡ Some n → ⊥) → (old : List (List ℕ))
+    → AllZip (if_sized change room) old old
+in_none change room none old =
+    each_itself (if_sized change room) (λ x. subst (λ (o : Option ℕ). if_sized change o x x) (sym (none_of room none)) refl) old

@@ -133,27 +133,12 @@ impl ExtendedTable<RecordTemplate> {
             × (row_texts table.records.items ≡ further_rows (map (map I.Cell.text) cells))) }
         ensures only { IfErr result (λ e. e ≡ Memory) }
     {
-        let records = collect_rows(alloc, rows)?;
-        Ok(named_by_first(alloc, records))
+        let mut all = Vec::new(alloc);
+        for row in rows.iter_rows() {
+            all.push(collect_row(alloc, row)?)?;
+        }
+        Ok(named_by_first(alloc, all))
     }
-}
-
-fn collect_rows<I: IntoRecords>(
-    alloc: Global,
-    rows: I,
-) -> Result<Vec<Vec<Text<String>>>, TableError>
-where
-    I::Cell: CellText + Drop,
-    requires { I.ends rows }
-    ensures ok { IfOk result (λ all. (cells : List (List I.Cell)) × I.gives rows cells
-        × (row_texts all.items ≡ map (map I.Cell.text) cells)) }
-    ensures only { IfErr result (λ e. e ≡ Memory) }
-{
-    let mut all = Vec::new(alloc);
-    for row in rows.iter_rows() {
-        all.push(collect_row(alloc, row)?)?;
-    }
-    Ok(all)
 }
 
 fn collect_row<I: IntoIterator>(alloc: Global, cells: I) -> Result<Vec<Text<String>>, TableError>
@@ -172,7 +157,7 @@ where
     Ok(row)
 }
 
-#[tactic(auto, using(crate::proofs::FirstRow::first_removed, crate::proofs::FirstRow::further_removed, crate::proofs::FirstRow::first_of_none, crate::proofs::FirstRow::further_of_none))]
+#[tactic(auto, using(crate::proofs::MadeRows::first_removed, crate::proofs::MadeRows::further_removed, crate::proofs::MadeRows::first_of_none, crate::proofs::MadeRows::further_of_none))]
 fn named_by_first(alloc: Global, mut rows: Vec<Vec<Text<String>>>) -> ExtendedTable<RecordTemplate>
     ensures fields { result.fields.items ≡ first_row (row_texts rows.items) }
     ensures records { row_texts result.records.items ≡ further_rows (row_texts rows.items) }

@@ -1,4 +1,4 @@
-use Rattle.tabled_extended.proofs.EscapedRecords.{escaped-more}
+use Rattle.tabled_extended.proofs.MadeRows.{escaped-more}
 use Rattle.tabled_extended.proofs.extended_table.ExtendedTable+RecordTemplate.new.Goals as goal
 
 pub values-preserved : goal.values-preserved

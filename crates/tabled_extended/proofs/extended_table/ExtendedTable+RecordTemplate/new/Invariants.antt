@@ -1,5 +1,5 @@
 use Rattle.tabled_extended.proofs.Names.{row_texts}
-use Rattle.tabled_extended.proofs.EscapedRecords.{AreEscaped}
+use Rattle.tabled_extended.proofs.MadeRows.{AreEscaped}
 use Rattle.tabled_extended.proofs.extended_table.ExtendedTable+RecordTemplate.new.Given as goal
 
 abbrev pub invariant-values : goal.invariant-values

@@ -1,7 +1,8 @@
-use Rattle.tabled_extended.proofs.Names.{AllZip, Global, IsTruncated, List, OnErr, OnOk, Vec, if_sized, inr, refl, row_texts, subst, ℕ, ◌≡◌}
+use Rattle.tabled_extended.proofs.Names.{Option, sym, AllZip, Global, IsTruncated, List, OnErr, OnOk, Vec, if_sized, inr, refl, row_texts}
+use Rattle.tabled_extended.proofs.Names.{subst, ℕ, ◌≡◌}
 use Rattle.std.proofs.lemmas.Result.{on_err_weaker}
 use Rattle.tabled_extended.specs.Truncated.{StopsInRecords}
-use Rattle.tabled_extended.proofs.TruncatedTable.{in_none, in_some, ok_both}
+use Rattle.tabled_extended.proofs.Stopped.{in_none, ok_both}
 use Rattle.tabled_extended.proofs.extended_table.ExtendedTable.truncate_to.Goals.{in-Some+in_ok-truncate_row, in_default}
 use Rattle.tabled_extended.proofs.extended_table.ExtendedTable.truncate_to.Goals as goal
 
@@ -14,7 +15,8 @@ returns g c =
     let rows = c.truncate_rows.new.rows.items in
     let fields : AllZip (if_sized change widths.fields) old.fields.items then.fields.items = elim c.match-text_widths.branch [
       | in-Some+in_ok-truncate_row w ↦ rw w.self-is
-          (in_some change widths.fields w.in-Some.columns w.in-Some.is old.fields.items w.truncate_row.new.row.items w.in_ok-truncate_row.ensures.ok)
+          (subst (λ (o : Option ℕ). AllZip (if_sized change o) old.fields.items w.truncate_row.new.row.items) (sym w.in-Some.is)
+          w.in_ok-truncate_row.ensures.ok)
       | in_default w ↦ rw w.self-is (in_none change widths.fields w.in_default.not-Some old.fields.items)
     ] in
     let same : then.records.items ≡ old.records.items = elim c.match-text_widths.branch [

@@ -16,9 +16,8 @@ returns-in_err-write_record g c =
     let e = c.in-Some.ensures in
     let w = c.in-Some.widths in
     records-stopped (g.F.Template.fails c.args.self.now.template) c.write_record.new.begun c.from_residual.result _
-    w.field w.value e.fields e.values c.records.invariant (rw length-map (omega arith))
-    (λ t. absurd (omega (arith, t.past, w.in_range, e.fields, e.values)))
-    c.in_err-write_record.ensures c.from_residual.ensures.1
+    c.records.invariant (rw length-map (omega arith)) (λ t. absurd (omega (arith, t.past, w.in_range, e.fields, e.values)))
+    (rw (e.fields, e.values) at c.in_err-write_record.ensures) c.from_residual.ensures.1
 
 pub returns : goal.returns
 returns g c =

@@ -2,8 +2,8 @@ use Rattle.tabled_extended.proofs.Names.{Some, [], refl, ◌++◌, ◌∷◌}
 use Rattle.std.proofs.iter.Next.{Yields-more}
 use Rattle.std.proofs.lemmas.List.Elements.{All-pop}
 use Rattle.std.specs.Iterator.{IsFiniteIterable}
-use Rattle.tabled_extended.proofs.CollectedRows.{collected-more}
-use Rattle.tabled_extended.proofs.extended_table.collect_rows.Goals as goal
+use Rattle.tabled_extended.proofs.MadeRows.{collected-more}
+use Rattle.tabled_extended.proofs.extended_table.ExtendedTable+RecordTemplate.from_rows.Goals as goal
 
 pub collect_row-requires : goal.collect_row-requires
 collect_row-requires g c =

@@ -1,6 +1,6 @@
 use Rattle.tabled_extended.proofs.Names.{row_texts}
-use Rattle.tabled_extended.proofs.CollectedRows.{Collected}
-use Rattle.tabled_extended.proofs.extended_table.collect_rows.Given as goal
+use Rattle.tabled_extended.proofs.MadeRows.{Collected}
+use Rattle.tabled_extended.proofs.extended_table.ExtendedTable+RecordTemplate.from_rows.Given as goal
 
 abbrev pub invariant-loop-row : goal.invariant-loop-row
 invariant-loop-row g l = Collected g.I.IterColumns.IntoIterator.into_iter_gives
