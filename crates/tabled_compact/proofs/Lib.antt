@@ -1,10 +1,8 @@
-pub mod Alike
-pub mod FittingLemmas
 pub mod Names
 pub mod Printings
 pub mod Putting
-pub mod RowLines
 pub mod RowPieces
 pub mod SoFar
 pub mod ToWriters
+pub mod Widths
 pub mod Windows

@@ -11,8 +11,8 @@ use Rattle.tabled_line.proofs.Sending.{sends-along, sends-none}
 use Rattle.tabled_compact.specs.CompactLines.{compact_lines, compact_text, rows_text}
 use Rattle.tabled_compact.specs.Printed.{IsPrintable, IsPrinted}
 use Rattle.tabled_compact.specs.Shown.{AreEnough, AreWanted, shown, wanted}
-use Rattle.tabled_compact.proofs.RowLines.{begun-rows}
-use Rattle.tabled_compact.proofs.Windows.{spent-none, window-none, window-one, window-wanted}
+use Rattle.tabled_compact.proofs.RowPieces.{begun-rows}
+use Rattle.tabled_compact.proofs.Windows.{window-none, window-one, window-wanted}
 
 nothing-sent : (t : CompactSheet) (rows : List (List (List ℕ))) (a : Sent) → rows ≡ [] → Sends a a (compact_text t rows)
 unfolding compact_lines
@@ -28,7 +28,7 @@ any-bound _ = tt
 
 none-wanted : (n : ℕ) (w : Window) → (n ≡ 0) ⊎ IsSpent w → wanted n w ≡ Some 0
 none-wanted n w h =
-    ⊎_elim (λ e. rw e refl) (λ s. either (n == 0) (Some 0) (spanned w.skip w.limit) (spent-none w s)) h
+    ⊎_elim (λ e. rw e refl) (λ s. either (n == 0) (Some 0) (spanned w.skip w.limit) (ap (spanned w.skip) s)) h
 
 -- no row is wanted
 pub prints-nothing : (t : CompactSheet) (w : Window) (comes : List (List (List ℕ)) → Bool → Type 0) (a : Sent) → comes [] false

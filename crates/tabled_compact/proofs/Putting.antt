@@ -1,12 +1,13 @@
 -- The rows that were put so far, and one more.
-use Rattle.tabled_compact.proofs.Names.{Bool, CompactSheet, Err, IfSome, IsErrAnd, IsSpent, List, None, Ok, Option, PutsRows, Result, Sent}
-use Rattle.tabled_compact.proofs.Names.{Some, TableError, Window, [], ap, append-nil, arith, false, has_rows, if◌then◌else◌, in_window, inl}
-use Rattle.tabled_compact.proofs.Names.{inr, length, length-append, refl, row_part, rows_lines, spanned, subst, sym, true, window_after, ℕ}
-use Rattle.tabled_compact.proofs.Names.{◌++◌, ◌+◌, ◌<◌, ◌==◌, ◌∙◌, ◌∷◌, ◌≡◌, ◌≤◌}
+use Rattle.tabled_compact.proofs.Names.{Bool, CompactSheet, Err, IfSome, IsErrAnd, IsSpent, List, Ok, PutsRows, Result, Sent, Some}
+use Rattle.tabled_compact.proofs.Names.{TableError, Window, [], ap, append-nil, arith, false, has_rows, if◌then◌else◌, in_window, inl, inr}
+use Rattle.tabled_compact.proofs.Names.{length, length-append, refl, row_part, rows_lines, spanned, subst, sym, true, window_after, ℕ, ◌++◌}
+use Rattle.tabled_compact.proofs.Names.{◌+◌, ◌==◌, ◌∙◌, ◌∷◌, ◌≡◌, ◌≤◌}
+use Rattle.std.proofs.lemmas.Option.{IfSome_then}
 use Rattle.tabled_line.specs.Leading.{LineSends, LineStops}
 use Rattle.tabled_line.proofs.Leading.{lines-further, lines-none, lines-stopped}
-use Rattle.tabled_compact.proofs.RowLines.{begun-rows, has_rows-more, rows_lines-more}
-use Rattle.tabled_compact.proofs.Windows.{IsOpen, open-within, spent-whole, window-more, window-none, window-start, window-step}
+use Rattle.tabled_compact.proofs.RowPieces.{begun-rows, has_rows-more, rows_lines-more}
+use Rattle.tabled_compact.proofs.Windows.{IsOpen, first-more, spent, within, window-none, window-start, window-step}
 
 -- the rows so far went out, and this is left of the window
 pub record HavePut (t : CompactSheet) (w : Window) (old new : Sent) (begun : Bool) (left : Window) (rows : List (List (List ℕ))) : Type 0 where
@@ -23,14 +24,6 @@ longer rows row = length-append rows (row ∷ [])
 still-open : (w : Window) (n : ℕ) (left : Window) → left ≡ window_after w n → (IsSpent left → ⊥) → IsOpen w n
 still-open w n left after still h = let P : Window → Type 0 = λ v. IsSpent v in still (subst P (sym after) h)
 
-at-most : (o : Option ℕ) (n : ℕ) → IfSome o (λ most. n < most) → IfSome o (λ most. n ≤ most)
-at-most None n h = tt
-at-most (Some most) n h = omega arith
-
-one-within : (o : Option ℕ) (n k : ℕ) → k ≡ n + 1 → IfSome o (λ most. n < most) → IfSome o (λ most. k ≤ most)
-one-within None n k e h = tt
-one-within (Some most) n k e h = omega arith
-
 -- no row so far
 pub have-none : (t : CompactSheet) (w : Window) (old : Sent) (begun : Bool) → begun ≡ false → HavePut t w old old begun w []
 unfolding rows_lines
@@ -46,7 +39,8 @@ module _ {t : CompactSheet} {w : Window} {old mid : Sent} {m : Bool} {left : Win
     (put : HavePut t w old mid m left rows) (still : IsSpent left → ⊥) where
   -- which rows are shown once one more came
   shown-more : (row : List (List ℕ)) → in_window w (rows ++ row ∷ []) ≡ in_window w rows ++ (if left.skip == 0 then row ∷ [] else [])
-  shown-more row = window-more w rows row left.skip (ap (λ v. v.skip) put.after) (still-open w (length rows) left put.after still)
+  shown-more row =
+      first-more w.limit w.skip rows row left.skip (ap (λ v. v.skip) put.after) (still-open w (length rows) left put.after still)
 
   -- and their lines
   lines-more : (row : List (List ℕ)) → rows_lines t (in_window w (rows ++ row ∷ [])) ≡ rows_lines t (in_window w rows) ++ part t left m row
@@ -70,7 +64,7 @@ module _ {t : CompactSheet} {w : Window} {old mid : Sent} {m : Bool} {left : Win
     -- all rows came
     pub have-all : {T : Type 0} (x : T) → PutsRows {T = T} t w old (Ok x) mid m rows true
     have-all x = record {
-      taken = at-most (spanned w.skip w.limit) (length rows) (open-within w (length rows) wanted open');
+      taken = IfSome_then (spanned w.skip w.limit) (within w.limit w.skip (length rows) wanted open') (λ most l. omega arith);
       enough = inl refl;
       filled = tt;
       lines = put.lines;
@@ -78,7 +72,8 @@ module _ {t : CompactSheet} {w : Window} {old mid : Sent} {m : Bool} {left : Win
 
     one-taken : (row : List (List ℕ)) → IfSome (spanned w.skip w.limit) (λ most. length (rows ++ row ∷ []) ≤ most)
     one-taken row =
-        one-within (spanned w.skip w.limit) (length rows) (length (rows ++ row ∷ [])) (longer rows row) (open-within w (length rows) wanted open')
+        let long = longer rows row in
+        IfSome_then (spanned w.skip w.limit) (within w.limit w.skip (length rows) wanted open') (λ most l. omega arith)
 
     -- as many came as are wanted
     pub have-enough : {T : Type 0} (x : T) (new : Sent) (n : Bool) (left' : Window) (row : List (List ℕ)) → LineSends mid m new n (part t left m row)
@@ -89,7 +84,7 @@ module _ {t : CompactSheet} {w : Window} {old mid : Sent} {m : Bool} {left : Win
         let end = subst P (next ∙ ap (λ v. window_after v 1) put.after ∙ window-step w (length rows)) now in
         record {
           taken = one-taken row;
-          enough = inr (spent-whole w (length rows) wanted open' end ∙ ap Some (sym (longer rows row)));
+          enough = inr (spent w.limit w.skip (length rows) wanted open' end ∙ ap Some (sym (longer rows row)));
           filled = tt;
           lines = more.lines;
         }

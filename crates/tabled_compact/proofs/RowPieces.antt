@@ -1,22 +1,57 @@
--- The columns of a row, where its cells come one by one.
-use Rattle.tabled_compact.proofs.Names.{Bool, CompactSheet, Err, IfOk, IsErrAnd, List, Ok, OnOk, Result, Sent, Stops, TableError, Writes}
-use Rattle.tabled_compact.proofs.Names.{WritesLines, [], above, ap, append-nil, append_assoc, arith, begun_after, columns_of, compact_cell}
-use Rattle.tabled_compact.proofs.Names.{compact_piece, compact_row, false, finished, flat_map, if◌then◌else◌, length, length-append}
-use Rattle.tabled_compact.proofs.Names.{length-map, map, map-append, min, nat_tests, part_front, range_with_len, refl, right_edge}
-use Rattle.tabled_compact.proofs.Names.{row_front, row_part, slice_index, stopped-first, subst, suc, sym, true, zero, ℕ, ⊎_elim, ◌++◌, ◌+◌}
-use Rattle.tabled_compact.proofs.Names.{◌-◌, ◌<◌, ◌∙◌, ◌∷◌, ◌≡◌, ◌≤◌}
+-- The lines of rows that come one by one, and the columns of a row whose cells do.
+use Rattle.tabled_compact.proofs.Names.{CompactSheet, List, [], above, ap, append-nil, append_assoc, arith, begun_after, compact_row, false}
+use Rattle.tabled_compact.proofs.Names.{flat_map, has_rows, if◌then◌else◌, nat_tests, refl, row_part, rows_lines, suc, sym, true, zero, ℕ}
+use Rattle.tabled_compact.proofs.Names.{◌++◌, ◌==◌, ◌∙◌, ◌∷◌, ◌≡◌, Bool, Err, IfOk, IsErrAnd, Ok, OnOk, Result, Sent, Stops, TableError}
+use Rattle.tabled_compact.proofs.Names.{Writes, WritesLines, columns_of, compact_cell, compact_piece, finished, length, length-append}
+use Rattle.tabled_compact.proofs.Names.{length-map, map, map-append, min, part_front, range_with_len, right_edge, row_front, slice_index}
+use Rattle.tabled_compact.proofs.Names.{stopped-first, subst, ⊎_elim, ◌+◌, ◌-◌, ◌<◌, ◌≤◌}
+use Rattle.std.proofs.lemmas.List.Concat.{flat_map-append}
 use Rattle.std.proofs.Common.{nat_lt, slice_index_or}
 use Rattle.std.proofs.lemmas.Bool.{cases_lt}
 use Rattle.std.proofs.lemmas.List.{get_or_append_left, get_or_past, get_or_push}
 use Rattle.tabled_compact.specs.CompactCells.{pieces}
 use Rattle.tabled_config.specs.declared.alignment.AlignmentHorizontal.{AlignmentHorizontal}
-use Rattle.tabled_config.specs.declared.alignment.AlignmentHorizontal.TheVariants as horizontal
 use Rattle.tabled_config.specs.Frame.{has_bar}
 use Rattle.tabled_line.specs.Block.{before_text}
 use Rattle.tabled_line.specs.Fill.{fill}
 use Rattle.tabled_line.specs.Leading.{lines_after}
 use Rattle.tabled_line.proofs.Each.{each-first, each-more, each-rest}
 use Rattle.tabled_line.proofs.Leading.{lines_after-append}
+use Rattle.tabled_config.specs.declared.alignment.AlignmentHorizontal.TheVariants as horizontal
+
+pub not-zero : (k : ℕ) → (suc k == 0) ≡ false
+not-zero k = grind (arith, nat_tests)
+
+rows-more : (t : CompactSheet) (rows : List (List (List ℕ))) (row : List (List ℕ))
+    → rows_lines t (rows ++ row ∷ []) ≡ rows_lines t rows ++ row_part t (has_rows rows) row
+unfolding rows_lines
+rows-more t [] row = append-nil (row_part t false row)
+rows-more t (x ∷ rows) row =
+    let f = row_part t true in
+    ap (λ u. row_part t false x ++ u) (flat_map-append f rows (row ∷ []) ∙ ap (λ u. flat_map f rows ++ u) (append-nil (f row)))
+    ∙ sym (append_assoc (row_part t false x) (flat_map f rows) (f row))
+
+-- a row that is shown, or not
+pub rows_lines-more : (t : CompactSheet) (rows : List (List (List ℕ))) (row : List (List ℕ)) (k : ℕ)
+    → rows_lines t (rows ++ (if k == 0 then row ∷ [] else [])) ≡ rows_lines t rows ++ (if k == 0 then row_part t (has_rows rows) row else [])
+rows_lines-more t rows row zero = rows-more t rows row
+rows_lines-more t rows row (suc k) = rw (not-zero k) (ap (rows_lines t) (append-nil rows) ∙ sym (append-nil (rows_lines t rows)))
+
+pub has_rows-more : {A : Type 0} (rows : List A) (row : A) → has_rows (rows ++ row ∷ []) ≡ true
+has_rows-more [] row = refl
+has_rows-more (x ∷ rows) row = refl
+
+-- a line was written if a row is shown
+pub begun-rows : (t : CompactSheet) (rows : List (List (List ℕ))) → begun_after false (rows_lines t rows) ≡ has_rows rows
+unfolding rows_lines row_part
+begun-rows t [] = refl
+begun-rows t (row ∷ rows) = some (above t false) (compact_row t row) (flat_map (row_part t true) rows)
+  where
+    some : (ls : List (List ℕ)) (l : List ℕ) (more : List (List ℕ)) → begun_after false ((ls ++ l ∷ []) ++ more) ≡ true
+    some [] l more = refl
+    some (k ∷ ls) l more = refl
+
+-- ---- the columns of a row
 
 -- cells that come later don't change the columns before them
 pieces-before : (t : CompactSheet) (row more : List (List ℕ)) (n : ℕ) → n ≤ length row → pieces t (row ++ more) n ≡ pieces t row n

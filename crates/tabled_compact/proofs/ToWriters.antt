@@ -30,11 +30,11 @@ ended-so {a} {b} {a'} {b'} {e} t w comes so p =
     }
 
 -- what the sink of a borrowed writer was sent, the writer took, if it is the one that is known in the end
-written : (t : CompactSheet) (w : Window) (comes : List (List (List ℕ)) → Bool → Type 0)
+pub prints-written : (t : CompactSheet) (w : Window) (comes : List (List (List ℕ)) → Bool → Type 0)
     (na nb : ℕ) (ca cb cf : Option (List ℕ)) (failed_at : Option ℕ) (r : Result (Unit {0}) TableError) → (nb ≡ na → cf ≡ cb)
     → PrintsCompact t w comes (named_sent na ca None) r (named_sent nb cb failed_at)
     → BuildsCompact t w comes ca r cf
-written t w comes na nb ca cb cf failed_at (Ok x) k p = (
+prints-written t w comes na nb ca cb cf failed_at (Ok x) k p = (
   0,
   record {
     rows = p.rows;
@@ -46,14 +46,5 @@ written t w comes na nb ca cb cf failed_at (Ok x) k p = (
     sends = writer-sends na nb ca cb cf failed_at _ k p.sends;
   },
 )
-written t w comes na nb ca cb cf failed_at (Err e) k p =
+prints-written t w comes na nb ca cb cf failed_at (Err e) k p =
     (byte_of failed_at, ended-so t w comes (writer-leaves na nb ca cb cf failed_at e k) p)
-
-pub prints-written : (t : CompactSheet) (w : Window) (comes : List (List (List ℕ)) → Bool → Type 0)
-    (na nb : ℕ) (ca held cb cf : Option (List ℕ)) (was failed_at : Option ℕ) (r : Result (Unit {0}) TableError) → was ≡ None
-    → held ≡ ca → (nb ≡ na → cf ≡ cb) → PrintsCompact t w comes (named_sent na held was) r (named_sent nb cb failed_at)
-    → BuildsCompact t w comes ca r cf
-prints-written t w comes na nb ca held cb cf was failed_at r unfailed same k p =
-    let P : Option ℕ → Type 0 = λ o. PrintsCompact t w comes (named_sent na held o) r (named_sent nb cb failed_at) in
-    let Q : Option (List ℕ) → Type 0 = λ h. PrintsCompact t w comes (named_sent na h None) r (named_sent nb cb failed_at) in
-    written t w comes na nb ca cb cf failed_at r k (subst Q same (subst P unfailed p))

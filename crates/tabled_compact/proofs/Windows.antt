@@ -4,7 +4,7 @@ use Rattle.tabled_compact.proofs.Names.{if◌then◌else◌, in_window, length, 
 use Rattle.tabled_compact.proofs.Names.{zero, ℕ, ◌++◌, ◌+◌, ◌-◌, ◌<◌, ◌==◌, ◌∙◌, ◌∷◌, ◌≡◌, ◌≤◌}
 use Rattle.std.proofs.Common.{drop}
 use Rattle.std.proofs.lemmas.List.{length-drop, take_all}
-use Rattle.tabled_compact.proofs.RowLines.{not-zero}
+use Rattle.tabled_compact.proofs.RowPieces.{not-zero}
 use Rattle.tabled_compact.specs.Shown.{first_rows, limit_left}
 
 -- a row behind those that are passed over: it stays, unless it is passed over too
@@ -30,7 +30,8 @@ not-spent : (m : ℕ) → (Some m ≡ Some 0 → ⊥) → 0 < m
 not-spent zero f = absurd (f refl)
 not-spent (suc m) f = omega arith
 
-first-more : {A : Type 0} (limit : Option ℕ) (skip : ℕ) (rows : List A) (row : A) (k : ℕ) → k ≡ skip - length rows
+-- a row that comes before the end of the window: it is shown, unless it is skipped
+pub first-more : {A : Type 0} (limit : Option ℕ) (skip : ℕ) (rows : List A) (row : A) (k : ℕ) → k ≡ skip - length rows
     → (limit_left limit (length rows - skip) ≡ Some 0 → ⊥)
     → first_rows limit (drop skip (rows ++ row ∷ [])) ≡ first_rows limit (drop skip rows) ++ (if k == 0 then row ∷ [] else [])
 first-more None skip rows row k h open' = dropped-more skip rows row k h
@@ -42,22 +43,15 @@ first-more (Some l) skip rows row (suc k) h open' =
     let passed : drop skip (rows ++ row ∷ []) ≡ drop skip rows = dropped-more skip rows row (suc k) h ∙ rw (not-zero k) (append-nil (drop skip rows)) in
     rw (not-zero k) (ap (take l) passed ∙ sym (append-nil (take l (drop skip rows))))
 
--- a row that comes before the end of the window: it is shown, unless it is skipped
-pub window-more : {A : Type 0} (w : Window) (rows : List A) (row : A) (k : ℕ) → k ≡ w.skip - length rows → IsOpen w (length rows)
-    → in_window w (rows ++ row ∷ []) ≡ in_window w rows ++ (if k == 0 then row ∷ [] else [])
-window-more w rows row k h still = first-more w.limit w.skip rows row k h still
-
-within : (limit : Option ℕ) (skip n : ℕ) → (limit ≡ Some 0 → ⊥) → (limit_left limit (n - skip) ≡ Some 0 → ⊥)
+-- fewer rows came than are wanted
+pub within : (limit : Option ℕ) (skip n : ℕ) → (limit ≡ Some 0 → ⊥) → (limit_left limit (n - skip) ≡ Some 0 → ⊥)
     → IfSome (spanned skip limit) (λ most. n < most)
 within None skip n some still = tt
 within (Some zero) skip n some still = absurd (some refl)
 within (Some (suc l)) skip n some still = let left = not-spent (suc l - (n - skip)) still in omega (arith, left)
 
--- so fewer rows came than are wanted
-pub open-within : (w : Window) (n : ℕ) → (IsSpent w → ⊥) → IsOpen w n → IfSome (spanned w.skip w.limit) (λ most. n < most)
-open-within w n some still = within w.limit w.skip n some still
-
-spent : (limit : Option ℕ) (skip n : ℕ) → (limit ≡ Some 0 → ⊥) → (limit_left limit (n - skip) ≡ Some 0 → ⊥)
+-- where the window is at its end, as many came as are wanted
+pub spent : (limit : Option ℕ) (skip n : ℕ) → (limit ≡ Some 0 → ⊥) → (limit_left limit (n - skip) ≡ Some 0 → ⊥)
     → limit_left limit (n + 1 - skip) ≡ Some 0 → spanned skip limit ≡ Some (n + 1)
 spent None skip n some still now = absurd (cc)
 spent (Some zero) skip n some still now = absurd (some refl)
@@ -65,10 +59,6 @@ spent (Some (suc l)) skip n some still now =
     let left = not-spent (suc l - (n - skip)) still in
     let none : suc l - (n + 1 - skip) ≡ 0 = cc in
     ap Some (omega (arith, left, none))
-
--- where the window is at its end, as many came as are wanted
-pub spent-whole : (w : Window) (n : ℕ) → (IsSpent w → ⊥) → IsOpen w n → IsSpent (window_after w (n + 1)) → spanned w.skip w.limit ≡ Some (n + 1)
-spent-whole w n some still now = spent w.limit w.skip n some still now
 
 left-step : (limit : Option ℕ) (skip n : ℕ) → limit_left (limit_left limit (n - skip)) (1 - (skip - n)) ≡ limit_left limit (n + 1 - skip)
 left-step None skip n = refl
@@ -121,6 +111,3 @@ window-wanted w n some h = go w.limit w.skip some h
     go None skip f l = tt
     go (Some zero) skip f l = absurd (f refl)
     go (Some (suc m)) skip f l = omega arith
-
-pub spent-none : (w : Window) → IsSpent w → spanned w.skip w.limit ≡ Some 0
-spent-none w h = ap (spanned w.skip) h

@@ -30,15 +30,11 @@ columns_of t = record {
   frame = frame_of t.config.borders t.config.margin;
 }
 
--- the columns of its content width that a text leaves free; 0 if it is wider
-abbrev pub free_columns : CompactConfig → ℕ → List ℕ → ℕ
-free_columns config width text =
-    width - config.padding.left.size - config.padding.right.size - text_columns text
-
--- a cell: left padding, spaces by alignment, the whole text, spaces, right padding
+-- a cell: left padding, spaces by alignment, the whole text, spaces, right padding; a text that is
+-- wider than the content width leaves no columns free
 unfoldable pub compact_cell : CompactConfig → ℕ → List ℕ → List ℕ
 compact_cell config width text =
-    let free = free_columns config width text in
+    let free = width - config.padding.left.size - config.padding.right.size - text_columns text in
     let before = before_text config.alignment_horizontal free in
     padded_text config.padding before text (free - before)
 

@@ -2,6 +2,5 @@ pub mod CompactCells
 pub mod CompactLines
 pub mod Fitting
 pub mod Printed
-pub mod RowsPut
 pub mod Shown
 pub mod Tables

@@ -1,12 +1,14 @@
 -- Which compact tables can be printed, why others fail, and what a call that prints leaves.
-use Rattle.std.specs.Prelude.{◌≡◌, ◌^◌, ◌<◌, ◌≤◌, ◌+◌, ◌⊎◌, ℕ, Bool, true, List, [], length, Option, Result, Ok, Err}
+use Rattle.std.specs.Prelude.{◌≡◌, ◌^◌, ◌<◌, ◌≤◌, ◌+◌, ◌⊎◌, ℕ, Bool, false, true, List, [], length, Option, Some, IfSome, Result, Ok, Err}
+use Rattle.std.specs.Prelude.{OnErr, OnOk}
 use Rattle.tabled_base.specs.declared.error.TableError.{TableError}
 use Rattle.tabled_base.specs.declared.error.TableError.TheVariants.{Range, ShortWidths}
+use Rattle.tabled_line.specs.Leading.{WritesLines}
 use Rattle.tabled_line.specs.Sent.{Sent, Sends, Stops}
 use Rattle.tabled_line.specs.WriterSent.{known_since, writer_after, writer_before}
 use Rattle.tabled_compact.specs.CompactCells.{CompactSheet}
-use Rattle.tabled_compact.specs.CompactLines.{compact_text, compact_width, rows_text}
-use Rattle.tabled_compact.specs.Shown.{AreEnough, AreWanted, has_rows, shown}
+use Rattle.tabled_compact.specs.CompactLines.{compact_text, compact_width, rows_lines, rows_text}
+use Rattle.tabled_compact.specs.Shown.{AreEnough, AreWanted, has_rows, in_window, shown, spanned}
 use Rattle.tabled_compact.specs.declared.columns.Window.{Window}
 
 -- why printing a table that shows a row fails: a width is missing; or none is, and the total width
@@ -65,3 +67,18 @@ abbrev pub BuildsCompact : {T : Type 0} → CompactSheet → Window → (List (L
     → Option (List ℕ) → Result T TableError → Option (List ℕ) → Type 0
 BuildsCompact t w comes old result new =
     (byte : ℕ) × PrintsCompact t w comes (writer_before old) result (writer_after result (known_since old new) byte)
+
+-- ---- the rows of a source
+
+-- the rows that were read are all, or as many as the window spans
+abbrev pub IsSpanned : Window → List (List (List ℕ)) → Bool → Type 0
+IsSpanned w rows whole = (whole ≡ true) ⊎ (spanned w.skip w.limit ≡ Some (length rows))
+
+-- the rows were read, and maybe these are all; their lines were written, or the sink failed in
+-- them, and then one is shown
+pub record PutsRows {T : Type 0} (t : CompactSheet) (w : Window) (old : Sent) (result : Result T TableError)
+    (new : Sent) (begun : Bool) (rows : List (List (List ℕ))) (whole : Bool) : Type 0 where
+  pub taken : IfSome (spanned w.skip w.limit) (λ most. length rows ≤ most)
+  pub enough : OnOk result (IsSpanned w rows whole)
+  pub filled : OnErr result (has_rows (in_window w rows) ≡ true)
+  pub lines : WritesLines old false result new begun (rows_lines t (in_window w rows))

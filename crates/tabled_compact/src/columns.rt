@@ -1,10 +1,9 @@
 //! The columns of a compact table, the cells in them, and which rows of a source are shown.
-ghost use Rattle.std.specs.List.{slice_index};
 ghost use Rattle.std.specs.Prelude.{Bool, IfErr, IfOk, IsTrue, List, OnOk, [], if◌then◌else◌};
 ghost use Rattle.std.specs.Prelude.{length, min, nat_lt, ℕ, ◌+◌, ◌<◌, ◌==◌, ◌↔◌, ◌≡◌, ◌≤◌};
 ghost use Rattle.tabled_base.specs.declared.error.TableError.TheVariants.{ShortWidths};
 ghost use Rattle.tabled_compact.specs.CompactCells.{CompactSheet, columns_of, compact_piece};
-ghost use Rattle.tabled_compact.specs.CompactCells.{free_columns, sheet_by};
+ghost use Rattle.tabled_compact.specs.CompactCells.{sheet_by};
 ghost use Rattle.tabled_compact.specs.CompactLines.{part_front, row_part};
 ghost use Rattle.tabled_config.specs.Frame.{frame_of};
 ghost use Rattle.tabled_line.specs.Leading.{lines_after};
@@ -67,18 +66,6 @@ impl<'a, D: Dimension> CompactColumns<'a, D> {
         self.config
     }
 
-    fn free_columns<T: CellText>(&self, column: usize, cell: &T) -> usize
-        requires { column < self.now.count }
-        ensures { result ≡ free_columns self.now.config (slice_index self.now.widths column)
-            (T.text cell.now) }
-    {
-        let padding = self.config().get_padding();
-        self.width(column)
-            .saturating_sub(padding.left.size)
-            .saturating_sub(padding.right.size)
-            .saturating_sub(cell.width())
-    }
-
     /// Writes the vertical line before a column, and a text with its padding, aligned in the
     /// content width. A wider text is written whole, without spaces for alignment.
     fn write_cell<T: CellText, S: TextSink>(
@@ -94,10 +81,13 @@ impl<'a, D: Dimension> CompactColumns<'a, D> {
         let frame = self.frame();
         write_bar(sink, frame.has_bar(column), frame.inner.main)?;
         let config = self.config();
-        let free = self.free_columns(column, cell);
+        let padding = config.get_padding();
+        let inner = self.width(column).saturating_sub(padding.left.size);
+        let content = inner.saturating_sub(padding.right.size);
+        let free = content.saturating_sub(cell.width());
         let before = before_text(config.get_alignment_horizontal(), free);
         let behind = free.saturating_sub(before);
-        write_padded_text(sink, config.get_padding(), before, cell.text(), behind)
+        write_padded_text(sink, padding, before, cell.text(), behind)
     }
 
     pub fn write_next_cell<T: CellText, S: TextSink>(

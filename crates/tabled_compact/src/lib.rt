@@ -15,5 +15,5 @@ mod table;
 
 pub use columns::Window;
 pub use rows::print_compact;
-pub use sizes::{CellRows, SetHeight, SetWidth};
+pub use sizes::{CellRows, SetSizes};
 pub use table::CompactTable;

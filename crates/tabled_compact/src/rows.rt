@@ -8,8 +8,7 @@ ghost use Rattle.tabled_base.specs.Given.{Given};
 ghost use Rattle.tabled_compact.specs.CompactCells.{columns_of, sheet_by};
 ghost use Rattle.tabled_compact.specs.CompactLines.{above, compact_width, part_front, row_part};
 ghost use Rattle.tabled_compact.specs.CompactLines.{separator, tail_lines};
-ghost use Rattle.tabled_compact.specs.Printed.{IsFailure, IsPrintable, PrintsCompact};
-ghost use Rattle.tabled_compact.specs.RowsPut.{PutsRows};
+ghost use Rattle.tabled_compact.specs.Printed.{IsFailure, IsPrintable, PrintsCompact, PutsRows};
 ghost use Rattle.tabled_compact.specs.Shown.{Came, IsSpent, window_after};
 ghost use Rattle.tabled_line.specs.Leading.{WritesLines};
 ghost use Rattle.tabled_line.specs.LineCache.{IsCacheOf};
@@ -49,13 +48,8 @@ where
 /// padding are ignored.
 ///
 /// No row is stored, and only the sink allocates. No row past the window is read, and each row that
-/// is read is read to its end. Prints nothing if no row is shown or there is no column.
-///
-/// These errors come before the first byte, and are checked in this order:
-/// - `ShortWidths`: the dimension lacks the width of a column.
-/// - `Range`: the total width exceeds `usize::MAX`.
-///
-/// Every later error is the sink's.
+/// is read is read to its end. Prints nothing if no row is shown or there is no column. Fails as
+/// `CompactTable::fmt` does.
 pub fn print_compact<I: IntoRecords, D: Dimension, S: TextSink>(
     sink: &mut S,
     records: I,

@@ -11,32 +11,25 @@ use tabled_base::CellText;
 use tabled_line::TableColumns;
 use tabled_size::{ConstDimension, ConstSize};
 
-/// A dimension whose widths can be set by a value of type `S`, which converts to
+/// A dimension whose widths or heights can be set by a value of type `S`, which converts to
 /// `ConstSize<COUNT>`.
 ///
-/// As a trait of the dimension, it lets `CompactTable::width` take everything that is
-/// `Into<ConstSize>`.
-pub trait SetWidth<S, const COUNT: usize> {
+/// As a trait of the dimension, it lets `CompactTable::width` and `CompactTable::height` take
+/// everything that is `Into<ConstSize>`.
+pub trait SetSizes<S, const COUNT: usize> {
     /// The dimension with these widths.
     type Wide;
 
+    /// The dimension with these heights.
+    type High;
+
     ghost widened: { Self → S → Self.Wide → Type 0 };
+
+    ghost heightened: { Self → S → Self.High → Type 0 };
 
     /// Returns the dimension with these widths and its old heights.
     fn set_width(self, width: S) -> Self::Wide
         ensures { widened self width result };
-}
-
-/// A dimension whose heights can be set by a value of type `S`, which converts to
-/// `ConstSize<COUNT>`.
-///
-/// As a trait of the dimension, it lets `CompactTable::height` take everything that is
-/// `Into<ConstSize>`.
-pub trait SetHeight<S, const COUNT: usize> {
-    /// The dimension with these heights.
-    type High;
-
-    ghost heightened: { Self → S → Self.High → Type 0 };
 
     /// Returns the dimension with these heights and its old widths.
     fn set_height(self, height: S) -> Self::High
@@ -48,26 +41,19 @@ impl<
     const COUNT: usize,
     const COLUMNS: usize,
     const ROWS: usize,
-> SetWidth<S, COUNT> for ConstDimension<COLUMNS, ROWS> {
+> SetSizes<S, COUNT> for ConstDimension<COLUMNS, ROWS> {
     type Wide = ConstDimension<COUNT, ROWS>;
 
+    type High = ConstDimension<COLUMNS, COUNT>;
+
     ghost widened = { λ old width new. S.converts width new.width × (new.height ≡ old.height) };
+
+    ghost heightened = { λ old height new. S.converts height new.height × (new.width ≡ old.width) };
 
     fn set_width(self, width: S) -> ConstDimension<COUNT, ROWS> {
         let (_, height): (ConstSize<COLUMNS>, ConstSize<ROWS>) = self.into();
         ConstDimension::new(width.into(), height)
     }
-}
-
-impl<
-    S: Into<ConstSize<COUNT>>,
-    const COUNT: usize,
-    const COLUMNS: usize,
-    const ROWS: usize,
-> SetHeight<S, COUNT> for ConstDimension<COLUMNS, ROWS> {
-    type High = ConstDimension<COLUMNS, COUNT>;
-
-    ghost heightened = { λ old height new. S.converts height new.height × (new.width ≡ old.width) };
 
     fn set_height(self, height: S) -> ConstDimension<COLUMNS, COUNT> {
         let (width, _): (ConstSize<COLUMNS>, ConstSize<ROWS>) = self.into();
@@ -143,7 +129,7 @@ fn sum_widths<C: TableColumns>(columns: &C) -> Option<usize>
 
 /// Returns the columns of each line: all widths, the vertical lines and the side margins. `None` if
 /// that exceeds `usize::MAX`.
-#[tactic(auto, unfolding(tabled_line::specs::Apart::line_total), using(crate::proofs::Alike::as_number))]
+#[tactic(auto, unfolding(tabled_line::specs::Apart::line_total), using(crate::proofs::Widths::as_number))]
 pub(crate) fn line_total<C: TableColumns>(columns: &C) -> Option<usize>
     ensures { let whole = line_total (C.sheet columns.now) in MatchOption result (2 ^ 64 ≤ whole)
         (λ n. (n ≡ whole) × (whole < 2 ^ 64)) }

@@ -13,7 +13,7 @@ ghost use Rattle.tabled_compact.specs.Printed.{BuildsCompact, IsEnded, IsPrinted
 
 use crate::columns::Window;
 use crate::rows::print_compact;
-use crate::sizes::{CellRows, SetHeight, SetWidth};
+use crate::sizes::{CellRows, SetSizes};
 use std::alloc::Global;
 use std::io::Write;
 use tabled_base::{CellText, IntoRecords, TableError, TableOption};
@@ -62,7 +62,7 @@ impl<I, D> CompactTable<I, D> {
     /// Printing ignores it.
     pub fn height<S, const COUNT: usize>(self, height: S) -> CompactTable<I, D::High>
     where
-        D: SetHeight<S, COUNT>,
+        D: SetSizes<S, COUNT>,
         ensures height { D.heightened self.dimension height result.dimension }
         ensures same { IsResized self result }
     {
@@ -83,7 +83,7 @@ impl<I, D> CompactTable<I, D> {
     /// ```
     pub fn width<S, const COUNT: usize>(self, width: S) -> CompactTable<I, D::Wide>
     where
-        D: SetWidth<S, COUNT>,
+        D: SetSizes<S, COUNT>,
         ensures width { D.widened self.dimension width result.dimension }
         ensures same { IsResized self result }
     {

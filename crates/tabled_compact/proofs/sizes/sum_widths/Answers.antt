@@ -1,6 +1,6 @@
 use Rattle.tabled_compact.proofs.Names.{ap, arith, subst, sum_below, sym, ℕ, ◌*◌, ◌+◌, ◌-◌, ◌∙◌, ◌≡◌, ◌≤◌}
 use Rattle.std.proofs.Common.{◌≢◌, MatchOption}
-use Rattle.tabled_compact.proofs.Alike.{sum-alike}
+use Rattle.tabled_compact.proofs.Widths.{sum-alike}
 use Rattle.tabled_compact.proofs.sizes.sum_widths.Goals as goal
 
 pub returns : goal.returns

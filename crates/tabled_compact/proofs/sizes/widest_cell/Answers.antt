@@ -2,7 +2,7 @@ use Rattle.tabled_compact.proofs.Names.{[], ap, arith, length, sym, ◌<◌, ◌
 use Rattle.std.proofs.Common.{get_or}
 use Rattle.std.proofs.lemmas.List.{get_or-map}
 use Rattle.tabled_text.specs.Measure.{text_columns}
-use Rattle.tabled_compact.proofs.FittingLemmas.{widest_cell-next}
+use Rattle.tabled_compact.proofs.Widths.{widest_cell-next}
 use Rattle.tabled_compact.proofs.sizes.widest_cell.Goals as goal
 
 pub rows-preserved : goal.rows-preserved

@@ -15,11 +15,15 @@ returns g c =
     (simp (
       c.has_bar.ensures,
       c.frame-frame.ensures,
-      c.get_padding.ensures,
+      c.get_padding-padding.ensures,
       c.saturating_sub-behind.ensures,
       c.before_text-before.ensures,
       c.get_alignment_horizontal.ensures,
       c.text.ensures,
-      c.free_columns-free.ensures,
+      c.width-2.ensures,
+      c.saturating_sub-free.ensures,
+      c.saturating_sub-content.ensures,
+      c.saturating_sub-inner.ensures,
+      c.width.ensures,
       c.config-config.ensures,
     ))

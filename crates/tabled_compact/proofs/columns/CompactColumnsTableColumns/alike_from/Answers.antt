@@ -1,5 +1,5 @@
 use Rattle.tabled_compact.proofs.Names.{CompactSheet, slice_index, subst, ℕ, ◌<◌, ◌≡◌, ◌≤◌}
-use Rattle.tabled_compact.proofs.Alike.{alike-or}
+use Rattle.tabled_compact.proofs.Widths.{alike-or}
 use Rattle.tabled_compact.proofs.columns.CompactColumnsTableColumns.alike_from.Goals as goal
 
 pub returns : goal.returns

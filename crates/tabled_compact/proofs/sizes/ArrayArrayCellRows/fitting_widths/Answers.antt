@@ -1,6 +1,6 @@
 use Rattle.tabled_compact.proofs.Names.{ap, arith, fitting_width, length, map, min, range_with_len, rules, sym, take, ◌+◌, ◌<◌, ◌∙◌, ◌≡◌}
 use Rattle.std.proofs.Math.Seq.{take-length}
-use Rattle.tabled_compact.proofs.FittingLemmas.{written-next}
+use Rattle.tabled_compact.proofs.Widths.{written-next}
 use Rattle.tabled_compact.proofs.sizes.ArrayArrayCellRows.fitting_widths.Goals as goal
 
 pub columns-preserved : goal.columns-preserved
