@@ -1,7 +1,6 @@
 pub mod Names
 pub mod NewTables
 pub mod Progressions
-pub mod Sheets
 pub mod Shown
 pub mod Stream
 pub mod Walks

@@ -1,7 +1,7 @@
 -- Where batches begin, one after another.
-use Rattle.tabled_table.proofs.Names.{LayoutIterator, List, None, Some, [], ap, arith, batches_left, cases_lt, cond, false, length, min}
-use Rattle.tabled_table.proofs.Names.{nat_lt, refl, subst, suc, sym, true, zero, ℕ, ⊎_elim, ◌&&◌, ◌*◌, ◌+◌, ◌-◌, ◌<◌, ◌==◌, ◌^◌, ◌∙◌, ◌∷◌}
-use Rattle.tabled_table.proofs.Names.{◌≡◌, ◌≤◌}
+use Rattle.tabled_table.proofs.Names.{Bool, true, LayoutIterator, List, None, Some, [], ap, arith, batches_left, cases_lt, cond, false}
+use Rattle.tabled_table.proofs.Names.{length, min, nat_lt, refl, subst, suc, sym, zero, ℕ, ⊎_elim, ◌&&◌, ◌*◌, ◌+◌, ◌-◌, ◌<◌, ◌==◌, ◌^◌, ◌∙◌}
+use Rattle.tabled_table.proofs.Names.{◌∷◌, ◌≡◌, ◌≤◌}
 use Rattle.std.proofs.Common.{◌/◌, add-one, slice_get}
 use Rattle.std.proofs.Math.Nat.{add-div_right, div-eq_of_lt}
 use Rattle.std.proofs.lemmas.Bool.{le-ltb, lt-ltb, ne_eqb}
@@ -59,68 +59,49 @@ count_step from to batch k h = count_some from to batch k ∙ ⊎_elim last more
 pub left_none : (offset from to batch : ℕ) → to ≤ from → progression offset batch (batch_count from to batch) ≡ []
 left_none offset from to batch h = ap (λ n. progression offset batch n) (count_end from to batch h)
 
--- before it the first is followed by those from the next on
-pub left_some : (offset from to batch : ℕ) → 0 < batch → from < to
-    → progression offset batch (batch_count from to batch) ≡ offset ∷ progression (offset + batch) batch (batch_count (from + batch) to batch)
-left_some offset from to batch k h = ap (λ n. progression offset batch n) (count_step from to batch k h)
+-- the k-th of so many
+item_in : (offset step count k : ℕ) → k < count → slice_get (progression offset step count) k ≡ Some (offset + k * step)
+item_in offset step zero k h = absurd (omega arith)
+item_in offset step (suc count) zero h = ap (λ n. Some n) (let e : offset ≡ offset + zero * step = omega arith in e)
+item_in offset step (suc count) (suc k) h =
+    item_in (offset + step) step count k (omega arith)
+    ∙ ap (λ n. Some n) (let e : (offset + step) + k * step ≡ offset + suc k * step = grind arith in e)
 
--- the k-th of them
-get_left : (k offset from to batch : ℕ) → 0 < batch
-    → slice_get (progression offset batch (batch_count from to batch)) k ≡ cond (nat_lt (from + k * batch) to) (Some (offset + k * batch)) None
-get_left zero offset from to batch h = ⊎_elim some none (cases_lt from to)
-  where
-    some : from < to → slice_get (progression offset batch (batch_count from to batch)) zero ≡ cond (nat_lt (from + zero * batch) to) (Some (offset + zero * batch)) None
-    some k =
-        let below : nat_lt (from + zero * batch) to ≡ true = lt-ltb _ _ (omega arith) in
-        let same : offset + zero * batch ≡ offset = omega arith in
-        ap (λ xs. slice_get xs zero) (left_some offset from to batch h k) ∙ sym (ap (λ b. cond b (Some (offset + zero * batch)) None) below ∙ ap (λ n. Some n) same)
-
-    none : to ≤ from → slice_get (progression offset batch (batch_count from to batch)) zero ≡ cond (nat_lt (from + zero * batch) to) (Some (offset + zero * batch)) None
-    none k =
-        let past : nat_lt (from + zero * batch) to ≡ false = le-ltb _ _ (omega arith) in
-        ap (λ xs. slice_get xs zero) (left_none offset from to batch k) ∙ sym (ap (λ b. cond b (Some (offset + zero * batch)) None) past)
-get_left (suc i) offset from to batch h = ⊎_elim (some (get_left i (offset + batch) (from + batch) to batch h)) none (cases_lt from to)
-  where
-    next : (n : ℕ) → (n + batch) + i * batch ≡ n + suc i * batch
-    next n = grind arith
-
-    some : slice_get (progression (offset + batch) batch (batch_count (from + batch) to batch)) i
-        ≡ cond (nat_lt ((from + batch) + i * batch) to) (Some ((offset + batch) + i * batch)) None
-        → from < to → slice_get (progression offset batch (batch_count from to batch)) (suc i) ≡ cond (nat_lt (from + suc i * batch) to) (Some (offset + suc i * batch)) None
-    some later k =
-        ap (λ xs. slice_get xs (suc i)) (left_some offset from to batch h k) ∙ later
-        ∙ ap (λ n. cond (nat_lt n to) (Some ((offset + batch) + i * batch)) None) (next from)
-        ∙ ap (λ n. cond (nat_lt (from + suc i * batch) to) (Some n) None) (next offset)
-
-    none : to ≤ from → slice_get (progression offset batch (batch_count from to batch)) (suc i) ≡ cond (nat_lt (from + suc i * batch) to) (Some (offset + suc i * batch)) None
-    none k =
-        let past : nat_lt (from + suc i * batch) to ≡ false = le-ltb _ _ (omega arith) in
-        ap (λ xs. slice_get xs (suc i)) (left_none offset from to batch k) ∙ sym (ap (λ b. cond b (Some (offset + suc i * batch)) None) past)
+item_past : (offset step count k : ℕ) → count ≤ k → slice_get (progression offset step count) k ≡ None
+item_past offset step zero zero h = refl
+item_past offset step zero (suc k) h = refl
+item_past offset step (suc count) zero h = absurd (omega arith)
+item_past offset step (suc count) (suc k) h = item_past (offset + step) step count k (omega arith)
 
 -- from the beginning on they are whole batches
 pub get_batches : (from to batch k : ℕ) → slice_get (progression 0 batch (batch_count (from + 0) to batch)) k ≡ batch_at from to batch k
 get_batches from to batch k = ⊎_elim some none (cases_lt 0 batch)
   where
-    plus : from + 0 ≡ from
-    plus = omega arith
-
-    zero_plus : (n : ℕ) → 0 + n ≡ n
-    zero_plus n = omega arith
-
-    both : nat_lt 0 batch ≡ true → (nat_lt 0 batch && nat_lt (from + k * batch) to) ≡ nat_lt (from + k * batch) to
-    both e = ap (λ b. b && nat_lt (from + k * batch) to) e
+    at : (b c : Bool) → nat_lt 0 batch ≡ b → nat_lt (from + k * batch) to ≡ c
+        → cond (b && c) (Some (k * batch)) None ≡ batch_at from to batch k
+    at b c e f =
+        ap (λ x. cond (x && c) (Some (k * batch)) None) (sym e)
+        ∙ ap (λ x. cond (nat_lt 0 batch && x) (Some (k * batch)) None) (sym f)
 
     some : 0 < batch → slice_get (progression 0 batch (batch_count (from + 0) to batch)) k ≡ batch_at from to batch k
     some h =
-        ap (λ n. slice_get (progression 0 batch (batch_count n to batch)) k) plus ∙ get_left k 0 from to batch h
-        ∙ ap (λ n. cond (nat_lt (from + k * batch) to) (Some n) None) (zero_plus (k * batch))
-        ∙ ap (λ b. cond b (Some (k * batch)) None) (sym (both (lt-ltb 0 batch h)))
+        let q = rounded (to - (from + 0)) batch in
+        ap (λ n. slice_get (progression 0 batch n) k) (count_some (from + 0) to batch h)
+        ∙ ⊎_elim
+        (λ (l : k < q).
+        let whole : (k + 1) * batch ≤ q * batch = grind arith in
+        item_in 0 batch q k l ∙ ap (λ n. Some n) (let z : 0 + k * batch ≡ k * batch = omega arith in z)
+        ∙ at true true (lt-ltb 0 batch h) (lt-ltb (from + k * batch) to (omega arith)))
+        (λ (l : q ≤ k).
+        let whole : q * batch ≤ k * batch = grind arith in
+        item_past 0 batch q k l ∙ at true false (lt-ltb 0 batch h) (le-ltb (from + k * batch) to (omega arith)))
+        (cases_lt k q)
 
     none : batch ≤ 0 → slice_get (progression 0 batch (batch_count (from + 0) to batch)) k ≡ batch_at from to batch k
-    none h = let e : 0 ≡ batch = omega arith in subst (λ b. slice_get (progression 0 b (batch_count (from + 0) to b)) k ≡ batch_at from to b k) e refused
-      where
-        refused : slice_get (progression 0 0 (batch_count (from + 0) to 0)) k ≡ batch_at from to 0 k
-        refused = ap (λ n. slice_get (progression 0 0 n) k) (count_nothing (from + 0) to)
+    none h =
+        let e : batch ≡ 0 = omega arith in
+        ap (λ n. slice_get (progression 0 batch n) k) (ap (batch_count (from + 0) to) e ∙ count_nothing (from + 0) to)
+        ∙ item_past 0 batch 0 k (omega arith) ∙ at false (nat_lt (from + k * batch) to) (le-ltb 0 batch h) refl
 
 -- ---- the iterator
 
@@ -136,7 +117,8 @@ empty_left b e =
 pub next_left : (from to batch offset next : ℕ) → 0 < batch → from + offset < to → to < 2 ^ 64 → next ≡ min (offset + batch) (2 ^ 64 - 1)
     → progression offset batch (batch_count (from + offset) to batch) ≡ offset ∷ progression next batch (batch_count (from + next) to batch)
 next_left from to batch offset next h k fits e =
-    left_some offset (from + offset) to batch h k ∙ ap (λ xs. offset ∷ xs) (⊎_elim inside past (cases_lt (offset + batch) (2 ^ 64)))
+    ap (λ n. progression offset batch n) (count_step (from + offset) to batch h k)
+    ∙ ap (λ xs. offset ∷ xs) (⊎_elim inside past (cases_lt (offset + batch) (2 ^ 64)))
   where
     inside : offset + batch < 2 ^ 64
         → progression (offset + batch) batch (batch_count ((from + offset) + batch) to batch) ≡ progression next batch (batch_count (from + next) to batch)

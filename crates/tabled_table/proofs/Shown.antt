@@ -18,13 +18,22 @@ use Rattle.tabled_base.specs.declared.error.TableError.TheVariants.{ShortWidths}
 use Rattle.tabled_size.specs.Stored.{is_stored}
 use Rattle.tabled_grid.specs.Printed.{IsFailure, Prints}
 use Rattle.tabled_grid.proofs.Printing.{refused_so}
-use Rattle.tabled_table.proofs.Sheets.{sheet_columns, sheet_texts}
+use Rattle.tabled_grid.proofs.ApartPictures.{apart_columns}
+use Rattle.tabled_grid.proofs.Whole.{picture_columns}
 
-pub left_most : (align : Option AlignmentHorizontal) (missing : ℕ) → left_part align missing ≤ missing
+left_most : (align : Option AlignmentHorizontal) (missing : ℕ) → left_part align missing ≤ missing
 left_most None missing = omega arith
 left_most (Some Left) missing = omega arith
 left_most (Some Center) missing = omega arith
 left_most (Some Right) missing = omega arith
+
+-- the sides of a margin grow by what is missing, and their fills are the old ones or the new one
+record Gains (fill missing : ℕ) (old new : Sides Indent) : Type 1 where
+  sum : new.left.size + new.right.size ≡ (old.left.size + old.right.size) + missing
+  top : new.top ≡ old.top
+  bottom : new.bottom ≡ old.bottom
+  left : (P : ℕ → Type 0) → P old.left.fill → P (shown_fill fill) → P new.left.fill
+  right : (P : ℕ → Type 0) → P old.right.fill → P (shown_fill fill) → P new.right.fill
 
 module _ (margin : Sides Indent) (align : Option AlignmentHorizontal) (fill missing : ℕ) where
   abbrev more : Sides Indent
@@ -34,44 +43,16 @@ module _ (margin : Sides Indent) (align : Option AlignmentHorizontal) (fill miss
         right = grown margin.right (missing - left_part align missing) fill;
       }
 
-  -- the sides grow by what is missing
-  pub sides_sum : (widened margin align fill missing).left.size + (widened margin align fill missing).right.size
-      ≡ (margin.left.size + margin.right.size) + missing
-  sides_sum = by_cases (missing == 0) refl
+  gains : Gains fill missing margin (widened margin align fill missing)
+  gains = by_cases (missing == 0) refl
     where
-      by_cases : (b : Bool) → (missing == 0) ≡ b
-          → (cond b margin more).left.size + (cond b margin more).right.size ≡ (margin.left.size + margin.right.size) + missing
-      by_cases true e = let none : missing ≡ 0 = eqb-true missing 0 e in omega arith
-      by_cases false e = let most = left_most align missing in omega arith
-
-  pub top_same : (widened margin align fill missing).top ≡ margin.top
-  top_same = by_cases (missing == 0)
-    where
-      by_cases : (b : Bool) → (cond b margin more).top ≡ margin.top
-      by_cases true = refl
-      by_cases false = refl
-
-  pub bottom_same : (widened margin align fill missing).bottom ≡ margin.bottom
-  bottom_same = by_cases (missing == 0)
-    where
-      by_cases : (b : Bool) → (cond b margin more).bottom ≡ margin.bottom
-      by_cases true = refl
-      by_cases false = refl
-
-  -- their fills are the old ones or the new one
-  pub left_fill : (P : ℕ → Type 0) → P margin.left.fill → P (shown_fill fill) → P (widened margin align fill missing).left.fill
-  left_fill P old new = by_cases (missing == 0)
-    where
-      by_cases : (b : Bool) → P (cond b margin more).left.fill
-      by_cases true = old
-      by_cases false = new
-
-  pub right_fill : (P : ℕ → Type 0) → P margin.right.fill → P (shown_fill fill) → P (widened margin align fill missing).right.fill
-  right_fill P old new = by_cases (missing == 0)
-    where
-      by_cases : (b : Bool) → P (cond b margin more).right.fill
-      by_cases true = old
-      by_cases false = new
+      by_cases : (b : Bool) → (missing == 0) ≡ b → Gains fill missing margin (cond b margin more)
+      by_cases true e =
+          let none : missing ≡ 0 = eqb-true missing 0 e in
+          record { sum = omega arith; top = refl; bottom = refl; left = λ P old new. old; right = λ P old new. old }
+      by_cases false e =
+          let most = left_most align missing in
+          record { sum = omega arith; top = refl; bottom = refl; left = λ P old new. new; right = λ P old new. new }
 
 module _ (config : SpannedConfig) (align : Option AlignmentHorizontal) (fill missing : ℕ) where
   abbrev changed : SpannedConfig
@@ -85,7 +66,7 @@ module _ (config : SpannedConfig) (align : Option AlignmentHorizontal) (fill mis
   -- the whole grows by what is missing
   pub shown_total : (count : ℕ) (widths : List ℕ) → filled_width changed count widths ≡ filled_width config count widths + missing
   unfolding filled_width
-  shown_total count widths = let sum = sides_sum config.margin align fill missing in omega arith
+  shown_total count widths = let sum = (gains config.margin align fill missing).sum in omega arith
 
   -- the sizes that stand are the same ones
   pub shown_widths : (cells : List (List (List ℕ))) (sizes : CompleteDimension)
@@ -115,10 +96,10 @@ module _ (config : SpannedConfig) (align : Option AlignmentHorizontal) (fill mis
       vertical = h.frame.vertical;
       left = h.frame.left;
       right = h.frame.right;
-      margin_left = left_fill config.margin align fill missing IsAdditiveColumn h.frame.margin_left new;
-      margin_right = right_fill config.margin align fill missing IsAdditiveColumn h.frame.margin_right new;
-      margin_top = subst (λ i. IsAdditiveColumn i.fill) (sym (top_same config.margin align fill missing)) h.frame.margin_top;
-      margin_bottom = subst (λ i. IsAdditiveColumn i.fill) (sym (bottom_same config.margin align fill missing)) h.frame.margin_bottom;
+      margin_left = (gains config.margin align fill missing).left IsAdditiveColumn h.frame.margin_left new;
+      margin_right = (gains config.margin align fill missing).right IsAdditiveColumn h.frame.margin_right new;
+      margin_top = subst (λ i. IsAdditiveColumn i.fill) (sym (gains config.margin align fill missing).top) h.frame.margin_top;
+      margin_bottom = subst (λ i. IsAdditiveColumn i.fill) (sym (gains config.margin align fill missing).bottom) h.frame.margin_bottom;
     };
     rules = λ i b line e. h.rules i b line e;
     styles = λ row column p q. plain_style row column (h.styles row column p q);
@@ -132,22 +113,18 @@ module _ (config : SpannedConfig) (align : Option AlignmentHorizontal) (fill mis
   pub shown_apart : (rows count : ℕ) → IsApartConfig config rows count → IsSeparatorColumn (shown_fill fill) → IsApartConfig changed rows count
   unfolding rule_at
   shown_apart rows count h new = record {
-    margin_top = subst (λ i. IsAdditiveColumn i.fill) (sym (top_same config.margin align fill missing)) h.margin_top;
-    margin_bottom = subst (λ i. IsAdditiveColumn i.fill) (sym (bottom_same config.margin align fill missing)) h.margin_bottom;
+    margin_top = subst (λ i. IsAdditiveColumn i.fill) (sym (gains config.margin align fill missing).top) h.margin_top;
+    margin_bottom = subst (λ i. IsAdditiveColumn i.fill) (sym (gains config.margin align fill missing).bottom) h.margin_bottom;
     rules = λ i b line e. h.rules i b line e;
     cells = λ row k. apart_cells count row (h.cells row k);
     frame = record {
       inner = h.frame.inner;
       left = h.frame.left;
       right = h.frame.right;
-      margin_left = left_fill config.margin align fill missing IsSeparatorColumn h.frame.margin_left new;
-      margin_right = right_fill config.margin align fill missing IsSeparatorColumn h.frame.margin_right new;
+      margin_left = (gains config.margin align fill missing).left IsSeparatorColumn h.frame.margin_left new;
+      margin_right = (gains config.margin align fill missing).right IsSeparatorColumn h.frame.margin_right new;
     };
   }
-
--- where nothing is asked for and nothing is missing, the settings are the table's own
-pub unchanged : (config : SpannedConfig) (fill missing : ℕ) → missing ≡ 0 → shown_config config None fill missing ≡ config
-unchanged config fill missing e = ap (λ n. shown_config config None fill n) e
 
 -- ---- what is printed of a table with a width and an alignment of its own
 
@@ -181,8 +158,8 @@ module _ (table : Table) (width : Option ℕ) (align : Option AlignmentHorizonta
       → AreTexts (cells_of table) → Holds (sheet table) → IsSeparatorColumn (shown_fill fill)
       → EachLineTakes (total_width (shown table width align fill)) (picture (shown table width align fill))
   texts_of_shown rectangular config texts holds new =
-      sheet_texts (shown table width align fill) rectangular
-      (shown_apart table.config.config align fill missing (length (cells_of table)) (columns (cells_of table)) config new) texts
+      apart_columns (shown table width align fill)
+      (shown_apart table.config.config align fill missing (length (cells_of table)) (columns (cells_of table)) config new) texts rectangular
       (shown_holds table.config.config align fill missing (cells_of table) table.dimension holds)
 
   -- and where characters are plain
@@ -190,8 +167,8 @@ module _ (table : Table) (width : Option ℕ) (align : Option AlignmentHorizonta
       → AreAdditive (cells_of table) → Holds (sheet table) → IsAdditiveColumn (shown_fill fill)
       → EachLineTakes (total_width (shown table width align fill)) (picture (shown table width align fill))
   columns_of_shown rectangular config texts holds new =
-      sheet_columns (shown table width align fill) rectangular
-      (shown_plain table.config.config align fill missing (length (cells_of table)) (columns (cells_of table)) config new) texts
+      picture_columns (shown table width align fill)
+      (shown_plain table.config.config align fill missing (length (cells_of table)) (columns (cells_of table)) config new) texts rectangular
       (shown_holds table.config.config align fill missing (cells_of table) table.dimension holds)
 
 -- a call that takes memory less often prints as one that may take it more often
@@ -201,19 +178,13 @@ prints_more b c t old new (Ok x) grown p = p
 prints_more b c t old new (Err e) grown p =
     (p.0, ⊎_elim (λ r. inl r) (λ h. ⊎_elim (λ m. inr (inl (grown m.0, m.1, m.2))) (λ s. inr (inr s)) h) p.1)
 
--- what isn't changed takes no more memory than the table does by itself
-pub takes_alike : (table : Table) (width : Option ℕ) (align : Option AlignmentHorizontal) → (is_some align || nat_lt 0 (missing_columns table width)) ≡ false
-    → takes_memory table width align ≡ not (is_stored table.dimension)
-takes_alike table width align e = ap (λ b. b || not (is_stored table.dimension)) e
-
-none_missing : (n : ℕ) → nat_lt 0 n ≡ false → n ≡ 0
-none_missing n e = let most : n ≤ 0 = ltb-false 0 n e in omega arith
-
 -- where nothing is to be changed, the table is shown as it is
 shown_unchanged : (table : Table) (width : Option ℕ) (align : Option AlignmentHorizontal) (fill : ℕ)
     → (is_some align || nat_lt 0 (missing_columns table width)) ≡ false → shown table width align fill ≡ sheet table
 shown_unchanged table width None fill e =
-    ap (λ c. effective (cells_of table) c table.dimension) (unchanged table.config.config fill (missing_columns table width) (none_missing _ e))
+    let most : missing_columns table width ≤ 0 = ltb-false 0 (missing_columns table width) e in
+    let none : missing_columns table width ≡ 0 = omega arith in
+    ap (λ n. effective (cells_of table) (shown_config table.config.config None fill n) table.dimension) none
 shown_unchanged table width (Some alignment) fill e = let no : true ≡ false = e in absurd (cc)
 
 -- a call that is refused for its cause before it prints
@@ -246,7 +217,7 @@ module _ {T : Type 0} (table : Table) (width : Option ℕ) (align : Option Align
       → Prints (not (is_stored table.dimension)) (sheet table) a r b → Prints (takes_memory table width align) (shown table width align fill) a r b
   prints_unchanged b r e p =
       let same = shown_unchanged table width align fill e in
-      let takes = takes_alike table width align e in
+      let takes : takes_memory table width align ≡ not (is_stored table.dimension) = ap (λ b. b || not (is_stored table.dimension)) e in
       subst (λ k. Prints k (shown table width align fill) a r b) (sym takes)
       (subst (λ t. Prints (not (is_stored table.dimension)) t a r b) (sym same) p)
 

@@ -17,7 +17,7 @@ mod row;
 mod settings;
 mod stream;
 
-use crate::iter_table::first_rows::Printer;
+use crate::iter_table::first_rows::print_stream;
 use crate::iter_table::settings::StreamSettings;
 use std::alloc::Global;
 use std::io::Write;
@@ -210,13 +210,8 @@ where
             (Came (I.begins self.records) I.Cell.text) (S.sent sink.old) (S.sent sink.new)) }
     {
         let (config, settings) = (self.config, self.settings);
-        let printer = Printer {
-            alloc,
-            settings: &settings,
-            config: &config,
-        };
         let mut rows = self.records.iter_rows().into_iter();
-        printer.print_stream(sink, &mut rows)
+        print_stream(alloc, &settings, &config, sink, &mut rows)
     }
 
     /// Prints the table to a writer, as `fmt` does to a sink. The writer isn't flushed.

@@ -228,7 +228,7 @@ impl Table {
     ///
     /// Fails with `Memory` only if no widths are stored, with `ShortWidths` if fewer widths are
     /// stored than there are columns, and with `Range` if the sum exceeds `usize::MAX`.
-    #[tactic(auto, using(crate::proofs::Sheets::sheet_columns, crate::proofs::Sheets::sheet_texts))]
+    #[tactic(auto, using(tabled_grid::proofs::Whole::picture_columns, tabled_grid::proofs::ApartPictures::apart_columns))]
     pub fn total_width(&self) -> Result<usize, TableError>
         ensures empty { is_empty (cells_of self.now) ≡ true → result ≡ Ok 0 }
         ensures filled { is_empty (cells_of self.now) ≡ false → ReturnsWidth (sheet self.now).config
@@ -248,7 +248,7 @@ impl Table {
     ///
     /// Fails with `Memory` only if no heights are stored, with `ShortHeights` if fewer heights are
     /// stored than there are rows, and with `Range` if the sum exceeds `usize::MAX`.
-    #[tactic(auto, using(crate::proofs::Sheets::sheet_lines))]
+    #[tactic(auto, using(tabled_grid::proofs::Whole::picture_lines))]
     pub fn total_height(&self) -> Result<usize, TableError>
         ensures empty { is_empty (cells_of self.now) ≡ true → result ≡ Ok 0 }
         ensures filled { is_empty (cells_of self.now) ≡ false

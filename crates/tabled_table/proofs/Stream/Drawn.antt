@@ -9,7 +9,7 @@ use Rattle.tabled_line.specs.Block.{before_text, block, cell_line, fill_above, f
 use Rattle.tabled_line.specs.Row.{cell_piece, piece}
 use Rattle.tabled_line.proofs.Bars.{no-bar}
 use Rattle.tabled_table.specs.Stream.Row.{TakesNoMore}
-use Rattle.tabled_table.proofs.Stream.Widths.{listed, past-list}
+use Rattle.tabled_table.proofs.Stream.Widths.{listed}
 
 -- each of some texts is empty
 abbrev Blank : List (List ℕ) → Type 0
@@ -79,7 +79,7 @@ nothing-further layout height cells column index none known came within =
     let bar : has_bar f column ≡ false = no-bar f column none.bar in
     let width : (layout_row layout height (lengthened layout.count cells)).columns.width column ≡ 0 =
     listed (width_at layout) layout.count column within
-    ∙ ap (λ w. w + layout.side) (past-list layout.contents.items column layout.rest known)
+    ∙ ap (λ w. w + layout.side) (get_or_past layout.contents.items column layout.rest known)
     ∙ (let a = none.rest in let b = none.side in omega arith) in
     let text = filled-at cells (layout.count - length cells) column ∙ get_or_past cells column [] came in
     let F : Bool → ℕ → List ℕ → List ℕ = λ b w t. piece b f.inner.main ++ slice_index_or (block layout.style w height t) index [] in

@@ -1,21 +1,20 @@
 -- What a stream leaves, put together of what its parts left.
 use Rattle.tabled_table.proofs.Names.{AreEnough, AreFirst, AreFurther, AreSniffed, Bool, CompactConfig, EndsSheet, Err, Frame, Halts}
-use Rattle.tabled_table.proofs.Names.{HaltsWithin, HasPut, IsErrAnd, IsInReach, IsLaidOut, IsLimited, IsStreamed, Layout, LineSends}
-use Rattle.tabled_table.proofs.Names.{LineStops, List, MatchResult, Memory, None, Ok, Option, Range, Result, Sends, Sent, Sheet, Some}
-use Rattle.tabled_table.proofs.Names.{Stops, StopsBelow, StreamSettings, StreamStops, Streams, TableError, WritesBelow, WritesLines, []}
-use Rattle.tabled_table.proofs.Names.{ahead, ap, append-nil, append_assoc, arith, column_count, columns, columns_of, false, fill}
-use Rattle.tabled_table.proofs.Names.{filled_picture, filled_width, flat_map, frame, if◌then◌else◌, inl, inr, is_empty, layout_columns}
-use Rattle.tabled_table.proofs.Names.{left_of, length, length-append, limited, lines-finished, lines-stopped-first, lines_above}
-use Rattle.tabled_table.proofs.Names.{lines_after, lines_after-joined, lines_before, max, picture, range_with_len, reaches, refl, replicate}
-use Rattle.tabled_table.proofs.Names.{row_part, rule, rule_at, rule_if, slice_index, sniffed, spanned_of_compact, stream_total}
-use Rattle.tabled_table.proofs.Names.{stream_widths, subst, sym, table_text, take, true, ℕ, ⊎_elim, ◌++◌, ◌<◌, ◌==◌, ◌^◌, ◌||◌, ◌∙◌, ◌∷◌}
-use Rattle.tabled_table.proofs.Names.{◌≡◌, ◌≤◌, ◌⊎◌}
+use Rattle.tabled_table.proofs.Names.{HaltsWithin, HasPut, IsErrAnd, IsInReach, IsLaidOut, IsLimited, IsStreamed, Layout, LineSends, List}
+use Rattle.tabled_table.proofs.Names.{MatchResult, Memory, None, Ok, Option, Range, Result, Sends, Sent, Sheet, Some, Stops, StopsBelow}
+use Rattle.tabled_table.proofs.Names.{StreamSettings, StreamStops, Streams, TableError, WritesBelow, WritesLines, [], ahead, ap, append-nil}
+use Rattle.tabled_table.proofs.Names.{append_assoc, arith, column_count, columns, columns_of, false, fill, filled_picture, filled_width}
+use Rattle.tabled_table.proofs.Names.{flat_map, frame, if◌then◌else◌, inl, inr, is_empty, layout_columns, left_of, length, length-append}
+use Rattle.tabled_table.proofs.Names.{limited, lines_above, lines_after, lines_after-joined, lines_before, max, picture, range_with_len}
+use Rattle.tabled_table.proofs.Names.{reaches, refl, replicate, row_part, rule, rule_at, rule_if, slice_index, sniffed, spanned_of_compact}
+use Rattle.tabled_table.proofs.Names.{stream_total, stream_widths, subst, sym, table_text, take, true, ℕ, ⊎_elim, ◌++◌, ◌<◌, ◌==◌, ◌^◌}
+use Rattle.tabled_table.proofs.Names.{◌||◌, ◌∙◌, ◌∷◌, ◌≡◌, ◌≤◌, ◌⊎◌}
 use Rattle.std.proofs.Common.{drop}
 use Rattle.std.proofs.lemmas.List.{take-append-drop}
 use Rattle.tabled_table.specs.Stream.Printed.{text_above}
 use Rattle.tabled_table.specs.Stream.Progress.{HaltsBefore}
 use Rattle.tabled_table.specs.Stream.Streams.{IsTooHighFirst, IsWholeStream}
-use Rattle.tabled_table.proofs.Stream.Steps.{joined-below, ends-below, stops-first}
+use Rattle.tabled_table.proofs.Stream.Steps.{joined-below, ends-below}
 use Rattle.tabled_table.proofs.Stream.FirstRows.{few-first, few-more, length-limited, limited-more, read-more}
 use Rattle.tabled_table.proofs.Stream.Measures.{columns-laid, not-zero, rule-below}
 
@@ -70,7 +69,7 @@ module _ {settings : StreamSettings} {config : CompactConfig} {ahead_rows : List
       record {
         sheet = no_rows settings config ahead_rows;
         in_reach = none-in-reach settings config ahead_rows;
-        stops = stops-first (subst P (sym (margin-above whole l w)) h.stops);
+        stops = let q = subst P (sym (margin-above whole l w)) h.stops in record { stops = q; more = q.front; out = refl };
       }
 
   whole-picture : {shown : List (List (List ℕ))} (t : Sheet) (whole : ℕ) → IsLaidOut settings config ahead_rows layout
@@ -107,7 +106,7 @@ module _ {settings : StreamSettings} {config : CompactConfig} {ahead_rows : List
       ∙ sym (append_assoc T R (rule_if (layout_columns layout) layout.bottom ++ B layout.frame whole))
 
   -- the end was printed below some rows
-  ended-below : {Q : Type 0} {shown : List (List (List ℕ))} {first begun : Bool} {start old : Sent} (new : Sent) (after : Bool)
+  pub ended-below : {Q : Type 0} {shown : List (List (List ℕ))} {first begun : Bool} {start old : Sent} (new : Sent) (after : Bool)
       (r : Result Q TableError) (whole : ℕ)
       → HasPut settings config ahead_rows shown start layout first old begun → 0 < length shown → 0 < layout.count
       → whole ≡ stream_total settings config ahead_rows
@@ -122,27 +121,6 @@ module _ {settings : StreamSettings} {config : CompactConfig} {ahead_rows : List
         writes = subst P p.laid.count
             (ends-below new after _ (picture p.sheet) r p.sends k (whole-picture p.sheet whole p.laid p.in_reach.streamed h w e));
       }
-
-  pub bottom-put : {Q : Type 0} {shown : List (List (List ℕ))} {first begun between : Bool} {start old mid new : Sent} (after : Bool)
-      (r : Result Q TableError) (whole : ℕ)
-      → HasPut settings config ahead_rows shown start layout first old begun → 0 < length shown → 0 < layout.count
-      → whole ≡ stream_total settings config ahead_rows → LineSends old begun mid between (rule_if (layout_columns layout) layout.bottom)
-      → WritesLines mid between r new after (replicate layout.frame.margin.bottom.size (fill layout.frame.margin.bottom.fill whole))
-      → EndsSheet settings config ahead_rows shown start r new
-  bottom-put {new = new} after r whole p h w e k m =
-      let margin = replicate layout.frame.margin.bottom.size (fill layout.frame.margin.bottom.fill whole) in
-      let end = rule_if (layout_columns layout) layout.bottom ++ margin in
-      ended-below new after r whole p h w e (lines-finished new after margin end r k m refl)
-
-  pub bottom-stopped : {Q : Type 0} {shown : List (List (List ℕ))} {first begun : Bool} {start old new : Sent} (r : Result Q TableError)
-      (error : TableError) (whole : ℕ)
-      → HasPut settings config ahead_rows shown start layout first old begun → 0 < length shown → 0 < layout.count
-      → whole ≡ stream_total settings config ahead_rows → LineStops old begun error new (rule_if (layout_columns layout) layout.bottom)
-      → IsErrAnd r (λ d. d ≡ error) → EndsSheet settings config ahead_rows shown start r new
-  bottom-stopped {new = new} r error whole p h w e k i =
-      let margin = replicate layout.frame.margin.bottom.size (fill layout.frame.margin.bottom.fill whole) in
-      let end = rule_if (layout_columns layout) layout.bottom ++ margin in
-      ended-below new false r whole p h w e (lines-stopped-first false margin end r error k i refl)
 
 high-more : (settings : StreamSettings) (config : CompactConfig) (ahead_rows : List (List (List ℕ))) (index : ℕ) (rest others : List (List (List ℕ)))
     → IsTooHighFirst settings config ahead_rows index rest → IsTooHighFirst settings config ahead_rows index (rest ++ others)
@@ -249,15 +227,6 @@ sniffed-first false f = inr (f.sniffed refl)
 
 module _ {settings : StreamSettings} {config : CompactConfig} {kept : List (List (List ℕ))} {all : Bool} {old new : Sent} (f : AreFirst settings kept all)
     (c : 0 < column_count settings (sniffed settings kept)) (w : stream_total settings config (sniffed settings kept) < 2 ^ 64) where
-  -- printing halted in the rows that were taken first
-  pub halted-first : {e : TableError} (count : ℕ)
-      → Halts settings config (sniffed settings kept) (take count (limited settings.rows kept)) old (column_count settings (sniffed settings kept)) e new
-      → StreamStops settings config kept all old e new
-  halted-first count h =
-      let few = few-first f in
-      halted (take count (limited settings.rows kept)) (drop count (limited settings.rows kept)) (sym (take-append-drop count (limited settings.rows kept)))
-      (omega arith) (sniffed-first all f) c w h
-
   -- it went on behind them
   pub finished : {R : Type 0} (r : Result R TableError) (more : List (List (List ℕ))) (whole : Bool)
       → AreFurther settings.rows (length kept) all (length more) whole
@@ -302,7 +271,11 @@ module _ {settings : StreamSettings} {config : CompactConfig} {kept : List (List
       let H : ℕ → List (List (List ℕ)) → Type 0 = λ k rows. Halts settings config (sniffed settings kept) (take h.0 rows) old k e new in
       let P : List (List (List ℕ)) → Type 0 = λ rows. Streams settings config rows all old r new in
       let laid = subst (λ rows. H (column_count settings (sniffed settings kept)) rows) s (subst (λ k. H k shown) l.count h.1) in
-      subst P (sym (append-nil kept)) (err-streams r e i (halted-first f (some-columns kept l some t b) (in-range kept l some t b) h.0 laid))
+      let rows = limited settings.rows kept in
+      let few = few-first f in
+      subst P (sym (append-nil kept)) (err-streams r e i
+      (halted (take h.0 rows) (drop h.0 rows) (sym (take-append-drop h.0 rows)) (omega arith) (sniffed-first all f)
+      (some-columns kept l some t b) (in-range kept l some t b) laid))
 
   pub put-finished : {R : Type 0} (r : Result R TableError) (more : List (List (List ℕ))) (whole : Bool) (items count : ℕ) → items ≡ length kept
       → count ≡ length more
@@ -325,16 +298,10 @@ pub unplanned : {R : Type 0} {settings : StreamSettings} (config : CompactConfig
     (r : Result R TableError) (e : TableError)
     → AreFirst settings kept all → 0 < column_count settings (sniffed settings kept) → 0 < length (limited settings.rows kept) → IsErrAnd r (λ d. d ≡ e)
     → ((e ≡ Range) × (2 ^ 64 ≤ stream_total settings config (sniffed settings kept))) ⊎ (e ≡ Memory)
-    → Streams settings config (kept ++ []) all old r old
+    → Streams settings config kept all old r old
 unplanned {settings = settings} config {kept} {all} old r e f c s i h =
-    let P : List (List (List ℕ)) → Type 0 = λ rows. Streams settings config rows all old r old in
-    subst P (sym (append-nil kept)) (err-streams r e i (inl (record {
+    err-streams r e i (inl (record {
       same = refl;
       cause = ⊎_elim (λ w. inl (w.0, sniffed-first all f, record { shown = s; columns = c }, w.1))
           (λ m. inr (m, (let most = length-limited settings.rows kept in omega arith))) h;
-    })))
-
--- an allocation failed for a row that was read
-pub unread : {R : Type 0} (settings : StreamSettings) (config : CompactConfig) (rows : List (List (List ℕ))) (old : Sent) (r : Result R TableError) (e : TableError)
-    → 0 < length rows → IsErrAnd r (λ d. d ≡ e) → e ≡ Memory → Streams settings config rows false old r old
-unread settings config rows old r e some i m = err-streams r e i (inl (record { same = refl; cause = inr (m, some) }))
+    }))

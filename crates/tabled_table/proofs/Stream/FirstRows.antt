@@ -69,16 +69,18 @@ shown-some : (settings : StreamSettings) (rows : List (List (List ℕ))) → 0 <
 shown-some settings rows c = ap (λ b. if b then [] else limited settings.rows rows) (not-zero (column_count settings (sniffed settings rows)) c)
 
 -- rows that were taken are the first ones
-pub taken-first : (settings : StreamSettings) (kept : List (List (List ℕ))) (all : Bool) (count items : ℕ) → length kept ≡ items → items ≤ count
-    → (all ≡ false → items ≡ count) → ahead settings ≤ count
+pub taken-first : {T : Type 0} (settings : StreamSettings) (text : T → List ℕ) (rows : List (List T)) (all : Bool) (count : ℕ)
+    → length rows ≤ count → (all ≡ false → length rows ≡ count) → ahead settings ≤ count
     → (count ≡ ahead settings)
     ⊎ ((ahead settings ≡ 0) × (count ≡ 1) × (0 < unwrap_or settings.columns 0) × (settings.rows ≢ Some 0))
-    → (count ≡ 0 → (unwrap_or settings.columns 0 ≡ 0) ⊎ (settings.rows ≡ Some 0)) → AreFirst settings kept all
-taken-first settings kept all count items long most full enough needed none = record {
-  sniffed = λ opened. let e = full opened in omega arith;
-  needed = ⊎_elim (λ (e : count ≡ ahead settings). inl (omega arith)) (λ h. let e = h.1 in inr (omega arith, h.2, h.3)) needed;
-  none = λ opened l. let e = full opened in none (omega arith);
-}
+    → (count ≡ 0 → (unwrap_or settings.columns 0 ≡ 0) ⊎ (settings.rows ≡ Some 0)) → AreFirst settings (map (map text) rows) all
+taken-first settings text rows all count most full enough needed none =
+    let long = length-map rows (map text) in
+    record {
+      sniffed = λ opened. let e = full opened in omega arith;
+      needed = ⊎_elim (λ (e : count ≡ ahead settings). inl (omega arith)) (λ h. let e = h.1 in inr (omega arith, h.2, h.3)) needed;
+      none = λ opened l. let e = full opened in none (omega arith);
+    }
 
 read-by : (settings : StreamSettings) (kept more : List (List (List ℕ))) (whole all : Bool) → AreFirst settings kept all
     → AreFurther settings.rows (length kept) all (length more) whole

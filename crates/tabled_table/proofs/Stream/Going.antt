@@ -1,11 +1,11 @@
 -- How a stream goes on behind the rows that were taken first.
-use Rattle.tabled_table.proofs.Names.{AreFurther, ArePermitted, Bool, CompactConfig, EndsSheet, Err, Halts, HaltsWithin, HasPut, HasPutMore}
-use Rattle.tabled_table.proofs.Names.{IsErrAnd, IsLimited, IsPermitted, Layout, List, MatchOption, MatchResult, Memory, None, Ok, Option}
-use Rattle.tabled_table.proofs.Names.{PutsNext, Reads, ReadsTo, Result, Sent, Some, StreamSettings, Streams, TableError, [], ap, append-nil}
-use Rattle.tabled_table.proofs.Names.{append_assoc, arith, cases_lt, column_count, content_height, false, get_or, if◌then◌else◌, inl, inr}
-use Rattle.tabled_table.proofs.Names.{is_some, left_of, length, length-append, length-take, map, map-append, nat_lt, nat_tests, not}
-use Rattle.tabled_table.proofs.Names.{reads-both, refl, stream_total, subst, sym, take, take_more, tallest, true, unwrap_or, ℕ, ⊎_elim}
-use Rattle.tabled_table.proofs.Names.{◌++◌, ◌+◌, ◌-◌, ◌<◌, ◌||◌, ◌∙◌, ◌∷◌, ◌≡◌, ◌≤◌, ◌⊎◌}
+use Rattle.tabled_table.proofs.Names.{AreFurther, Bool, CompactConfig, EndsSheet, Err, Halts, HasPut, HasPutMore, IsErrAnd, IsLimited}
+use Rattle.tabled_table.proofs.Names.{IsPermitted, Layout, List, MatchOption, MatchResult, Memory, None, Ok, Option, PutsNext, Reads}
+use Rattle.tabled_table.proofs.Names.{ReadsTo, Result, Sent, Some, StreamSettings, TableError, [], ap, append-nil, append_assoc, arith}
+use Rattle.tabled_table.proofs.Names.{cases_lt, column_count, content_height, false, get_or, if◌then◌else◌, inl, inr, is_some, left_of}
+use Rattle.tabled_table.proofs.Names.{length, length-append, length-take, nat_lt, nat_tests, not, reads-both, refl, stream_total, subst}
+use Rattle.tabled_table.proofs.Names.{sym, take, take_more, tallest, true, unwrap_or, ℕ, ⊎_elim, ◌++◌, ◌+◌, ◌-◌, ◌<◌, ◌||◌, ◌∙◌, ◌∷◌, ◌≡◌}
+use Rattle.tabled_table.proofs.Names.{◌≤◌, ◌⊎◌}
 use Rattle.std.proofs.Common.{IfErr}
 use Rattle.std.proofs.lemmas.Bool.{or_right}
 use Rattle.tabled_table.specs.Stream.Progress.{FinishesBehind, HaltsMore, ReadsOn, PutsRows}
@@ -51,21 +51,6 @@ module _ {S W T A : Type 0} {steps : S → Option W → S → Type 0} {becomes :
         further = m.further;
       }
 
-  -- all that was read: the rows that were taken first, and those after them
-  pub all-read : {R : Type 0} (settings : StreamSettings) (config : CompactConfig) (old new : Sent) (r : Result R TableError) (text : A → List ℕ)
-      (items : List (List A)) (more : List (List A)) (all whole : Bool) (from between to : S)
-      → ReadsTo steps becomes cell_steps from items all between
-      → ReadsOn steps becomes cell_steps items all between more whole to
-      → ArePermitted settings (map (map text) items ++ map (map text) more)
-      → Streams settings config (map (map text) items ++ map (map text) more) whole old r new
-      → (cells : List (List A)) × (last : Bool) × ReadsTo steps becomes cell_steps from cells last to
-      × ArePermitted settings (map (map text) cells) × Streams settings config (map (map text) cells) last old r new
-  all-read settings config old new r text items more all whole from between to read on permitted streams =
-      let texts : map (map text) (items ++ more) ≡ map (map text) items ++ map (map text) more = map-append (map text) items more in
-      let P : List (List (List ℕ)) → Type 0 = ArePermitted settings in
-      let Q : List (List (List ℕ)) → Type 0 = λ rows. Streams settings config rows whole old r new in
-      (items ++ more, whole, on from read, subst P (sym texts) permitted, subst Q (sym texts) streams)
-
 module _ {R : Type 0} {layout : Layout} {first begun : Bool} {old new : Sent} {left : Option ℕ} {lines total : ℕ} {r : Result R TableError} where
   -- the end of the table follows
   pub behind-ending : (all : Bool) → (all ≡ true) ⊎ (left ≡ Some 0)
@@ -82,11 +67,6 @@ module _ {R : Type 0} {layout : Layout} {first begun : Bool} {old new : Sent} {l
 pub err-and : {R E : Type 0} (r : Result R E) (e : E) (Q : E → Type 0) → IsErrAnd r (λ d. d ≡ e) → Q e → IsErrAnd r Q
 err-and (Ok x) e Q i q = absurd i
 err-and (Err d) e Q i q = subst Q (sym i) q
-
--- printing halts in the top margin
-pub halts-top : {settings : StreamSettings} {config : CompactConfig} {ahead_rows : List (List (List ℕ))} {start new : Sent} {count : ℕ} {e : TableError}
-    → HaltsWithin settings config ahead_rows [] start count e new → Halts settings config ahead_rows [] start count e new
-halts-top h = record { shown = []; rest = []; parts = refl; halts = inr (refl, h) }
 
 -- further rows are printed
 module _ {R : Type 0} {layout : Layout} {first begun : Bool} {old new : Sent} (limit : Option ℕ) (lines total : ℕ) (whole : Bool)

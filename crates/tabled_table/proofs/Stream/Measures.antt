@@ -1,13 +1,13 @@
 -- What is measured of rows, cell by cell and row by row.
 use Rattle.tabled_table.proofs.Names.{AreFirst, CellStyle, ColumnSheet, CompactConfig, HorizontalLine, IsCutRow, IsLaidOut, IsStreamed}
 use Rattle.tabled_table.proofs.Names.{Layout, List, MatchOption, None, Option, Sheet, Some, StreamSettings, [], ahead, ap, arith}
-use Rattle.tabled_table.proofs.Names.{below_more, cases_lt, cell_at, column_count, columns, columns_of, content_width, each-more, false}
-use Rattle.tabled_table.proofs.Names.{fits-none, flat_map, frame, get_or, get_or-map, greatest, if◌then◌else◌, layout_columns, length}
-use Rattle.tabled_table.proofs.Names.{length-map, length-take, limited, lines_of, longest, map, map-append, mapped_same, max, min}
-use Rattle.tabled_table.proofs.Names.{nat_tests, range_with_len, record_lines, refl, row_lines, row_part, rule, rule_at, rule_if, rule_of}
-use Rattle.tabled_table.proofs.Names.{slice_index, slice_index_or, sniffed, spanned_of_compact, stream_width, stream_widths, style_at, suc}
-use Rattle.tabled_table.proofs.Names.{sym, take, take_all, take_more, tallest, text_columns, true, widest, width_at, zero, ℕ, ⊎_elim, ◌++◌}
-use Rattle.tabled_table.proofs.Names.{◌+◌, ◌<◌, ◌==◌, ◌∙◌, ◌∷◌, ◌≡◌, ◌≢◌, ◌≤◌}
+use Rattle.tabled_table.proofs.Names.{below_more, cases_lt, cell_at, get_or_past, column_count, columns, columns_of, content_width}
+use Rattle.tabled_table.proofs.Names.{each-more, false, fits-none, flat_map, frame, get_or, get_or-map, greatest, if◌then◌else◌}
+use Rattle.tabled_table.proofs.Names.{layout_columns, length, length-map, length-take, limited, lines_of, longest, map, map-append}
+use Rattle.tabled_table.proofs.Names.{mapped_same, max, min, nat_tests, range_with_len, record_lines, refl, row_lines, row_part, rule}
+use Rattle.tabled_table.proofs.Names.{rule_at, rule_if, rule_of, slice_index, slice_index_or, sniffed, spanned_of_compact, stream_width}
+use Rattle.tabled_table.proofs.Names.{stream_widths, style_at, suc, sym, take, take_all, take_more, tallest, text_columns, true, widest}
+use Rattle.tabled_table.proofs.Names.{width_at, zero, ℕ, ⊎_elim, ◌++◌, ◌+◌, ◌<◌, ◌==◌, ◌∙◌, ◌∷◌, ◌≡◌, ◌≢◌, ◌≤◌}
 use Rattle.std.specs.Prelude.{Bool, unwrap_or}
 use Rattle.std.proofs.lemmas.Simd.{map-map}
 use Rattle.tabled_base.proofs.Lengthening.{length-lengthened}
@@ -130,11 +130,9 @@ mapped-as f g h [] = refl
 mapped-as f g h (x ∷ xs) = ap (λ y. y ∷ map f xs) (h x) ∙ ap (λ ys. g x ∷ ys) (mapped-as f g h xs)
 
 pub take-min : {A : Type 0} (n : ℕ) (xs : List A) → take (min n (length xs)) xs ≡ take n xs
-take-min zero xs = let e : min zero (length xs) ≡ zero = omega arith in ap (λ k. take k xs) e
-take-min {A = A} (suc n) [] = let e : min (suc n) zero ≡ zero = omega arith in ap (λ k. take {A = A} k []) e
-take-min (suc n) (x ∷ xs) =
-    let e : min (suc n) (suc (length xs)) ≡ suc (min n (length xs)) = omega arith in
-    ap (λ k. take k (x ∷ xs)) e ∙ ap (λ l. x ∷ l) (take-min n xs)
+take-min n xs =
+    ⊎_elim (λ (l : n < length xs). ap (λ k. take k xs) (let e : min n (length xs) ≡ n = omega arith in e))
+    (λ (l : length xs ≤ n). take_all (min n (length xs)) xs (omega arith) ∙ sym (take_all n xs l)) (cases_lt n (length xs))
 
 -- a row further: what its cells' texts are
 module _ {T : Type 0} (text : T → List ℕ) where
@@ -170,14 +168,6 @@ module _ {T : Type 0} (text : T → List ℕ) where
 
 -- ---- what each column leaves, a cell further
 
-past-end : {A : Type 0} (xs : List A) (k : ℕ) (d : A) → length xs ≤ k → get_or xs k d ≡ d
-past-end [] k d h = refl
-past-end (x ∷ xs) zero d h = absurd (omega arith)
-past-end (x ∷ xs) (suc k) d h = past-end xs k d (omega arith)
-
-columns-none : text_columns [] ≡ 0
-columns-none = let h = (fits-none 0).columns in omega arith
-
 pub widen-done : (old mid new : List ℕ) (n v : ℕ) (f : ℕ → ℕ) → ((k : ℕ) → k < n → get_or mid k 0 ≡ max (get_or old k 0) (f k))
     → ((k : ℕ) → n ≤ k → get_or mid k 0 ≡ get_or old k 0) → get_or new n 0 ≡ max (get_or mid n 0) v
     → ((k : ℕ) → k ≢ n → get_or new k 0 ≡ get_or mid k 0) → v ≡ f n → (k : ℕ) → k < n + 1 → get_or new k 0 ≡ max (get_or old k 0) (f k)
@@ -192,7 +182,8 @@ pub widen-all : (old new : List ℕ) (texts : List (List ℕ)) (m count : ℕ)
 widen-all old new texts m count done kept w k h =
     ⊎_elim (λ l. done k l)
     (λ (l : m ≤ k).
-    let none : text_columns (get_or texts k []) ≡ 0 = ap text_columns (past-end texts k [] (omega arith)) ∙ columns-none in
+    let none = ap text_columns (get_or_past texts k [] (omega arith)) in
+    let empty = (fits-none 0).columns in
     let same = kept k l in omega arith) (cases_lt k m)
 
 -- ---- rows that were taken: their first ones, as texts

@@ -13,14 +13,12 @@ use Rattle.tabled_text.proofs.Bridge.{some_line}
 use Rattle.tabled_size.specs.Estimates.{needed_height, row_height}
 use Rattle.tabled_size.specs.Sheet.{estimated}
 use Rattle.tabled_size.proofs.Greatest.{greatest_below, greatest_ge, greatest_more}
-use Rattle.tabled_text.specs.Exact.{IsExactLine}
 use Rattle.tabled_table.specs.Stream.LikeTable.{AreMeasured, IsLikeTable, PrintsLikeTable}
 use Rattle.tabled_text.proofs.ExactLines.{exact-kept}
 use Rattle.tabled_table.proofs.Stream.Measures.{greatest-next}
 
 -- ---- lists
 
--- a text has a line
 -- the greatest of what a function makes of a list, by its places
 greatest-listed : {A : Type 0} (f : A → ℕ) (xs : List A) (d : A) (n : ℕ) → n ≤ length xs → greatest_below (λ k. f (get_or xs k d)) n ≡ greatest (map f (take n xs))
 greatest-listed f xs d zero h = refl
@@ -59,9 +57,6 @@ module _ {settings : StreamSettings} {rows : List (List (List ℕ))} (a : AreMea
       let given : is_some settings.columns ≡ false = ap is_some a.no_columns in
       let sniff = a.sniffed in
       ap (λ b. take (if b && is_some settings.columns then 0 else settings.sniff) rows) wide ∙ take_all settings.sniff rows (omega arith)
-
-  pub all-shown : limited settings.rows rows ≡ rows
-  all-shown = ap (λ limit. limited limit rows) a.no_rows
 
   row-long : (index : ℕ) → index < length rows → length (get_or rows index []) ≡ columns rows
   row-long index b = a.rectangular index [] b
@@ -170,9 +165,6 @@ module _ {settings : StreamSettings} {rows : List (List (List ℕ))} (a : AreMea
 -- ---- rows that make a stream like a table
 
 module _ {settings : StreamSettings} {rows : List (List (List ℕ))} (a : IsLikeTable settings rows) where
-  cell-exact : (index column : ℕ) → index < length rows → column < columns rows → IsExactLine (get_or (get_or rows index []) column [])
-  cell-exact index column b c = a.exact index [] b column [] (let l = a.measured.rectangular index [] b in omega arith)
-
   -- no cell is cut
   row-kept : (index : ℕ) (cells : List (List ℕ)) → index < length rows
       → IsCutRow (content_width settings rows) (column_count settings rows) (get_or rows index []) cells → cells ≡ get_or rows index []
@@ -183,7 +175,7 @@ module _ {settings : StreamSettings} {rows : List (List (List ℕ))} (a : IsLike
       let many = cut.1 in
       cut.0
       ∙ ext_get_or [] c.cut row (omega arith)
-      (λ k l. exact-kept (content_width settings rows k) (get_or row k []) (get_or c.cut k []) (cell-exact index k b (omega arith)) (cell-room a.measured index k b) (c.each k l))
+      (λ k l. exact-kept (content_width settings rows k) (get_or row k []) (get_or c.cut k []) (a.exact index [] b k [] (omega arith)) (cell-room a.measured index k b) (c.each k l))
 
   module _ (config : CompactConfig) where
     same-sheet : (t : Sheet) → IsStreamed settings config rows rows t → t ≡ estimated rows (spanned_of_compact config)
@@ -198,7 +190,7 @@ module _ {settings : StreamSettings} {rows : List (List (List ℕ))} (a : IsLike
     pub like_table : (t : Sheet) → IsStreamed settings config (sniffed settings rows) (limited settings.rows rows) t → t ≡ estimated rows (spanned_of_compact config)
     like_table t s =
         let P : List (List (List ℕ)) → List (List (List ℕ)) → Type 0 = λ x y. IsStreamed settings config x y t in
-        same-sheet t (subst (λ x. P x rows) (all-sniffed a.measured) (subst (λ y. P (sniffed settings rows) y) (all-shown a.measured) s))
+        same-sheet t (subst (λ x. P x rows) (all-sniffed a.measured) (subst (λ y. P (sniffed settings rows) y) (ap (λ limit. limited limit rows) a.measured.no_rows) s))
 
   -- ---- what was printed
 

@@ -1,16 +1,15 @@
 -- A table that is printed, one row further.
-use Rattle.tabled_table.proofs.Names.{Bool, CompactConfig, Err, Halts, HaltsWithin, HasPut, IsCut, IsCutRow, IsErrAnd}
-use Rattle.tabled_table.proofs.Names.{IsInReach, IsLaidOut, IsStreamed, Layout, LineSends, LineStops, List, Memory, Ok, PutsNext}
-use Rattle.tabled_table.proofs.Names.{Range, Result, Sends, Sent, Sheet, Stops, StopsBelow, StreamSettings, TableError, WritesBelow}
-use Rattle.tabled_table.proofs.Names.{WritesLines, [], ap, append-nil, append_assoc, arith, below_more, column_count, content_at}
-use Rattle.tabled_table.proofs.Names.{content_height, content_width, each-more, false, fill, filled_width, flat_map, frame, get_or}
-use Rattle.tabled_table.proofs.Names.{get_or-append_right, get_or_append_left, inl, inr, join_with_byte, length}
-use Rattle.tabled_table.proofs.Names.{get_or-take, length-append, length-map, length-take, lengthened, lines_above, lines_after, map, take}
-use Rattle.tabled_table.proofs.Names.{lines_after-append, lines_after-joined, lines_before, min, range_with_len, record_lines, refl}
-use Rattle.tabled_table.proofs.Names.{replicate, row_part, rule_of, sends-along, stream_height, subst, sym}
-use Rattle.tabled_table.proofs.Names.{ℕ, ⊎_elim, ◌++◌, ◌+◌, ◌-◌, ◌<◌, ◌==◌, ◌^◌, ◌∙◌, ◌∷◌, ◌≡◌, ◌≤◌, ◌⊎◌}
+use Rattle.tabled_table.proofs.Names.{Bool, CompactConfig, Err, Halts, HaltsWithin, HasPut, IsCut, IsCutRow, IsErrAnd, IsInReach, IsLaidOut}
+use Rattle.tabled_table.proofs.Names.{IsStreamed, Layout, LineSends, LineStops, List, Memory, Ok, PutsNext, Range, Result, Sends, Sent}
+use Rattle.tabled_table.proofs.Names.{Sheet, Stops, StopsBelow, StreamSettings, TableError, WritesBelow, WritesLines, [], ap, append-nil}
+use Rattle.tabled_table.proofs.Names.{append_assoc, arith, below_more, column_count, content_at, content_height, content_width, each-more}
+use Rattle.tabled_table.proofs.Names.{false, fill, filled_width, flat_map, frame, get_or, get_or_append_left, inl, inr, join_with_byte}
+use Rattle.tabled_table.proofs.Names.{length, get_or-take, length-append, length-map, length-take, lengthened, lines_above, lines_after}
+use Rattle.tabled_table.proofs.Names.{map, take, lines_after-append, lines_after-joined, lines_before, min, range_with_len, record_lines}
+use Rattle.tabled_table.proofs.Names.{refl, replicate, row_part, rule_of, sends-along, stream_height, subst, sym, ℕ, ⊎_elim, ◌++◌, ◌+◌, ◌<◌}
+use Rattle.tabled_table.proofs.Names.{◌==◌, ◌^◌, ◌∙◌, ◌∷◌, ◌≡◌, ◌≤◌, ◌⊎◌}
 use Rattle.std.proofs.Common.{add-one, OnOk}
-use Rattle.std.proofs.lemmas.List.{take-map}
+use Rattle.std.proofs.lemmas.List.{get_or_push, take-map}
 use Rattle.tabled_line.proofs.Leading.{lines-further}
 use Rattle.tabled_table.specs.Stream.Row.{PutsCut}
 use Rattle.tabled_table.proofs.Stream.WholeTexts.{IsCutAs, above-kept, chosen-first, followed, followed-streamed, part-kept}
@@ -18,10 +17,6 @@ use Rattle.tabled_table.proofs.Stream.Measures.{flat_map-same, not-zero, part-la
 use Rattle.tabled_line.proofs.Sending.{Appends-then, stops-then}
 
 -- ---- texts that are sent below lines that are out
-
--- nothing stands above
-pub stops-first : {a c : Sent} {e : TableError} {text : List ℕ} → Stops a e c text → StopsBelow [] a e c text
-stops-first q = record { stops = q; more = q.front; out = refl }
 
 -- what was sent stands above
 pub stops-below : {a b c : Sent} {e : TableError} {s t : List ℕ} (whole : List ℕ) → Sends a b s → Stops b e c t → whole ≡ s ++ t
@@ -66,18 +61,13 @@ ends-below {xs = xs} c after ys whole (Err e) h k w = joined-below xs whole (lin
 
 -- ---- rows that are cut and printed
 
-pub pushed-at : {A : Type 0} (xs : List A) (y d : A) (n : ℕ) → length xs ≡ n → get_or (xs ++ y ∷ []) n d ≡ y
-pushed-at xs y d n e = get_or-append_right xs (y ∷ []) n n d e (omega arith) ∙ ap (λ k. get_or (y ∷ []) k d) (let z : n - n ≡ 0 = omega arith in z)
-
-pub pushed-before : {A : Type 0} (xs : List A) (y d : A) (n k : ℕ) → length xs ≡ n → k < n → get_or (xs ++ y ∷ []) k d ≡ get_or xs k d
-pushed-before xs y d n k e h = get_or_append_left xs (y ∷ []) d k (omega arith)
-
 -- what holds of each entry holds of each of one more
 pub each-pushed : {A : Type 0} (P : ℕ → A → Type 0) (xs : List A) (y d : A) (n : ℕ) → length xs ≡ n
     → ((k : ℕ) → k < n → P k (get_or xs k d)) → P n y → (k : ℕ) → k < n + 1 → P k (get_or (xs ++ y ∷ []) k d)
 each-pushed P xs y d n e before here =
     below_more (λ k. P k (get_or (xs ++ y ∷ []) k d)) n
-    (λ k h. subst (P k) (sym (pushed-before xs y d n k e h)) (before k h)) (subst (P n) (sym (pushed-at xs y d n e)) here)
+    (λ k h. subst (P k) (sym (get_or_append_left xs (y ∷ []) d k (omega arith))) (before k h))
+    (subst (P n) (sym (get_or_push xs y d n e)) here)
 
 -- the first cells are cut, and the row is filled up
 pub cut_first : {A : Type 0} (text : A → List ℕ) (content : ℕ → ℕ) (count m : ℕ) (cells first : List A) (cut : List (List ℕ))
@@ -141,8 +131,8 @@ module _ {settings : StreamSettings} {config : CompactConfig} {ahead_rows : List
       let old : (k : ℕ) → k < n → row_part u k ≡ row_part t k = part-kept (cells ∷ []) (height ∷ []) s in
       let last : row_part u n ≡ L n cells height =
       part-laid l m n (omega arith)
-      ∙ ap (λ h. L n (get_or (t.cells ++ cells ∷ []) n []) h) (pushed-at t.heights height 0 n s.as_high)
-      ∙ ap (λ r. L n r height) (pushed-at t.cells cells [] n s.as_many) in
+      ∙ ap (λ h. L n (get_or (t.cells ++ cells ∷ []) n []) h) (get_or_push t.heights height 0 n s.as_high)
+      ∙ ap (λ r. L n r height) (get_or_push t.cells cells [] n s.as_many) in
       ap (λ x. above ++ x) (each-more (row_part u) n ∙ ap (λ x. x ++ row_part u n) (flat_map-same (row_part u) (row_part t) n old)
       ∙ ap (λ x. flat_map (row_part t) (range_with_len 0 n) ++ x) last)
       ∙ sym (append_assoc above (flat_map (row_part t) (range_with_len 0 n)) (L n cells height))

@@ -1,7 +1,7 @@
 -- Streams that are printed to a borrowed writer.
 use Rattle.tabled_table.proofs.Names.{ArePermitted, Bool, CompactConfig, Err, List, MayGive, Memory, None, Ok, Option, PrintsStream, Range}
 use Rattle.tabled_table.proofs.Names.{ReadsTo, Result, Sent, StopsBelow, StreamSettings, StreamStops, Streams, TableError, inl, inr, map}
-use Rattle.tabled_table.proofs.Names.{refl, subst, ℕ, ⊎_elim, ◌∙◌, ◌≡◌}
+use Rattle.tabled_table.proofs.Names.{refl, ℕ, ⊎_elim, ◌∙◌, ◌≡◌}
 use Rattle.tabled_base.specs.declared.error.TableError.TheVariants.{Writer}
 use Rattle.tabled_line.specs.WriterSent.{named_sent}
 use Rattle.tabled_line.proofs.Writers.{LeavesSo, byte_of, writer-leaves, writer-sends}
@@ -51,11 +51,11 @@ stops-so {a} {b} {a'} {b'} {e} settings config rows whole so h =
     ⊎_elim (λ p. inl (early p)) (λ q. inr (⊎_elim (λ p. inl (at_row p)) (λ r. inr (⊎_elim (λ p. inl (in_rows p)) (λ p. inr (at_end p)) r)) q)) h
 
 -- what the sink of a borrowed writer was sent, the writer took, if it is the one that is known in the end
-written : (settings : StreamSettings) (config : CompactConfig) (comes : List (List (List ℕ)) → Bool → Type 0)
+pub prints-written : (settings : StreamSettings) (config : CompactConfig) (comes : List (List (List ℕ)) → Bool → Type 0)
     (na nb : ℕ) (ca cb cf : Option (List ℕ)) (failed_at : Option ℕ) (r : Result (Unit {0}) TableError) → (nb ≡ na → cf ≡ cb)
     → PrintsStream settings config comes (named_sent na ca None) r (named_sent nb cb failed_at)
     → BuildsStream settings config comes ca r cf
-written settings config comes na nb ca cb cf failed_at (Ok x) k p = (
+prints-written settings config comes na nb ca cb cf failed_at (Ok x) k p = (
   0,
   record {
     rows = p.rows;
@@ -70,7 +70,7 @@ written settings config comes na nb ca cb cf failed_at (Ok x) k p = (
     };
   },
 )
-written settings config comes na nb ca cb cf failed_at (Err e) k p = (
+prints-written settings config comes na nb ca cb cf failed_at (Err e) k p = (
   byte_of failed_at,
   record {
     rows = p.rows;
@@ -80,15 +80,6 @@ written settings config comes na nb ca cb cf failed_at (Err e) k p = (
     streams = stops-so settings config p.rows p.whole (writer-leaves na nb ca cb cf failed_at e k) p.streams;
   },
 )
-
-pub prints-written : (settings : StreamSettings) (config : CompactConfig) (comes : List (List (List ℕ)) → Bool → Type 0)
-    (na nb : ℕ) (ca held cb cf : Option (List ℕ)) (was failed_at : Option ℕ) (r : Result (Unit {0}) TableError) → was ≡ None
-    → held ≡ ca → (nb ≡ na → cf ≡ cb) → PrintsStream settings config comes (named_sent na held was) r (named_sent nb cb failed_at)
-    → BuildsStream settings config comes ca r cf
-prints-written settings config comes na nb ca held cb cf was failed_at r unfailed same k p =
-    let P : Option ℕ → Type 0 = λ o. PrintsStream settings config comes (named_sent na held o) r (named_sent nb cb failed_at) in
-    let Q : Option (List ℕ) → Type 0 = λ h. PrintsStream settings config comes (named_sent na h None) r (named_sent nb cb failed_at) in
-    written settings config comes na nb ca cb cf failed_at r k (subst Q same (subst P unfailed p))
 
 -- ---- what is read of a source, told of the iterator that it makes
 

@@ -1,8 +1,8 @@
 -- Widths that are listed and summed up.
-use Rattle.tabled_table.proofs.Names.{CompactConfig, Frame, IsLaidOut, Layout, List, MatchOption, None, Option, Some, StreamSettings, []}
-use Rattle.tabled_table.proofs.Names.{ap, arith, column_count, filled_width, frame, get_or, get_or-map-range_with_len, length, map, min}
-use Rattle.tabled_table.proofs.Names.{range_with_len, refl, slice_index, spanned_of_compact, stream_total, stream_width, stream_widths, suc}
-use Rattle.tabled_table.proofs.Names.{sum_below, sum_step, sym, width_at, zero, ℕ, ◌*◌, ◌+◌, ◌-◌, ◌<◌, ◌^◌, ◌∙◌, ◌∷◌, ◌≡◌, ◌≤◌}
+use Rattle.tabled_table.proofs.Names.{CompactConfig, Frame, IsLaidOut, Layout, List, MatchOption, None, Option, Some, StreamSettings}
+use Rattle.tabled_table.proofs.Names.{get_or_past, ap, arith, column_count, filled_width, frame, get_or-map-range_with_len, length, map}
+use Rattle.tabled_table.proofs.Names.{min, range_with_len, refl, slice_index, spanned_of_compact, stream_total, stream_width, stream_widths}
+use Rattle.tabled_table.proofs.Names.{suc, sum_below, sum_step, sym, width_at, zero, ℕ, ◌*◌, ◌+◌, ◌-◌, ◌<◌, ◌^◌, ◌∙◌, ◌≡◌, ◌≤◌}
 use Rattle.std.proofs.Common.{Bool, false, true, zero-add}
 use Rattle.std.specs.Int.{from_bool}
 use Rattle.tabled_priority.specs.Laws.Sums.{sum_below-same}
@@ -11,11 +11,6 @@ use Rattle.tabled_table.specs.Stream.Row.{layout_total}
 
 pub listed : (f : ℕ → ℕ) (n k : ℕ) → k < n → slice_index (map f (range_with_len 0 n)) k ≡ f k
 listed f n k h = get_or-map-range_with_len f 0 n k k 0 h (zero-add k)
-
--- some times a number are at least the number
-pub at_least : (times n : ℕ) → 0 < times → n ≤ times * n
-at_least zero n h = absurd (omega arith)
-at_least (suc k) n h = omega arith
 
 pub none-of : (o : Option ℕ) (n : ℕ) → o ≡ None → 2 ^ 64 ≤ n → MatchOption o (2 ^ 64 ≤ n) (λ k. k ≡ n)
 none-of None n e h = h
@@ -29,11 +24,6 @@ sum-same f n (suc k) w h =
     let here = h (n + k) (omega arith) in
     ap (sum_below f) step ∙ (let e : sum_below f (n + k) + f (n + k) ≡ sum_below f n + suc k * w = omega arith in e)
 
-pub past-list : (xs : List ℕ) (k d : ℕ) → length xs ≤ k → get_or xs k d ≡ d
-past-list [] k d h = refl
-past-list (x ∷ xs) zero d h = absurd (omega arith)
-past-list (x ∷ xs) (suc k) d h = past-list xs k d (omega arith)
-
 -- the widths of all columns are those of the known ones and of the others
 pub sum-widths : (layout : Layout) (known more : ℕ) → known ≡ min layout.count (length layout.contents.items) → more ≡ layout.count - known
     → sum_below (width_at layout) layout.count ≡ sum_below (width_at layout) known + more * (layout.rest + layout.side)
@@ -45,7 +35,7 @@ sum-widths layout known (suc more) k m =
     let e : layout.count ≡ known + suc more = omega arith in
     ap (sum_below (width_at layout)) e
     ∙ sum-same (width_at layout) known (suc more) (layout.rest + layout.side)
-    (λ n h. ap (λ c. c + layout.side) (past-list layout.contents.items n layout.rest (omega arith)))
+    (λ n h. ap (λ c. c + layout.side) (get_or_past layout.contents.items n layout.rest (omega arith)))
 
 -- a column is no wider than the whole
 pub width-in-total : (layout : Layout) (column : ℕ) → column < layout.count → width_at layout column ≤ layout_total layout

@@ -37,16 +37,11 @@ pub(crate) struct Layout {
     ghost uniform_is: { IfSome uniform (IsUniform style) } by { Prim.hlevel props },
 }
 
-/// Returns `sum + times * (first + second)`; `None` if it exceeds `usize::MAX`.
-#[tactic(auto, using(crate::proofs::Stream::Widths::at_least))]
-fn add_times(sum: usize, times: usize, first: usize, second: usize) -> Option<usize>
-    ensures { let whole = sum + times * (first + second) in
+/// Returns `sum + times * each`; `None` if it exceeds `usize::MAX`.
+fn add_times(sum: usize, times: usize, each: usize) -> Option<usize>
+    ensures { let whole = sum + times * each in
         MatchOption result (2 ^ 64 ≤ whole) (λ n. n ≡ whole) }
 {
-    if times == 0 {
-        return Some(sum);
-    }
-    let each = first.checked_add(second)?;
     sum.checked_add(times.checked_mul(each)?)
 }
 
@@ -96,29 +91,24 @@ impl Layout {
             .checked_add(padding.bottom.size)
     }
 
-    /// Returns the sum of the first `known` widths; `None` if it exceeds `usize::MAX`.
-    #[tactic(auto, using(tabled_priority::proofs::Sums::sum_step))]
-    fn known_widths(&self, known: usize) -> Option<usize>
-        ensures { let whole = sum_below (width_at self.now) known in
-            MatchOption result (2 ^ 64 ≤ whole) (λ n. n ≡ whole) }
-    {
-        let mut sum: usize = 0;
-        'columns: for column in 0..known {
-            let width = self.content_width(column).checked_add(self.side)?;
-            sum = sum.checked_add(width)?;
-        }
-        Some(sum)
-    }
-
     /// Returns the sum of all widths; `None` if it exceeds `usize::MAX`. The equal widths at the
     /// end are multiplied.
+    #[tactic(auto, using(tabled_priority::proofs::Sums::sum_step))]
     fn sum_widths(&self) -> Option<usize>
         ensures { let whole = sum_below (width_at self.now) self.now.count in
             MatchOption result (2 ^ 64 ≤ whole) (λ n. n ≡ whole) }
     {
         let known = self.count.min(self.contents.len());
-        let sum = self.known_widths(known)?;
-        add_times(sum, self.count - known, self.rest, self.side)
+        let mut sum: usize = 0;
+        'columns: for column in 0..known {
+            let width = self.content_width(column).checked_add(self.side)?;
+            sum = sum.checked_add(width)?;
+        }
+        if known == self.count {
+            return Some(sum);
+        }
+        let last = self.rest.checked_add(self.side)?;
+        add_times(sum, self.count - known, last)
     }
 
     /// Returns the total width: all widths, the vertical lines and the side margins. `None` if it

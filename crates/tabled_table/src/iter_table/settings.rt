@@ -68,20 +68,14 @@ pub(crate) fn first_rows(settings: &StreamSettings) -> usize
 pub(crate) fn up_to(limit: Option<usize>, count: usize) -> usize
     ensures { MatchOption limit (result ≡ count) (λ n. result ≡ min n count) }
 {
-    match limit {
-        Some(limit) => limit.min(count),
-        None => count,
-    }
+    limit.map_or(count, |limit| limit.min(count))
 }
 
 /// Returns how many more rows may be shown after `count`; `None` if there is no limit.
 pub(crate) fn fewer(limit: Option<usize>, count: usize) -> Option<usize>
     ensures { result ≡ left_of limit count }
 {
-    match limit {
-        Some(limit) => Some(limit.saturating_sub(count)),
-        None => None,
-    }
+    limit.map(|limit| limit.saturating_sub(count))
 }
 
 /// Returns whether the text of a cell is at most n columns wide.

@@ -7,6 +7,6 @@ returns g c =
     let a = c.new-sink.result in
     let b = c.fmt-result.new.sink in
     let contents = g.W.Write.contents in
-    prints-written _ _ _ a.writer.ghost_name b.writer.ghost_name (contents c.args.writer.now) (contents a.writer.now) (contents b.writer.now)
-    _ a.failed_at b.failed_at c.fmt-result.result c.new-sink.ensures.unfailed (ap contents c.new-sink.ensures.writer)
-    (λ n. let m = n ∙ c.new-sink.ensures.same_reference in ap contents (search rules)) c.fmt-result.ensures.printed
+    prints-written _ _ _ a.writer.ghost_name b.writer.ghost_name (contents c.args.writer.now) (contents b.writer.now) _
+    b.failed_at c.fmt-result.result (λ n. let m = n ∙ c.new-sink.ensures.same_reference in ap contents (search rules))
+    (rw (c.new-sink.ensures.unfailed, c.new-sink.ensures.writer) at c.fmt-result.ensures.printed)

@@ -1,10 +1,10 @@
 use Rattle.tabled_table.proofs.Names.{AreFirst, AreFurther, Bool, CompactConfig, Err, HasPut, IsLimited, Layout, LineSends, List, Ok}
 use Rattle.tabled_table.proofs.Names.{Result, Sent, Some, StreamSettings, TableError, [], ap, false, fill, inl, inr, left_of, length}
-use Rattle.tabled_table.proofs.Names.{length-map, limited, map, reads-open, refl, replicate, sniffed, subst, sym, take, true, unwrap_or}
-use Rattle.tabled_table.proofs.Names.{ℕ, ◌<◌, ◌^◌, ◌∙◌, ◌≡◌, ◌⊎◌}
+use Rattle.tabled_table.proofs.Names.{length-map, limited, map, reads-open, refl, replicate, sniffed, subst, sym, take, true, unwrap_or, ℕ}
+use Rattle.tabled_table.proofs.Names.{◌<◌, ◌^◌, ◌∙◌, ◌≡◌, ◌⊎◌}
 use Rattle.tabled_table.specs.Stream.Progress.{FinishesBehind, StreamsLaidOut}
-use Rattle.tabled_table.proofs.Stream.Going.{behind-ending, finishes-ending, finishes-halting, halts-top, limited-permitted, none-further}
-use Rattle.tabled_table.proofs.Stream.Going.{reads-more, reads-no-more, some-further}
+use Rattle.tabled_table.proofs.Stream.Going.{behind-ending, finishes-ending, finishes-halting, limited-permitted, none-further, reads-more}
+use Rattle.tabled_table.proofs.Stream.Going.{reads-no-more, some-further}
 use Rattle.tabled_table.proofs.Stream.Finished.{put-finished, put-halted, top-put}
 use Rattle.tabled_table.proofs.Stream.FirstRows.{sniffed-shown}
 use Rattle.tabled_table.proofs.Stream.Measures.{shown-texts, shown-within, sniffed-long, texts-long}
@@ -29,8 +29,10 @@ returns-in_err-write_margin g c =
           put-halted c.requires.kept laid c.requires.some total c.requires.in_range c.from_residual.result c.in_err-write_margin.field-0.0
           (take c.up_to-shown.result kept) shown c.from_residual.ensures.1 (
             0,
-            halts-top (top-put failed c.args.self.now.lines.columns.total (g.S.TextSink.sent c.args.sink.now) (g.S.TextSink.sent c.write_margin.new.sink)
-                c.args.self.now.first c.write_margin.new.self.begun laid total c.requires.first (rw c.requires.begun at c.in_err-write_margin.ensures.printed)),
+            (let stops = top-put failed c.args.self.now.lines.columns.total (g.S.TextSink.sent c.args.sink.now)
+                (g.S.TextSink.sent c.write_margin.new.sink) c.args.self.now.first c.write_margin.new.self.begun laid total c.requires.first
+                (rw c.requires.begun at c.in_err-write_margin.ensures.printed) in
+                record { shown = []; rest = []; parts = refl; halts = inr (refl, stops) }),
           ),
     )
 
