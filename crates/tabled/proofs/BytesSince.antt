@@ -1,8 +1,8 @@
 -- A writer that stays the same, and keeps what it held, while a sink stands before it.
-use Rattle.tabled.proofs.Names.{Advances, Appends, Appends-nil, Begins, Block, Bool, Err, IfSome, IsCause, IsPartlyWritten, Keeps}
-use Rattle.tabled.proofs.Names.{List, None, Ok, OnOk, Option, Puts, Result, Sends, Sent, Some, TableError, Writer, Writes, [], ap}
-use Rattle.tabled.proofs.Names.{append-nil, append_assoc, arith, block_sent, drop, false, if◌then◌else◌, inl, inr, length, nat_tests, refl}
-use Rattle.tabled.proofs.Names.{sent_since, subst, sym, take, true, ℕ, ⊎_elim, ◌++◌, ◌+◌, ◌==◌, ◌∙◌, ◌∷◌, ◌≡◌, ◌≤◌}
+use Rattle.tabled.proofs.Names.{Advances, Appends, Appends-nil, Begins, Block, Bool, Err, IfSome, IsCause, IsPartlyWritten, Keeps, List}
+use Rattle.tabled.proofs.Names.{None, Ok, OnOk, Option, Puts, Result, Sends, Sent, Some, TableError, Writer, Writes, [], ap, append-nil}
+use Rattle.tabled.proofs.Names.{append_assoc, arith, block_sent, drop, false, if◌then◌else◌, inl, inr, length, nat_tests, refl, sent_since}
+use Rattle.tabled.proofs.Names.{subst, sym, take, true, ℕ, ⊎_elim, ◌++◌, ◌+◌, ◌==◌, ◌∙◌, ◌∷◌, ◌≡◌, ◌≤◌}
 use Rattle.std.proofs.Common.{◌&&◌}
 use Rattle.std.proofs.lemmas.Bool.{and_from}
 use Rattle.std.proofs.lemmas.List.{append_cancel_left, drop-append-le, length-take-le, take-append-drop, take-take}

@@ -1,14 +1,14 @@
 -- New tables that an option fitted into some columns, by the sizes that it leaves.
 use Rattle.tabled.proofs.Names.{AreChanged, AreCleared, AreTexts, Bool, Cells, CompleteDimension, Cut, FitsInto, Greatest, HasExactTotal}
 use Rattle.tabled.proofs.Names.{HasFewestBreaks, HasLeastGreatestWidth, HasLongestBeginnings, HasNoEstimate, HasWantedTotal, IsAsBuffered}
-use Rattle.tabled.proofs.Names.{IsFilledIn, IsLeastBy, IsMade, IsNarrowedTo, IsOutOfRange, IsPlannedOf, IsRectangular, Least, Leftmost}
-use Rattle.tabled.proofs.Names.{List, MatchBool, MatchBool-at_false, MatchBool-at_true, Narrows, None, Option, Order, OrderShrinks, Plan}
-use Rattle.tabled.proofs.Names.{Rightmost, Round, Row, Sheet, Shortened, Shrinks, Some, SpannedConfig, StaysWithin-none}
-use Rattle.tabled.proofs.Names.{TruncatesAsPromised, Wrapped, WrapsAsPromised, [], ap, arith, cases_Bool, columns, cond, effective}
-use Rattle.tabled.proofs.Names.{effective_estimated, effective_sizes, estimated, estimated_heights, estimated_widths, false, filled_width}
-use Rattle.tabled.proofs.Names.{for_content_size, heights_length, heights_of, if_wider, inl, is_empty, le-leb, length, nat_le}
-use Rattle.tabled.proofs.Names.{passes_too_high, passes_too_wide, refl, sheet_lines, subst, sym, take, text_columns, total_width, true}
-use Rattle.tabled.proofs.Names.{truncating, unwrap_or, widths_length, widths_of, wrapping, ℕ, ⊎_elim, ◌-◌, ◌<◌, ◌^◌, ◌∙◌, ◌≡◌, ◌≤◌}
+use Rattle.tabled.proofs.Names.{IsFilledIn, IsLeastBy, IsMade, IsNarrowedTo, IsOutOfRange, IsPlannedOf, IsRectangular, List, MatchBool}
+use Rattle.tabled.proofs.Names.{MatchBool-at_false, MatchBool-at_true, Narrows, None, Option, Order, OrderShrinks, Plan, Row, Sheet}
+use Rattle.tabled.proofs.Names.{Shortened, Shrinks, Some, SpannedConfig, StaysWithin-none, TruncatesAsPromised, Wrapped, WrapsAsPromised}
+use Rattle.tabled.proofs.Names.{[], ap, arith, cases_Bool, columns, cond, effective, effective_estimated, effective_sizes, estimated}
+use Rattle.tabled.proofs.Names.{estimated_heights, estimated_widths, false, filled_width, for_content_size, heights_length, heights_of}
+use Rattle.tabled.proofs.Names.{if_wider, inl, is_empty, le-leb, length, nat_le, passes_too_high, passes_too_wide, refl, picture_lines}
+use Rattle.tabled.proofs.Names.{subst, sym, take, text_columns, total_width, true, truncating, unwrap_or, widths_length, widths_of}
+use Rattle.tabled.proofs.Names.{wrapping, ℕ, ⊎_elim, ◌-◌, ◌<◌, ◌^◌, ◌∙◌, ◌≡◌, ◌≤◌}
 use Rattle.std.proofs.Math.Seq.{take-length}
 use Rattle.tabled_base.specs.declared.position.Entity.{Entity}
 use Rattle.tabled_set.specs.Minimums.{emptied, minimums}
@@ -175,11 +175,8 @@ passes n cells config none no_widths no_heights h =
 -- ---- the table that an option narrows, as its plan says
 
 least_by : (o : Order) (s : OrderPriority) → s.order ≡ o → (old new : Sheet) → (TakesGreatest Shrinks s → HasLeastWidth old new) → IsLeastBy o old new
-least_by Round s is old new f = tt
-least_by Least s is old new f = tt
 least_by Greatest s is old new f = f (λ last xs mins ys by h. (true, subst (λ o. IsShrunk o s.round.kept xs mins by ys last.round.kept) is h.0))
-least_by Leftmost s is old new f = tt
-least_by Rightmost s is old new f = tt
+least_by _ s is old new f = tt
 
 module _ (s : OrderPriority) (begins : s.round.kept ≡ 0) (n : ℕ) (cells new : Cells) (config : SpannedConfig) (none left last : CompleteDimension)
     (no_widths : widths_of none ≡ None) (no_heights : heights_of none ≡ None) (rectangular : IsRectangular cells) (texts : AreTexts cells) where
@@ -199,7 +196,7 @@ module _ (s : OrderPriority) (begins : s.round.kept ≡ 0) (n : ℕ) (cells new 
     planned = planned;
     best = record {
       edges = fitted_lines (OrderShrinks s.order) change n cells config t fits exact rectangular texts;
-      lines = sheet_lines t;
+      lines = picture_lines t;
       total = total;
       least = least;
       fewest = fewest;

@@ -32,8 +32,10 @@ pub use Rattle.tabled_base.specs.declared.error.TableError.{TableError}
 pub use Rattle.tabled_base.specs.declared.error.TableError.TheVariants.{Memory, Narrow, Range, ShortHeights, ShortWidths, Writer}
 pub use Rattle.tabled_base.specs.declared.position.Entity.TheVariants.{Row}
 pub use Rattle.tabled_config.specs.declared.spanned.SpannedConfig.{SpannedConfig}
+pub use Rattle.tabled_grid.proofs.ApartPictures.{apart_columns}
 pub use Rattle.tabled_grid.proofs.EffectiveSizes.{effective_estimated}
 pub use Rattle.tabled_grid.proofs.EstimatedSizes.{holds_estimated, passes_too_high, passes_too_wide, sized_estimated}
+pub use Rattle.tabled_grid.proofs.Whole.{picture_lines}
 pub use Rattle.tabled_grid.specs.Picture.{table_text}
 unfoldable pub use Rattle.tabled_grid.specs.Picture.{picture}
 pub use Rattle.tabled_grid.specs.Printed.{IsOutOfRange, Prints}
@@ -59,7 +61,6 @@ pub use Rattle.tabled_size.specs.Stored.{heights_of, is_stored, widths_of}
 pub use Rattle.tabled_size.specs.TextCells.{AreTexts}
 pub use Rattle.tabled_size.specs.Totals.{filled_width, total_width}
 pub use Rattle.tabled_size.specs.declared.complete_dimension.CompleteDimension.{CompleteDimension}
-pub use Rattle.tabled_table.proofs.Sheets.{sheet_lines, sheet_texts}
 pub use Rattle.tabled_table.specs.NewConfig.{new_config}
 pub use Rattle.tabled_table.specs.TableSheet.{new_sheet}
 pub use Rattle.tabled_text.proofs.StayLemmas.{StaysWithin-none}

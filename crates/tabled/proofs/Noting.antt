@@ -29,10 +29,7 @@ order_at word =
 order_at-word : (order : Order) → order_at (order_word order) ≡ order
 unfolding order_at
 order_at-word Round = refl
-order_at-word Least = refl
-order_at-word Greatest = refl
-order_at-word Leftmost = refl
-order_at-word Rightmost = refl
+order_at-word order = refl
 
 -- the setting that words begin with, if they begin with one
 setting_at : List (List ℕ) → Argument
@@ -58,16 +55,13 @@ unfolding setting_at order_at
 setting_at-begins words (Wrap target) rest (values, e, (word, own, number)) = ap setting_at (joined rest e own) ∙ ap Wrap number.value
 setting_at-begins words (Cut target) rest (values, e, (word, own, number)) = ap setting_at (joined rest e own) ∙ ap Cut number.value
 setting_at-begins words (Priority order) rest (values, e, own) = ap setting_at (joined rest e own) ∙ ap Priority (order_at-word order)
-setting_at-begins words Words rest (values, e, own) = ap setting_at (joined rest e own)
-setting_at-begins words Stream rest (values, e, own) = ap setting_at (joined rest e own)
+setting_at-begins words _ rest (values, e, own) = ap setting_at (joined rest e own)
 
 rest_at-begins : (words : List (List ℕ)) (setting : Argument) (rest : List (List ℕ)) → Begins words setting rest → rest_at words ≡ rest
 unfolding rest_at
 rest_at-begins words (Wrap target) rest (values, e, (word, own, number)) = ap rest_at (joined rest e own)
 rest_at-begins words (Cut target) rest (values, e, (word, own, number)) = ap rest_at (joined rest e own)
-rest_at-begins words (Priority order) rest (values, e, own) = ap rest_at (joined rest e own)
-rest_at-begins words Words rest (values, e, own) = ap rest_at (joined rest e own)
-rest_at-begins words Stream rest (values, e, own) = ap rest_at (joined rest e own)
+rest_at-begins words _ rest (values, e, own) = ap rest_at (joined rest e own)
 
 -- words begin with one setting at most
 pub begins_with_one : (words : List (List ℕ)) (one other : Argument) (rest others : List (List ℕ)) → Begins words one rest → Begins words other others
@@ -149,15 +143,11 @@ there None h = absurd cc
 there (Some x) h = (x, refl)
 
 -- a setting is noted by its name where one with another value is
-pub notes_wrap : (noted : Arguments) (setting : Argument) (target : ℕ) → setting ≡ Wrap target → is_some noted.wrap ≡ true → NotesName noted setting
-notes_wrap noted setting target is found = let (old, e) = there noted.wrap found in (Wrap old, e, ap name_of (sym is))
-
-pub notes_cut : (noted : Arguments) (setting : Argument) (target : ℕ) → setting ≡ Cut target → is_some noted.cut ≡ true → NotesName noted setting
-notes_cut noted setting target is found = let (old, e) = there noted.cut found in (Cut old, e, ap name_of (sym is))
-
-pub notes_priority : (noted : Arguments) (setting : Argument) (order : Order) → setting ≡ Priority order → is_some noted.order ≡ true
-    → NotesName noted setting
-notes_priority noted setting order is found = let (old, e) = there noted.order found in (Priority old, e, ap name_of (sym is))
+pub notes_as : {X : Type 0} (make : X → Argument) (noted : Arguments) (setting : Argument) (target : X) (found : Option X)
+    → setting ≡ make target → is_some found ≡ true → ((old : X) → found ≡ Some old → Notes noted (make old))
+    → ((old : X) → name_of (make old) ≡ name_of (make target)) → NotesName noted setting
+notes_as make noted setting target found is some notes named =
+    let (old, e) = there found some in (make old, notes old e, named old ∙ ap name_of (sym is))
 
 -- no setting begins no words
 nothing_begins : (rest behind : List (List ℕ)) (setting : Argument) → rest ≡ [] → ¬ Begins rest setting behind
@@ -232,33 +222,27 @@ reads_twice words noted rest behind setting read begins (other, old, name) all s
         (name ∙ ap name_of (begins_with_one rest setting next behind others begins begun).0)
 
 -- What is told of settings by which are given is the same where the same are given.
-module _ (P Q : Argument → Type 0) (same : (setting : Argument) → P setting ↔ Q setting) where
+module _ (P Q : Argument → Type 0) (so : (setting : Argument) → P setting → Q setting) where
   wraps : IsWrapping P → IsWrapping Q
-  wraps (target, h) = (target, (same (Wrap target)).0 h)
+  wraps (target, h) = (target, so (Wrap target) h)
 
   cuts : IsCutting P → IsCutting Q
-  cuts (target, h) = (target, (same (Cut target)).0 h)
+  cuts (target, h) = (target, so (Cut target) h)
 
   limits : IsWrapping P ⊎ IsCutting P → IsWrapping Q ⊎ IsCutting Q
   limits (inl h) = inl (wraps h)
   limits (inr h) = inr (cuts h)
 
-  unwraps : IsWrapping Q → IsWrapping P
-  unwraps (target, h) = (target, (same (Wrap target)).1 h)
-
-  uncuts : IsCutting Q → IsCutting P
-  uncuts (target, h) = (target, (same (Cut target)).1 h)
-
-  unlimits : IsWrapping Q ⊎ IsCutting Q → IsWrapping P ⊎ IsCutting P
-  unlimits (inl h) = inl (unwraps h)
-  unlimits (inr h) = inr (uncuts h)
+module _ (P Q : Argument → Type 0) (same : (setting : Argument) → P setting ↔ Q setting) where
+  back : (setting : Argument) → Q setting → P setting
+  back setting = (same setting).1
 
   together_same : GoTogether P → GoTogether Q
   together_same go = record {
-    one_target = λ h. go.one_target (unwraps h.0, uncuts h.1);
-    words_to_wrap = λ h. wraps (go.words_to_wrap ((same Words).1 h));
-    order_for_target = λ h. limits (go.order_for_target (h.0, (same (Priority h.0)).1 h.1));
-    stream_alone = λ h limit. go.stream_alone ((same Stream).1 h) (unlimits limit);
+    one_target = λ h. go.one_target (wraps Q P back h.0, cuts Q P back h.1);
+    words_to_wrap = λ h. wraps P Q (λ s. (same s).0) (go.words_to_wrap (back Words h));
+    order_for_target = λ h. limits P Q (λ s. (same s).0) (go.order_for_target (h.0, back (Priority h.0) h.1));
+    stream_alone = λ h limit. go.stream_alone (back Stream h) (limits Q P back limit);
   }
 
   order_same : (order : Order) → IsOrder P order → IsOrder Q order
@@ -266,7 +250,7 @@ module _ (P Q : Argument → Type 0) (same : (setting : Argument) → P setting 
   order_same order (inr h) = inr (λ h'. h.0 (h'.0, (same (Priority h'.0)).1 h'.1), h.1)
 
   makes_same : (plan : Plan) → Makes P plan → Makes Q plan
-  makes_same Buffered h = (λ w. h.0 (unwraps w), λ c. h.1 (uncuts c), λ s. h.2 ((same Stream).1 s))
+  makes_same Buffered h = (λ w. h.0 (wraps Q P back w), λ c. h.1 (cuts Q P back c), λ s. h.2 (back Stream s))
   makes_same Streamed h = (same Stream).0 h
   makes_same (Wrapped target words order) h = (
     (same (Wrap target)).0 h.0,

@@ -2,15 +2,13 @@
 use Rattle.tabled.proofs.Names.{Advances, Appends, AreChanged, AreTexts, Begins, Block, Bool, BreaksOff, Buffered, Cells, Cut, Err}
 use Rattle.tabled.proofs.Names.{FitsInto, Halts, IfSome, IsBegunOn, IsBestPlanned, IsCause, IsCut, IsErrAnd, IsNarrowedTo, IsOutput}
 use Rattle.tabled.proofs.Names.{IsPlanned, IsRectangular, IsRendered, IsUtf8, List, MatchBool-at_false, MatchBool-at_true, MatchResult}
-use Rattle.tabled.proofs.Names.{Memory, Narrow, Ok, Option, OrderShrinks, Plan, PutsOutput, Range, Result, Sent, Sheet, ShortHeights}
-use Rattle.tabled.proofs.Names.{ShortWidths, Shortened, SpellsPlan, Streamed, TableError, Wrapped, Writer, Writes, [], ap, append_assoc}
-use Rattle.tabled.proofs.Names.{Table, arith, block_sent, cases_Bool, cells_of, changed_empty, cond, false, for_content_size, if_wider}
-use Rattle.tabled.proofs.Names.{inl, inner_width, inr, is_empty, length, lengthened, lines_of, map, most_cells, nat_le, nat_tests}
-use Rattle.tabled.proofs.Names.{new_config, new_sheet, picture, refl, row_lines, sent_since, sheet_lines, subst, sym, table_text, text_rows}
-use Rattle.tabled.proofs.Names.{total_width, true, truncating, with_feed, without_last_feed, wrapping, ℕ, ⊎_elim, ◌++◌, ◌<◌, ◌==◌, ◌∙◌, ◌∷◌}
-use Rattle.tabled.proofs.Names.{◌≡◌, ◌≤◌, ◌⊎◌}
+use Rattle.tabled.proofs.Names.{Memory, Ok, Option, OrderShrinks, Plan, PutsOutput, Range, Result, Sent, Sheet, Shortened, SpellsPlan}
+use Rattle.tabled.proofs.Names.{Streamed, TableError, Wrapped, Writer, Writes, [], ap, append_assoc, Table, arith, block_sent, cases_Bool}
+use Rattle.tabled.proofs.Names.{cells_of, changed_empty, cond, false, for_content_size, if_wider, inl, inner_width, inr, is_empty, length}
+use Rattle.tabled.proofs.Names.{lengthened, lines_of, map, most_cells, nat_le, nat_tests, new_config, new_sheet, picture, refl, row_lines}
+use Rattle.tabled.proofs.Names.{sent_since, picture_lines, subst, sym, table_text, text_rows, total_width, true, truncating, with_feed}
+use Rattle.tabled.proofs.Names.{without_last_feed, wrapping, ℕ, ⊎_elim, ◌++◌, ◌<◌, ◌==◌, ◌∙◌, ◌∷◌, ◌≡◌, ◌≤◌, ◌⊎◌}
 use Rattle.std.proofs.Common.{IfErr, length-append}
-use Rattle.tabled.specs.Output.{Overflows}
 use Rattle.tabled.specs.Rendered.{SendsTable}
 use Rattle.tabled.proofs.BytesSince.{begun_none, left, left_advances}
 use Rattle.tabled.specs.Runs.{HasFailed, HasRead}
@@ -108,7 +106,7 @@ longer (a ∷ []) h = absurd (omega arith)
 longer (a ∷ b ∷ lines) h = omega (arith, length-append a (10 ∷ join_with_byte 10 (b ∷ lines)))
 
 something_printed : (t : Sheet) → t.config ≡ new_config → is_empty t.cells ≡ false → 0 < length t.cells → 0 < length (table_text t)
-something_printed t e filled h = longer (picture t) (omega (arith, sheet_height t e filled h, sheet_lines t))
+something_printed t e filled h = longer (picture t) (omega (arith, sheet_height t e filled h, picture_lines t))
 
 -- the empty text prints nothing behind its table, which is nothing too
 pub feed_none : (plan : Plan) (text : List ℕ) (t : Sheet) → true ≡ (length text == 0) → IsPlanned plan (text_rows text) t → table_text t ≡ with_feed (table_text t)
@@ -141,11 +139,8 @@ uncaused plan e other c = absurd (⊎_elim (λ n. n) (λ k. other k.1) c)
 pub begun_on : (plan : Plan) (text output : List ℕ) (e : TableError) (grows : Bool) (a b : ℕ) → (IsCause e grows a b ⊎ Halts plan e) → IsOutput plan text output
     → IsBegunOn plan text output e
 begun_on plan text output Memory grows a b c h = inr h
-begun_on plan text output ShortWidths grows a b c h = uncaused plan ShortWidths (λ m. let bad : ⊥ = cc in bad) c
-begun_on plan text output ShortHeights grows a b c h = uncaused plan ShortHeights (λ m. let bad : ⊥ = cc in bad) c
-begun_on plan text output (Narrow row column) grows a b c h = uncaused plan (Narrow row column) (λ m. let bad : ⊥ = cc in bad) c
-begun_on plan text output Range grows a b c h = uncaused plan Range (λ m. let bad : ⊥ = cc in bad) c
 begun_on plan text output Writer grows a b c h = h
+begun_on plan text output e grows a b c h = uncaused plan e (λ m. let bad : ⊥ = cc in bad) c
 
 -- an output of which the last piece was written, or refused
 pub either_output : {T : Type 0} (plan : Plan) (text output piece : List ℕ) (old : Sent) (r : Result T TableError) (new : Sent) → Writes old r new piece
@@ -157,19 +152,12 @@ pub output_of : (plan : Plan) (text : List ℕ) (old new : Sent) → (s : SendsT
     → IsOutput plan text (with_feed (table_text s.table))
 output_of plan text old new s = record { table = s.table; planned = s.is_planned; best = s.is_best; whole = refl }
 
--- nothing was put, since memory was refused
-pub output_none : {T : Type 0} (plan : Plan) (text : List ℕ) (bytes : Option (List ℕ)) (e : TableError) (r : Result T TableError) → IsErrAnd r (λ d. d ≡ e)
-    → e ≡ Memory → PutsOutput plan text bytes r bytes
-output_none plan text bytes e (Ok x) i m = absurd i
-output_none plan text bytes e (Err d) i m =
-    record { output = []; is_output = subst (IsBegunOn plan text []) (sym (i ∙ m)) (inl refl); puts = begun_none bytes [] }
-
--- or since a total passes the range
-output_over : {T : Type 0} (plan : Plan) (text : List ℕ) (bytes : Option (List ℕ)) (e : TableError) (r : Result T TableError) → IsErrAnd r (λ d. d ≡ e)
-    → e ≡ Range → Overflows plan text → PutsOutput plan text bytes r bytes
-output_over plan text bytes e (Ok x) i m o = absurd i
-output_over plan text bytes e (Err d) i m o =
-    record { output = []; is_output = subst (IsBegunOn plan text []) (sym (i ∙ m)) (refl, o); puts = begun_none bytes [] }
+-- nothing was put
+output_none : {T : Type 0} (plan : Plan) (text : List ℕ) (bytes : Option (List ℕ)) (e : TableError) (r : Result T TableError)
+    → IsErrAnd r (λ d. d ≡ e) → IsBegunOn plan text [] e → PutsOutput plan text bytes r bytes
+output_none plan text bytes e (Ok x) i o = absurd i
+output_none plan text bytes e (Err d) i o =
+    record { output = []; is_output = subst (IsBegunOn plan text []) (sym i) o; puts = begun_none bytes [] }
 
 -- a beginning of the table is one of the output
 output_begun : {T : Type 0} (plan : Plan) (text : List ℕ) (old new : Sent) (e : TableError) (r : Result T TableError) → IsErrAnd r (λ d. d ≡ e)
@@ -196,9 +184,10 @@ pub output_refused : {T : Type 0} (R : Type 0) (plan : Plan) (text : List ℕ) (
     → IsRendered {T = R} plan (text_rows text) old (Err e) new → PutsOutput plan text old.bytes r new.bytes
 output_refused R plan text old new e r i h =
     let P : Sent → Type 0 = λ s. PutsOutput plan text old.bytes r s.bytes in
-    ⊎_elim (λ m. subst P (sym m.1) (output_none plan text old.bytes e r i m.0))
-    (λ k. ⊎_elim (λ q. subst P (sym q.1) (output_over plan text old.bytes e r i q.0 q.2)) (λ b. output_begun plan text old new e r i b) k.1)
-    h
+    let none : new ≡ old → IsBegunOn plan text [] e → P new = λ s o. subst P (sym s) (output_none plan text old.bytes e r i o) in
+    let B : TableError → Type 0 = IsBegunOn plan text [] in
+    ⊎_elim (λ m. none m.1 (subst B (sym m.0) (inl refl)))
+    (λ k. ⊎_elim (λ q. none q.1 (subst B (sym q.0) (refl, q.2))) (λ b. output_begun plan text old new e r i b) k.1) h
 
 -- what was printed to a block whose writer is known at the start
 pub since_put : {T : Type 0} (plan : Plan) (told text : List ℕ) → told ≡ text → (name : ℕ) (held : List ℕ) (a b : Block) (r : Result T TableError)
@@ -226,13 +215,11 @@ pub failed_by : {O : Type 0} (contents : O → Option (List ℕ)) (words : List 
 failed_by contents words old left out now plan text output refusal.Memory s input b h =
     ⊎_elim (λ n. inl (begun_nothing (contents out) (contents now) output n h))
     (λ o. inr (plan, s, record { text = text; input = input; output = output; is_output = o; begun = h })) b
-failed_by contents words old left out now plan text output refusal.ShortWidths s input b h = absurd b
-failed_by contents words old left out now plan text output refusal.ShortHeights s input b h = absurd b
-failed_by contents words old left out now plan text output (refusal.Narrow row column) s input b h = absurd b
 failed_by contents words old left out now plan text output refusal.Range s input b h =
     (plan, s, record { text = text; input = input; overflows = b.1; kept = begun_nothing (contents out) (contents now) output b.0 h })
 failed_by contents words old left out now plan text output refusal.Writer s input b h =
     (plan, s, record { text = text; input = input; output = output; is_output = b; begun = h })
+failed_by contents words old left out now plan text output _ s input b h = absurd b
 
 -- a refusal that is one of the program's faults
 pub if_failed : {T : Type 0} (P : Fault → Type 0) (r : Result T Fault) (fault : Fault) → IsErrAnd r (λ d. d ≡ fault) → P fault → IfErr r P

@@ -1,10 +1,10 @@
 -- Texts of letters, whose tables are the same if they are streamed.
 use Rattle.tabled.proofs.Names.{All, All-cons, All-head, All-nil, All-tail, AllPass, AreTexts, Bool, Buffered, Cells, Halts, IsBestOf}
 use Rattle.tabled.proofs.Names.{IsBestPlanned, IsCut, IsInside, IsPlanned, IsPlannedOf, IsRendered, IsRenderedOf, List, Plan, Result, Sent}
-use Rattle.tabled.proofs.Names.{Shortened, Streamed, TableError, Wrapped, [], arith, cases_Bool, cell_at, cells_of, cond, false}
-use Rattle.tabled.proofs.Names.{holds_estimated, inner_width, length, lengthened, lines_of, list_all-from_AllPass, measured}
-use Rattle.tabled.proofs.Names.{most_cells, new_config, new_sheet, refl, row_lines, sheet_lines, subst, sym, take, text_columns, text_rows}
-use Rattle.tabled.proofs.Names.{true, without_last_feed, ℕ, ⊎_elim, ◌-◌, ◌==◌, ◌∷◌, ◌≡◌, ◌≤◌}
+use Rattle.tabled.proofs.Names.{Streamed, TableError, [], arith, cases_Bool, cell_at, cells_of, cond, false, holds_estimated, inner_width}
+use Rattle.tabled.proofs.Names.{length, lengthened, lines_of, list_all-from_AllPass, measured, most_cells, new_config, new_sheet, refl}
+use Rattle.tabled.proofs.Names.{row_lines, picture_lines, subst, sym, take, text_rows, true, without_last_feed, ℕ, ⊎_elim, ◌-◌, ◌==◌, ◌∷◌}
+use Rattle.tabled.proofs.Names.{◌≡◌, ◌≤◌}
 use Rattle.std.proofs.Common.{◌||◌, replicate}
 use Rattle.std.specs.List.{list_all, onto_first, slice_index, slice_split}
 use Rattle.std.proofs.lemmas.List.Elements.{All-append, All-map, All-replicate, All-take, All-weaker}
@@ -99,7 +99,7 @@ module _ (text : List ℕ) (plain : list_all is_letter_or_break text ≡ true) (
   best : IsBestPlanned Streamed cells (new_sheet cells)
   best = best_new Streamed cells (new_sheet cells) (record {
     edges = whole_lines cells new_config (text_rectangular text) texts;
-    lines = sheet_lines (new_sheet cells);
+    lines = picture_lines (new_sheet cells);
     total = tt;
     least = tt;
     fewest = tt;
@@ -119,7 +119,5 @@ module _ (text : List ℕ) (plain : list_all is_letter_or_break text ≡ true) (
 pub rendered_measured : {T : Type 0} (text : List ℕ) → AreTexts (text_rows text) → (plan : Plan)
     → (plan ≡ Streamed → list_all is_letter_or_break text ≡ true) → (old : Sent) (r : Result T TableError) (new : Sent)
     → IsRenderedOf (measured plan) (new_sheet (text_rows text)) old r new → IsRendered plan (text_rows text) old r new
-rendered_measured text texts Buffered plain old r new h = rendered_new Buffered (text_rows text) old r new h
 rendered_measured text texts Streamed plain old r new h = streamed_whole text (plain refl) texts old r new h
-rendered_measured text texts (Wrapped n words order) plain old r new h = rendered_new (Wrapped n words order) (text_rows text) old r new h
-rendered_measured text texts (Shortened n order) plain old r new h = rendered_new (Shortened n order) (text_rows text) old r new h
+rendered_measured text texts plan plain old r new h = rendered_new plan (text_rows text) old r new h

@@ -1,23 +1,17 @@
 -- What a call that prints the table of a plan leaves: of no rows, of new tables, and of those that an order fitted.
-use Rattle.tabled.proofs.Names.{AreChanged, AreTexts, Bool, BreaksOff, Buffered, Cells, Cut, Err, FitsInto, Halts, HasExactTotal}
-use Rattle.tabled.proofs.Names.{HasFewestBreaks, HasLeastGreatestWidth, HasLongestBeginnings, HasWantedTotal, Holds, IsAsBuffered, IsBestOf}
-use Rattle.tabled.proofs.Names.{IsBestPlanned, IsCause, IsErrAnd, IsInside, IsLeastBy, IsMade, IsNarrowedTo, IsPlanned, IsPlannedOf}
-use Rattle.tabled.proofs.Names.{IsRectangular, IsRendered, IsRenderedOf, List, MatchBool, MatchBool-at_false, MatchBool-at_true, Memory}
-use Rattle.tabled.proofs.Names.{Narrow, Ok, OrderShrinks, Plan, Prints, Range, Result, Sent, Sheet, ShortHeights, ShortWidths, Shortened}
-use Rattle.tabled.proofs.Names.{SpannedConfig, StaysWithin-none, Streamed, TableError, Wrapped, Writer, [], ap, arith, cases_Bool}
-use Rattle.tabled.proofs.Names.{changed_empty, columns, cond, estimated, estimated_widths, false, filled_width, for_content_size}
-use Rattle.tabled.proofs.Names.{holds_estimated, if_wider, inl, inr, is_empty, le-leb, length, nat_le, new_config, new_sheet, picture, refl}
-use Rattle.tabled.proofs.Names.{sends-along, sheet_lines, sheet_texts, sized_estimated, subst, sym, table_text, total_width, true}
-use Rattle.tabled.proofs.Names.{truncating, wrapping, ℕ, ⊎_elim, ◌<◌, ◌==◌, ◌∙◌, ◌∷◌, ◌≡◌, ◌⊎◌}
+use Rattle.tabled.proofs.Names.{AreChanged, AreTexts, Bool, BreaksOff, Buffered, Cells, Err, FitsInto, Halts, HasExactTotal, Holds}
+use Rattle.tabled.proofs.Names.{IsBestOf, IsBestPlanned, IsCause, IsErrAnd, IsInside, IsMade, IsNarrowedTo, IsPlanned, IsPlannedOf}
+use Rattle.tabled.proofs.Names.{IsRectangular, IsRendered, IsRenderedOf, List, MatchBool-at_false, MatchBool-at_true, Memory, Narrow, Ok}
+use Rattle.tabled.proofs.Names.{Plan, Prints, Range, Result, Sent, Sheet, ShortHeights, ShortWidths, SpannedConfig, StaysWithin-none}
+use Rattle.tabled.proofs.Names.{TableError, Writer, [], ap, arith, cases_Bool, changed_empty, columns, estimated, false, for_content_size}
+use Rattle.tabled.proofs.Names.{holds_estimated, inl, inr, is_empty, length, nat_le, new_sheet, picture, refl, picture_lines, apart_columns}
+use Rattle.tabled.proofs.Names.{sized_estimated, subst, sym, total_width, true, ℕ, ⊎_elim, ◌<◌, ◌==◌, ◌∙◌, ◌≡◌, ◌⊎◌}
 use Rattle.std.specs.Prelude.{IfErr}
 use Rattle.std.proofs.lemmas.Bool.{eqb-true, or_cases, leb-false}
 use Rattle.tabled_table.proofs.NewTables.{new_apart}
-use Rattle.tabled_line.proofs.Sending.{sends-none}
-use Rattle.tabled_set.specs.BestNarrowing.{IsBestCut, IsBestWrapped}
-use Rattle.std.specs.Result.{IsOk}
 use Rattle.tabled.specs.Headline.{KeepsApart}
 use Rattle.tabled.specs.Rendered.{PassesRange, PrintsPlanned}
-use Rattle.std.specs.List.{slice_index_or}
+use Rattle.tabled_set.proofs.ChangingCells.{columns-changed}
 use Rattle.std.proofs.lemmas.List.{get_or_default}
 use Rattle.tabled_grid.specs.ApartSheet.{IsApartConfig}
 use Rattle.tabled_grid.specs.Printed.{IsFailure}
@@ -29,21 +23,11 @@ use Rattle.tabled_text.proofs.StayLemmas.{IsAdditive-stays}
 
 -- ---- what holds of the table that a plan makes of the cells of a text
 
--- ---- cells that were changed are as many
-
-first_length : (cells : Cells) → length (slice_index_or cells 0 []) ≡ columns cells
-first_length [] = refl
-first_length (row ∷ rows) = refl
-
-pub changed_columns : (chosen : ℕ → ℕ → Bool) (change : ℕ → ℕ → List ℕ → List ℕ → Type 0) (old new : Cells) → AreChanged chosen change old new
-    → columns new ≡ columns old
-changed_columns chosen change old new h = sym (first_length new) ∙ h.row_lengths 0 ∙ first_length old
-
-pub changed_rectangular : (chosen : ℕ → ℕ → Bool) (change : ℕ → ℕ → List ℕ → List ℕ → Type 0) (old new : Cells) → AreChanged chosen change old new
-    → IsRectangular old → IsRectangular new
-changed_rectangular chosen change old new h q = λ k d l.
+pub changed_rectangular : {chosen : ℕ → ℕ → Bool} {change : ℕ → ℕ → List ℕ → List ℕ → Type 0} {old new : Cells}
+    → AreChanged chosen change old new → IsRectangular old → IsRectangular new
+changed_rectangular {new = new} h q = λ k d l.
     let rows = h.rows in
-    let many = changed_columns chosen change old new h in
+    let many = columns-changed h in
     ap length (get_or_default new k d [] l) ∙ h.row_lengths k ∙ q k [] (omega arith) ∙ sym many
 
 -- ---- tables that are fitted into n columns
@@ -52,7 +36,7 @@ changed_rectangular chosen change old new h q = λ k d l.
 pub whole_lines : (cells : Cells) (config : SpannedConfig) → IsRectangular cells → AreTexts cells → KeepsApart config
     → EachLineTakes (total_width (estimated cells config)) (picture (estimated cells config))
 whole_lines cells config rectangular texts apart =
-    sheet_texts (estimated cells config) rectangular (apart (length cells) (columns cells)) texts (holds_estimated cells config)
+    apart_columns (estimated cells config) (apart (length cells) (columns cells)) texts rectangular (holds_estimated cells config)
 
 module _ (shrinks : List ℕ → List ℕ → ℕ → List ℕ → Type 0) (change : ℕ → List ℕ → List ℕ → Type 0) (n : ℕ) (cells : Cells) (config : SpannedConfig) (t : Sheet)
     (fits : FitsInto shrinks change n (estimated cells config) t) (exact : n < total_width (estimated cells config) → HasExactTotal n (estimated cells config) t) where
@@ -81,9 +65,9 @@ module _ (shrinks : List ℕ → List ℕ → ℕ → List ℕ → Type 0) (chan
   fitted_lines rectangular texts apart =
       either (λ (u : Sheet). EachLineTakes (total_width u) (picture u)) (whole_lines cells config rectangular texts apart)
       (λ s e.
-      sheet_texts t (changed_rectangular (λ row column. true) (for_content_size change (estimated cells config) t.widths) cells t.cells s.cells rectangular)
+      apart_columns t
       (subst (λ c. IsApartConfig c (length t.cells) (columns t.cells)) (sym s.config) (apart (length t.cells) (columns t.cells)))
-      e.texts e.holds)
+      e.texts (changed_rectangular s.cells rectangular) e.holds)
 
 -- the empty text is plain
 pub no_text_plain : IsAdditive []
@@ -99,7 +83,7 @@ buffered_made cells config rectangular texts = record {
   planned = refl;
   best = record {
     edges = whole_lines cells config rectangular texts;
-    lines = sheet_lines (estimated cells config);
+    lines = picture_lines (estimated cells config);
     total = tt;
     least = tt;
     fewest = tt;
@@ -139,7 +123,6 @@ prints_made plan whole estimates t old (Err e) new m h =
         → ((d ≡ Memory) × (new ≡ old))
         ⊎ ((is_empty whole.cells ≡ false)
         × (((d ≡ Range) × (new ≡ old) × PassesRange (IsPlannedOf plan whole) whole) ⊎ BreaksOff (IsPlannedOf plan whole) (IsBestOf plan whole) (λ e. ⊥) old d new))
-    refused Memory i stays = absurd i
     refused ShortWidths i stays = absurd (let sized = m.sized in let long = sized.columns in omega arith)
     refused ShortHeights i stays = absurd (let sized = m.sized in let long = sized.rows in omega arith)
     refused (Narrow row column) i stays =
@@ -147,7 +130,7 @@ prints_made plan whole estimates t old (Err e) new m h =
         let held = m.holds row column first.row_in first.at.column_in in
         absurd (let narrow = first.at.narrow in omega arith)
     refused Range i stays = inr (sym m.same ∙ h.0, inl (refl, stays, inr (t, m.planned, i.2)))
-    refused Writer i stays = absurd i
+    refused _ i stays = absurd i
 
 -- what is told by one plan is told by another that asks no more
 pub prints_as : {T : Type 0} (planned best planned' best' : Sheet → Type 0) (halts halts' : TableError → Type 0) (whole : Sheet) (old : Sent)
@@ -191,94 +174,6 @@ no_place cells e row column inside =
     ⊎_elim (λ y. let z = eqb-true (length cells) 0 y in omega arith) (λ y. let z = eqb-true (columns cells) 0 y in omega arith)
     (or_cases (length cells == 0) (columns cells == 0) e)
 
-module _ (cells : Cells) (config : SpannedConfig) (e : is_empty cells ≡ true) where
-  abbrev all : Sheet
-  all = estimated cells config
-
-  no_total : total_width all ≡ 0
-  no_total = ap (λ b. cond b 0 (filled_width config (columns cells) (estimated_widths cells config))) e
-
-  never_wider : (n : ℕ) (Q : Type 0) → n < total_width all → Q
-  never_wider n Q h = let z = no_total in absurd (omega arith)
-
-  same_fits : (shrinks : List ℕ → List ℕ → ℕ → List ℕ → Type 0) (change : ℕ → List ℕ → List ℕ → Type 0) (n : ℕ) → FitsInto shrinks change n all all
-  same_fits shrinks change n =
-      let old = all in
-      let z = no_total in
-      let fits : nat_le (total_width old) n ≡ true = le-leb (total_width old) n (omega arith) in
-      subst (λ b. MatchBool b (old ≡ old) (IsNarrowedTo shrinks change n old old)) (sym fits) refl
-
-  empty_planned : (plan : Plan) → IsPlannedOf plan all all
-  empty_planned Buffered = refl
-  empty_planned Streamed = record {
-    config = refl;
-    widths = refl;
-    cells = record { rows = refl; row_lengths = λ row. refl; cells = λ row column inside. absurd (no_place cells e row column inside) };
-    heights = refl;
-  }
-  empty_planned (Wrapped n words order) = same_fits (OrderShrinks order) (wrapping words) n
-  empty_planned (Shortened n order) = same_fits (OrderShrinks order) (if_wider (truncating [] Cut false)) n
-
-  empty_total : (plan : Plan) → HasWantedTotal plan all all
-  empty_total Buffered = tt
-  empty_total Streamed = tt
-  empty_total (Wrapped n words order) = never_wider n (HasExactTotal n all all)
-  empty_total (Shortened n order) = never_wider n (HasExactTotal n all all)
-
-  empty_least : (plan : Plan) → HasLeastGreatestWidth plan all all
-  empty_least Buffered = tt
-  empty_least Streamed = tt
-  empty_least (Wrapped n words order) = never_wider n (IsLeastBy order all all)
-  empty_least (Shortened n order) = never_wider n (IsLeastBy order all all)
-
-  empty_fewest : (plan : Plan) → HasFewestBreaks plan all all
-  empty_fewest Buffered = tt
-  empty_fewest Streamed = tt
-  empty_fewest (Wrapped n words order) = never_wider n (IsBestWrapped words all all)
-  empty_fewest (Shortened n order) = tt
-
-  empty_longest : (plan : Plan) → HasLongestBeginnings plan all all
-  empty_longest Buffered = tt
-  empty_longest Streamed = tt
-  empty_longest (Wrapped n words order) = tt
-  empty_longest (Shortened n order) = never_wider n (IsBestCut false all all)
-
-  empty_alike : (plan : Plan) → IsAsBuffered plan all all
-  empty_alike Buffered = tt
-  empty_alike Streamed = λ h. refl
-  empty_alike (Wrapped n words order) = tt
-  empty_alike (Shortened n order) = tt
-
-  empty_text : [] ≡ table_text all
-  unfolding picture
-  empty_text = rw e refl
-
-  empty_printed : {T : Type 0} (plan : Plan) (best : Sheet → Type 0) (halts : TableError → Type 0) (old : Sent) (r : Result T TableError) → best all → IsOk r
-      → PrintsPlanned (IsPlannedOf plan all) best halts all old r old
-  empty_printed plan best halts old (Err d) b i = absurd (let no : false ≡ true = i in cc)
-  empty_printed plan best halts old (Ok x) b i = record {
-    table = all;
-    is_planned = empty_planned plan;
-    is_best = b;
-    is_printable = inl e;
-    sends = sends-along old old [] (table_text all) (sends-none old) empty_text;
-  }
-
-  empty_best : (plan : Plan) → IsRectangular cells → AreTexts cells → IsBestOf plan all all
-  empty_best plan rectangular texts = record {
-    edges = whole_lines cells config rectangular texts;
-    lines = sheet_lines all;
-    total = empty_total plan;
-    least = empty_least plan;
-    fewest = empty_fewest plan;
-    longest = empty_longest plan;
-    alike = empty_alike plan;
-  }
-
-  -- nothing is printed of them
-  pub empty_rendered : {T : Type 0} (plan : Plan) (old : Sent) (r : Result T TableError) → IsRectangular cells → AreTexts cells → IsOk r → IsRenderedOf plan all old r old
-  empty_rendered plan old r rectangular texts i = empty_printed plan (IsBestOf plan all) (λ e. ⊥) old r (empty_best plan rectangular texts) i
-
 -- ---- new tables
 
 -- what is told of a whole table is told of the new one, whose settings keep texts apart
@@ -291,19 +186,12 @@ rendered_new plan cells old r new h =
     prints_as (IsPlannedOf plan (new_sheet cells)) (IsBestOf plan (new_sheet cells)) (IsPlanned plan cells) (IsBestPlanned plan cells) (λ e. ⊥) (Halts plan)
     (new_sheet cells) old r new (λ t p. p) (λ t p b. best_new plan cells t b) (λ e never. absurd never) h
 
-pub rendered_empty : {T : Type 0} (plan : Plan) (cells : Cells) → is_empty cells ≡ true → (old : Sent) (r : Result T TableError) → IsRectangular cells → AreTexts cells
-    → IsOk r → IsRendered plan cells old r old
-rendered_empty plan cells e old r rectangular texts i = rendered_new plan cells old r old (empty_rendered cells new_config e plan old r rectangular texts i)
-
 -- ---- what is refused
 
 cause_only : (e : TableError) (grows : Bool) (a b : ℕ) → IsCause e grows a b → (e ≡ Memory) ⊎ ((e ≡ Range) ⊎ (e ≡ Writer))
 cause_only Memory grows a b h = inl refl
-cause_only ShortWidths grows a b h = absurd h
-cause_only ShortHeights grows a b h = absurd h
-cause_only (Narrow row column) grows a b h = absurd h
-cause_only Range grows a b h = absurd h
 cause_only Writer grows a b h = inr (inr refl)
+cause_only _ grows a b h = absurd h
 
 -- only memory, a range that is passed, and a writer are refused
 only_printed : {T : Type 0} (planned best : Sheet → Type 0) (halts : TableError → Type 0) (whole : Sheet) (old : Sent) (r : Result T TableError) (new : Sent)

@@ -3,15 +3,16 @@ use Rattle.tabled.proofs.Names.{All-from_get_or, AreChanged, AreTexts, Cells, Co
 use Rattle.tabled.proofs.Names.{IsInside, IsMade, IsOutOfRange, IsRectangular, IsUtf8, List, None, Option, Sheet, Some, SpannedConfig}
 use Rattle.tabled.proofs.Names.{Streamed, [], ap, arith, cases_Bool, cell_at, changed_empty, columns, cut_to, effective, effective_sizes}
 use Rattle.tabled.proofs.Names.{estimated, estimated_heights, estimated_widths, false, get_or, heights_length, heights_of, holds_estimated}
-use Rattle.tabled.proofs.Names.{is_empty, length, passes_too_high, passes_too_wide, refl, sheet_lines, sheet_texts, sized_estimated, sym}
-use Rattle.tabled.proofs.Names.{text_columns, true, truncating, unwrap_or, widths_length, widths_of, ℕ, ⊎_elim, ◌+◌, ◌-◌, ◌∙◌, ◌≡◌, ◌≤◌}
+use Rattle.tabled.proofs.Names.{is_empty, length, passes_too_high, passes_too_wide, refl, picture_lines, apart_columns, sized_estimated}
+use Rattle.tabled.proofs.Names.{sym, text_columns, true, truncating, unwrap_or, widths_length, widths_of, ℕ, ⊎_elim, ◌+◌, ◌-◌, ◌∙◌, ◌≡◌}
+use Rattle.tabled.proofs.Names.{◌≤◌}
 use Rattle.std.proofs.Common.{All, Bor, option_map}
 use Rattle.std.proofs.lemmas.List.{ext_get_or}
 use Rattle.tabled_priority.specs.Permitted.{at}
 use Rattle.tabled_set.specs.CellChanges.{leaves}
 use Rattle.tabled_set.specs.Minimums.{side_padding}
 use Rattle.tabled_set.specs.declared.resize.CellFilter.TheVariants.{Every}
-use Rattle.tabled_set.proofs.ChangingCells.{AreChanged-as, IsInside-before, at-chosen}
+use Rattle.tabled_set.proofs.ChangingCells.{AreChanged-as, IsInside-before, at-chosen, columns-changed}
 use Rattle.tabled_set.specs.Common.{Global, covers}
 use Rattle.tabled_set.proofs.TruncatedTexts.{IsCut-truncated}
 use Rattle.tabled_text.specs.Exact.{IsExactLine}
@@ -19,7 +20,7 @@ use Rattle.tabled_text.specs.Fitting.{FitsIn}
 use Rattle.tabled_text.proofs.ExactLines.{exact-kept}
 use Rattle.tabled_text.proofs.FittingLaws.{fits-cut}
 use Rattle.tabled.proofs.FittedTables.{sized_by, whole_list}
-use Rattle.tabled.proofs.RenderedTables.{changed_columns, changed_rectangular, no_place}
+use Rattle.tabled.proofs.RenderedTables.{changed_rectangular, no_place}
 
 -- ---- one cell
 
@@ -55,7 +56,7 @@ module _ (cells : Cells) (config : SpannedConfig) (rectangular : IsRectangular c
         (at-chosen row column changed (IsInside-before changed inside) refl)
 
     cut-rectangular : IsRectangular after
-    cut-rectangular = changed_rectangular (λ row column. true) (cut_to widths config) cells after changed rectangular
+    cut-rectangular = changed_rectangular changed rectangular
 
     cut-texts : AreTexts after
     cut-texts = All-from_get_or (All IsUtf8) after []
@@ -88,8 +89,8 @@ module _ (cells : Cells) (config : SpannedConfig) (rectangular : IsRectangular c
     streamed_made = record {
       planned = record { config = refl; widths = refl; cells = changed; heights = refl };
       best = record {
-        edges = λ apart. sheet_texts t cut-rectangular (apart (length after) (columns after)) cut-texts cut-holds;
-        lines = sheet_lines t;
+        edges = λ apart. apart_columns t (apart (length after) (columns after)) cut-texts cut-rectangular cut-holds;
+        lines = picture_lines t;
         total = tt;
         least = tt;
         fewest = tt;
@@ -100,7 +101,7 @@ module _ (cells : Cells) (config : SpannedConfig) (rectangular : IsRectangular c
       sized =
           let sized = sized_estimated cells config in
           let rows = changed.rows in
-          let many = changed_columns (λ row column. true) (cut_to widths config) cells after changed in
+          let many = columns-changed changed in
           let wide = sized.columns in
           let high = sized.rows in
           record { columns = omega arith; rows = omega arith };

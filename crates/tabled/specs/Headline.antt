@@ -12,55 +12,44 @@ use Rattle.tabled_size.specs.Sheet.{Sheet}
 use Rattle.tabled_size.specs.Totals.{total_height, total_width}
 use Rattle.tabled_table.specs.TableSheet.{new_sheet}
 use Rattle.tabled.specs.declared.arguments.Order.{Order}
-use Rattle.tabled.specs.declared.arguments.Order.TheVariants.{Round, Least, Greatest, Leftmost, Rightmost}
+use Rattle.tabled.specs.declared.arguments.Order.TheVariants.{Greatest}
 use Rattle.tabled.specs.declared.arguments.Plan.{Plan}
-use Rattle.tabled.specs.declared.arguments.Plan.TheVariants.{Buffered, Streamed, Wrapped, Shortened}
+use Rattle.tabled.specs.declared.arguments.Plan.TheVariants.{Streamed, Wrapped, Shortened}
 use Rattle.tabled.specs.Planned.{Cells}
 
 -- a wider table that is wrapped or truncated to n takes n columns, or as many as the empty table if
 -- that is more, and its columns hold its cells
 abbrev pub HasWantedTotal : Plan → Sheet → Sheet → Type 0
-HasWantedTotal Buffered old new = ⊤
-HasWantedTotal Streamed old new = ⊤
 HasWantedTotal (Wrapped n words order) old new = n < total_width old → HasExactTotal n old new
 HasWantedTotal (Shortened n order) old new = n < total_width old → HasExactTotal n old new
+HasWantedTotal _ old new = ⊤
 
 -- if the widest columns shrink first, no permitted widths with the same sum have a smaller maximum
 abbrev pub IsLeastBy : Order → Sheet → Sheet → Type 0
-IsLeastBy Round old new = ⊤
-IsLeastBy Least old new = ⊤
 IsLeastBy Greatest old new = HasLeastWidth old new
-IsLeastBy Leftmost old new = ⊤
-IsLeastBy Rightmost old new = ⊤
+IsLeastBy _ old new = ⊤
 
 abbrev pub HasLeastGreatestWidth : Plan → Sheet → Sheet → Type 0
-HasLeastGreatestWidth Buffered old new = ⊤
-HasLeastGreatestWidth Streamed old new = ⊤
 HasLeastGreatestWidth (Wrapped n words order) old new = n < total_width old → IsLeastBy order old new
 HasLeastGreatestWidth (Shortened n order) old new = n < total_width old → IsLeastBy order old new
+HasLeastGreatestWidth _ old new = ⊤
 
 -- a wrapped cell has the fewest lines possible for its content width, and without the inserted
 -- breaks it is the old text
 abbrev pub HasFewestBreaks : Plan → Sheet → Sheet → Type 0
-HasFewestBreaks Buffered old new = ⊤
-HasFewestBreaks Streamed old new = ⊤
 HasFewestBreaks (Wrapped n words order) old new = n < total_width old → IsBestWrapped words old new
-HasFewestBreaks (Shortened n order) old new = ⊤
+HasFewestBreaks _ old new = ⊤
 
 -- a cut cell of one exact line (its columns are the sum of its characters') is the longest
 -- beginning that fits, with U+FFFD in the column that a wide character leaves
 abbrev pub HasLongestBeginnings : Plan → Sheet → Sheet → Type 0
-HasLongestBeginnings Buffered old new = ⊤
-HasLongestBeginnings Streamed old new = ⊤
-HasLongestBeginnings (Wrapped n words order) old new = ⊤
 HasLongestBeginnings (Shortened n order) old new = n < total_width old → IsBestCut false old new
+HasLongestBeginnings _ old new = ⊤
 
 -- if all streamed cells are exact lines, the streamed table is the buffered one
 abbrev pub IsAsBuffered : Plan → Sheet → Sheet → Type 0
-IsAsBuffered Buffered old new = ⊤
 IsAsBuffered Streamed old new = All (All IsExactLine) old.cells → new ≡ old
-IsAsBuffered (Wrapped n words order) old new = ⊤
-IsAsBuffered (Shortened n order) old new = ⊤
+IsAsBuffered _ old new = ⊤
 
 -- settings that separate cells, whatever the cells hold, in tables of any size
 abbrev pub KeepsApart : SpannedConfig → Type 0

@@ -1,5 +1,5 @@
 -- The table that a plan makes of the cells of a text.
-use Rattle.std.specs.Prelude.{◌≡◌, ℕ, ◌-◌, Bool, true, false, List, [], MatchBool, nat_le}
+use Rattle.std.specs.Prelude.{◌≡◌, ℕ, ◌-◌, true, false, List, [], MatchBool, nat_le}
 use Rattle.tabled_set.specs.CellChanges.{AreChanged, if_wider, truncating, wrapping}
 use Rattle.tabled_set.specs.declared.truncate.SuffixLimit.TheVariants.{Cut}
 use Rattle.tabled_config.specs.declared.spanned.SpannedConfig.{SpannedConfig}
@@ -60,7 +60,5 @@ IsPlanned plan cells t = IsPlannedOf plan (new_sheet cells) t
 
 -- the plan that measures everything first
 abbrev pub measured : Plan → Plan
-measured Buffered = Buffered
 measured Streamed = Buffered
-measured (Wrapped n words order) = Wrapped n words order
-measured (Shortened n order) = Shortened n order
+measured plan = plan

@@ -1,6 +1,5 @@
 //! `render`: prints a text as a table, and narrows it by wrapping or truncating its cells.
-ghost use Rattle.std.specs.Prelude.{◌≡◌, ◌⊎◌, ◌-◌, IfErr, IfOk, None, Some, false, true};
-ghost use Rattle.std.specs.List.{list_all};
+ghost use Rattle.std.specs.Prelude.{◌≡◌, ◌⊎◌, ◌-◌, IfErr, IfOk, None, Some, false};
 ghost use Rattle.tabled_base.specs.Cells.{IsRectangular};
 ghost use Rattle.tabled_base.specs.declared.error.TableError.TheVariants.{Memory, Range, Writer};
 ghost use Rattle.tabled_config.specs.Options.{with_style};
@@ -16,14 +15,13 @@ ghost use Rattle.tabled_size.specs.TextCells.{AreTexts};
 ghost use Rattle.tabled_table.specs.NewConfig.{new_config};
 ghost use Rattle.tabled.specs.declared.arguments.Plan.TheVariants.{Streamed};
 ghost use Rattle.tabled.specs.Planned.{measured};
-ghost use Rattle.tabled_text.specs.Letters.{is_letter_or_break};
 ghost use Rattle.tabled.specs.Rendered.{IsMade, IsRendered, IsRenderedOf};
 
 use crate::arguments::{OrderPriority, Plan};
 use std::alloc::Global;
 use tabled_base::{PeekableRecords, Position, TableError, TableOption};
 use tabled_config::{ColoredConfig, SpannedConfig, Style};
-use tabled_grid::{TextSink, print_estimated, print_standing};
+use tabled_grid::{TextSink, print_standing};
 use tabled_records::{LentRows, text_rows};
 use tabled_set::{
     CellFilter, Change, ContentSizes, NarrowedRows, SuffixLimit, Truncate, Truncating, Wrap,
@@ -73,8 +71,8 @@ fn narrow<'r, 't>(
     }
 }
 
-/// Wraps or truncates the cells of a table, as a plan says, and prints it.
-fn print_narrowed<S: TextSink>(
+/// Prints the table of some records and settings under a plan. Measures all of it first.
+fn print_measured<S: TextSink>(
     alloc: Global,
     rows: &LentRows<'_>,
     config: &SpannedConfig,
@@ -91,27 +89,6 @@ fn print_narrowed<S: TextSink>(
         Some(NarrowedRows::Cut(cells)) => print_standing(sink, &cells, config, &sizes),
         Some(NarrowedRows::Made(cells)) => print_standing(sink, &cells, config, &sizes),
         None => print_standing(sink, rows, config, &sizes),
-    }
-}
-
-/// Prints the table of some records and settings under a plan. Measures all of it first.
-fn print_measured<S: TextSink>(
-    alloc: Global,
-    rows: &LentRows<'_>,
-    config: &SpannedConfig,
-    plan: Plan,
-    sink: &mut S,
-) -> Result<(), TableError>
-    requires texts { AreTexts rows.now }
-    requires rectangular { IsRectangular rows.now }
-    ensures { IsRenderedOf (measured plan) (estimated rows.now config.now)
-        (S.sent sink.old) result (S.sent sink.new) }
-{
-    match plan {
-        Plan::Buffered | Plan::Streamed => print_estimated(alloc, sink, rows, config),
-        Plan::Shortened { .. } | Plan::Wrapped { .. } => {
-            print_narrowed(alloc, rows, config, plan, sink)
-        }
     }
 }
 
@@ -165,18 +142,6 @@ fn print_streamed<R: PeekableRecords, S: TextSink>(
     print_standing(sink, &cells, config, &sizes)
 }
 
-/// Whether a plan streams a text that isn't letters alone, so that cells may be cut.
-fn may_cut(plan: Plan, text: &str) -> bool
-    ensures streamed { result ≡ true → plan ≡ Streamed }
-    ensures plain { result ≡ false → plan ≡ Streamed
-        → list_all is_letter_or_break text.now ≡ true }
-{
-    match plan {
-        Plan::Streamed => !is_letter_text(text),
-        _ => false,
-    }
-}
-
 /// Prints tab-separated rows as a table, under a plan.
 ///
 /// A row ends at a line feed and a cell at a tab. The empty text has no rows, and short rows get
@@ -198,15 +163,13 @@ pub fn render<S: TextSink>(
         (S.sent sink.new) }
     ensures only { IfErr result (λ e. (e ≡ Memory) ⊎ ((e ≡ Range) ⊎ (e ≡ Writer))) }
 {
-    if text.is_empty() {
-        return Ok(());
-    }
     let rows = text_rows(alloc, text)?;
     let config = new_config(alloc);
-    if may_cut(plan, text) {
-        return print_streamed(alloc, &rows, &config, sink);
+    match plan {
+        // Letters fit in their columns, so no cell is cut.
+        Plan::Streamed if !is_letter_text(text) => print_streamed(alloc, &rows, &config, sink),
+        _ => print_measured(alloc, &rows, &config, plan, sink),
     }
-    print_measured(alloc, &rows, &config, plan, sink)
 }
 
 /// Prints tab-separated rows as a table in a style, under a plan.
@@ -226,9 +189,6 @@ pub fn render_styled<S: TextSink>(
         (S.sent sink.old) result (S.sent sink.new) }
     ensures only { IfErr result (λ e. (e ≡ Memory) ⊎ ((e ≡ Range) ⊎ (e ≡ Writer))) }
 {
-    if text.is_empty() {
-        return Ok(());
-    }
     let mut config = ColoredConfig::new(new_config(alloc));
     TableOption::change(style, &mut (), &mut config, &mut ())?;
     let rows = text_rows(alloc, text)?;

@@ -1,6 +1,6 @@
-use Rattle.tabled.proofs.Names.{AreCleared, Buffered, Cells, Cut, IsMade, Memory, Narrows, None, Plan, Range, Row, Sheet, Shortened, Shrinks, Some}
-use Rattle.tabled.proofs.Names.{TableError, TruncatesAsPromised, Wrapped, [], ap, arith, effective, effective_estimated}
-use Rattle.tabled.proofs.Names.{estimated, false, if_wider, measured, refl, rules, subst, sym, truncating, unwrap_or, ⊎_elim, ◌∙◌, ◌≡◌, ◌⊎◌}
+use Rattle.tabled.proofs.Names.{AreCleared, Buffered, Cells, Cut, IsMade, Memory, None, Plan, Range, Row, Sheet, Shortened, Some, TableError}
+use Rattle.tabled.proofs.Names.{Wrapped, [], ap, arith, effective, effective_estimated, estimated, false, measured, refl, rules, subst, sym}
+use Rattle.tabled.proofs.Names.{unwrap_or, ⊎_elim, ◌∙◌, ◌≡◌, ◌⊎◌}
 use Rattle.std.proofs.lemmas.Grind.{common_steps}
 use Rattle.tabled_set.specs.NarrowedRows.{cells_of_or}
 use Rattle.tabled.proofs.FittedTables.{passes, truncated, wrapped}
@@ -56,18 +56,8 @@ returns-in_ok-truncated-in-Shortened-clause-made c =
     first_of (search rules, grind (arith, common_steps)) in
     let config = c.args.config.now in
     let cleared : AreCleared None last last = record { widths = refl; heights = refl } in
-    let narrows : Narrows Shrinks w.priority (if_wider (truncating [] Cut false)) w.size cells config none after last =
-    subst (λ m. Narrows Shrinks w.priority (if_wider (truncating [] Cut m)) w.size cells config none after last) multiline
-    (subst (λ l. Narrows Shrinks w.priority (if_wider (truncating [] l w.transform.multiline)) w.size cells config none after last) limit
-    (subst (λ x. Narrows Shrinks w.priority (if_wider (truncating x w.transform.limit w.transform.multiline)) w.size cells config none after last) suffix
-    c.in_ok-truncated-in-Shortened.ensures.ok)) in
-    let old = effective cells config none in
-    let t = effective after config last in
-    let promise : TruncatesAsPromised Shrinks w.priority [] Cut false w.size old t =
-    subst (λ m. TruncatesAsPromised Shrinks w.priority [] Cut m w.size old t) multiline
-    (subst (λ l. TruncatesAsPromised Shrinks w.priority [] l w.transform.multiline w.size old t) limit
-    (subst (λ x. TruncatesAsPromised Shrinks w.priority x w.transform.limit w.transform.multiline w.size old t) suffix
-    (c.in_ok-truncated-in-Shortened.ensures.promised last cleared))) in
+    let narrows = rw (suffix, limit, multiline) at c.in_ok-truncated-in-Shortened.ensures.ok in
+    let promise = rw (suffix, limit, multiline) at (c.in_ok-truncated-in-Shortened.ensures.promised last cleared) in
     let made = truncated w.priority start w.size cells after config none last last c.requires.no_widths c.requires.no_heights
     c.requires.rectangular c.requires.texts narrows cleared promise in
     subst (λ (p : Plan). IsMade p (estimated cells config) (effective after config last)) (plan ∙ sym (ap measured c.in-Shortened.is)) made

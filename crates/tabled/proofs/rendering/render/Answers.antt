@@ -1,16 +1,12 @@
-use Rattle.tabled.proofs.Names.{AreTexts, Cells, IsRectangular, IsRendered, IsRenderedOf, Ok, Plan, Result, Sent, SpannedConfig, Streamed}
-use Rattle.tabled.proofs.Names.{TableError, estimated, measured, new_config, refl, subst, sym, text_rows, ◌≡◌}
+use Rattle.tabled.proofs.Names.{true, AreTexts, Cells, IsRectangular, IsRendered, IsRenderedOf, Plan, Result, Sent, SpannedConfig, Streamed}
+use Rattle.tabled.proofs.Names.{TableError, estimated, measured, new_config, subst, sym, text_rows, ◌≡◌}
 use Rattle.tabled.proofs.PlainTexts.{rendered_measured}
-use Rattle.tabled.proofs.RenderedTables.{only_rendered, rendered_empty, rendered_new}
-use Rattle.tabled.proofs.Outputs.{text_empty, text_rectangular, texts_of_text}
+use Rattle.tabled.proofs.RenderedTables.{only_rendered, rendered_new}
+use Rattle.tabled.proofs.Outputs.{text_rectangular, texts_of_text}
+use Rattle.std.specs.List.{list_all}
+use Rattle.tabled_text.specs.Letters.{is_letter_or_break}
+use Rattle.tabled.proofs.rendering.render.Goals.{in_default-via-in-Streamed+else-not-is_letter_text, in_default-via-in_default}
 use Rattle.tabled.proofs.rendering.render.Goals as goal
-
-pub returns-then-is_empty-clause-rendered : goal.returns-then-is_empty-clause-rendered
-returns-then-is_empty-clause-rendered g c =
-    let text = c.args.text.now in
-    let done : Unit {0} = tt in
-    rendered_empty c.args.plan (text_rows text) (text_empty text c.if-is_empty.ensures) (g.S.TextSink.sent c.args.sink.now) (Ok done) (text_rectangular text)
-    (texts_of_text text c.utf8.text) refl
 
 pub print_measured-requires-clause-texts : goal.print_measured-requires-clause-texts
 print_measured-requires-clause-texts g c = subst AreTexts (sym c.in_ok-rows.ensures.ok) (texts_of_text c.args.text.now c.utf8.text)
@@ -32,25 +28,29 @@ printed_as plan rows cells config old r new e f h =
     subst (λ (d : SpannedConfig). IsRenderedOf plan (estimated cells d) old r new) f
     (subst (λ (k : Cells). IsRenderedOf plan (estimated k config) old r new) e h)
 
-pub returns-then-may_cut-clause-rendered : goal.returns-then-may_cut-clause-rendered
-returns-then-may_cut-clause-rendered g c =
+pub returns-in-Streamed-clause-rendered : goal.returns-in-Streamed-clause-rendered
+returns-in-Streamed-clause-rendered g c =
     let cells = text_rows c.args.text.now in
     let r = c.print_streamed.result in
     let old = g.S.TextSink.sent c.args.sink.now in
     let new = g.S.TextSink.sent c.print_streamed.new.sink in
-    subst (λ (p : Plan). IsRendered p cells old r new) (sym (c.if-may_cut.ensures.streamed refl))
+    subst (λ (p : Plan). IsRendered p cells old r new) (sym c.in-Streamed.is)
     (rendered_new Streamed cells old r new
     (printed_as Streamed c.in_ok-rows.rows cells _ old r new c.in_ok-rows.ensures.ok c.new_config-config.ensures c.print_streamed.ensures))
 
-pub returns-then-may_cut-clause-only : goal.returns-then-may_cut-clause-only
-returns-then-may_cut-clause-only g c =
-    only_rendered c.args.plan (text_rows c.args.text.now) _ c.print_streamed.result _ (returns-then-may_cut-clause-rendered g c)
+pub returns-in-Streamed-clause-only : goal.returns-in-Streamed-clause-only
+returns-in-Streamed-clause-only g c =
+    only_rendered c.args.plan (text_rows c.args.text.now) _ c.print_streamed.result _ (returns-in-Streamed-clause-rendered g c)
 
 pub returns-clause-rendered : goal.returns-clause-rendered
 returns-clause-rendered g c =
     let text = c.args.text.now in
     let r = c.print_measured.result in
-    rendered_measured text (texts_of_text text c.utf8.text) c.args.plan (c.if-may_cut.ensures.plain refl) _ r _
+    let plain : c.args.plan ≡ Streamed → list_all is_letter_or_break text ≡ true = elim c.in_default.branch [
+      | in_default-via-in-Streamed+else-not-is_letter_text w ↦ λ e. sym w.if-not-is_letter_text.ensures
+      | in_default-via-in_default w ↦ λ e. absurd (w.in_default.not-Streamed e)
+    ] in
+    rendered_measured text (texts_of_text text c.utf8.text) c.args.plan plain _ r _
     (printed_as (measured c.args.plan) c.in_ok-rows.rows (text_rows text) c.new_config-config.result _ r _ c.in_ok-rows.ensures.ok
     c.new_config-config.ensures c.print_measured.ensures)
 
