@@ -17,21 +17,16 @@ use Rattle.tabled_extended.specs.declared.truncating.TextWidths.{TextWidths}
 abbrev pub least_columns : ℕ → ℕ
 least_columns count = 13 + length (decimal count)
 
--- values get what fields of f columns, the bar and a suffix of s columns leave
-abbrev pub value_widths : ℕ → ℕ → ℕ → Option TextWidths
-value_widths f s left = if nat_lt left (f + 3 + s) then None else Some (record { fields = None; values = left - (f + 3 + s) })
-
--- fields get what the bar and the suffix leave, and values get nothing
-abbrev pub field_widths : ℕ → ℕ → Option TextWidths
-field_widths s left = if nat_lt left (3 + s) then None else Some (record { fields = Some (left - (3 + s)); values = 0 })
-
 -- the widths for lines of `max` columns, fields of f columns and a suffix of s: fields stay if
--- they, the bar and the suffix fit. None if the default header doesn't fit, or the suffix, or the
--- texts
+-- they, the bar and the suffix fit, and values get what these leave; else fields get what the bar
+-- and the suffix leave, and values get nothing. None if the default header doesn't fit, or the
+-- suffix, or the texts
 abbrev pub text_widths_in : ℕ → ℕ → ℕ → ℕ → Option TextWidths
 text_widths_in max count f s =
     if nat_lt max (least_columns count) || nat_lt max s then None
-    else (if nat_lt (max - s) (f + 3) then field_widths s (max - s) else value_widths f s (max - s))
+    else (if nat_lt (max - s) (f + 3)
+    then (if nat_lt (max - s) (3 + s) then None else Some (record { fields = Some ((max - s) - (3 + s)); values = 0 }))
+    else (if nat_lt (max - s) (f + 3 + s) then None else Some (record { fields = None; values = (max - s) - (f + 3 + s) })))
 
 -- ---- one text
 

@@ -2,7 +2,7 @@ use Rattle.tabled_extended.proofs.Names.{Some, [], refl, ◌++◌, ◌∷◌}
 use Rattle.std.proofs.iter.Next.{Yields-more}
 use Rattle.std.proofs.lemmas.List.Elements.{All-pop}
 use Rattle.std.specs.Iterator.{IsFiniteIterable}
-use Rattle.tabled_extended.proofs.MadeRows.{collected-more}
+use Rattle.tabled_extended.proofs.MadeRows.{made-more}
 use Rattle.tabled_extended.proofs.extended_table.ExtendedTable+RecordTemplate.from_rows.Goals as goal
 
 pub collect_row-requires : goal.collect_row-requires
@@ -21,5 +21,5 @@ collect_row-requires g c =
 pub loop-row-preserved : goal.loop-row-preserved
 loop-row-preserved g c =
     let came = c.in_ok-collect_row.ensures.ok in
-    collected-more c.loop-row.all.items c.push.new.self.items c.in_ok-collect_row.field-0
+    made-more c.loop-row.all.items c.push.new.self.items c.in_ok-collect_row.field-0
     c.loop-row.invariant c.in_ok-push.ensures.items came.1 came.2
