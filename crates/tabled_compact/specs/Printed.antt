@@ -70,15 +70,11 @@ BuildsCompact t w comes old result new =
 
 -- ---- the rows of a source
 
--- the rows that were read are all, or as many as the window spans
-abbrev pub IsSpanned : Window → List (List (List ℕ)) → Bool → Type 0
-IsSpanned w rows whole = (whole ≡ true) ⊎ (spanned w.skip w.limit ≡ Some (length rows))
-
--- the rows were read, and maybe these are all; their lines were written, or the sink failed in
--- them, and then one is shown
+-- the rows were read, all of them or as many as the window spans; their lines were written, or the
+-- sink failed in them, and then one is shown
 pub record PutsRows {T : Type 0} (t : CompactSheet) (w : Window) (old : Sent) (result : Result T TableError)
     (new : Sent) (begun : Bool) (rows : List (List (List ℕ))) (whole : Bool) : Type 0 where
   pub taken : IfSome (spanned w.skip w.limit) (λ most. length rows ≤ most)
-  pub enough : OnOk result (IsSpanned w rows whole)
+  pub enough : OnOk result ((whole ≡ true) ⊎ (spanned w.skip w.limit ≡ Some (length rows)))
   pub filled : OnErr result (has_rows (in_window w rows) ≡ true)
   pub lines : WritesLines old false result new begun (rows_lines t (in_window w rows))
