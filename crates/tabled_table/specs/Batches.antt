@@ -1,5 +1,5 @@
 -- Where each batch of rows begins.
-use Rattle.std.specs.Prelude.{ℕ, ◌+◌, ◌-◌, ◌*◌, ◌/◌, ◌==◌, ◌&&◌, Bool, List, [], ◌∷◌, Option, Some, None, if◌then◌else◌, nat_lt, suc, zero}
+use Rattle.std.specs.Prelude.{ℕ, ◌+◌, ◌-◌, ◌*◌, ◌/◌, ◌==◌, ◌&&◌, List, [], ◌∷◌, Option, Some, None, if◌then◌else◌, nat_lt, suc, zero}
 use Rattle.tabled_table.specs.declared.making.LayoutIterator.{LayoutIterator}
 
 -- the number of batches from one number to another, the last one maybe incomplete; 0 for batches of
@@ -16,10 +16,6 @@ progression first step (suc count) = first ∷ progression (first + step) step c
 abbrev pub batches_left : LayoutIterator → List ℕ
 batches_left b = progression b.offset b.batch (batch_count (b.from + b.offset) b.to b.batch)
 
--- whether batch k begins before the end
-abbrev pub begins_before : ℕ → ℕ → ℕ → ℕ → Bool
-begins_before from to batch k = nat_lt 0 batch && nat_lt (from + k * batch) to
-
 -- item k of the list of all beginnings: k batches, if batch k begins before the end
 abbrev pub batch_at : ℕ → ℕ → ℕ → ℕ → Option ℕ
-batch_at from to batch k = if begins_before from to batch k then Some (k * batch) else None
+batch_at from to batch k = if nat_lt 0 batch && nat_lt (from + k * batch) to then Some (k * batch) else None

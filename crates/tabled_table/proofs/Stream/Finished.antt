@@ -252,8 +252,8 @@ module _ {settings : StreamSettings} {config : CompactConfig} {kept : List (List
 
 -- ---- for the functions that print: what they know is told of vectors and of a layout
 
-module _ {settings : StreamSettings} {config : CompactConfig} (kept : List (List (List ℕ))) {layout : Layout} {total : ℕ}
-    (l : IsLaidOut settings config (sniffed settings kept) layout) (some : 0 < layout.count)
+module _ {settings : StreamSettings} {config : CompactConfig} {kept : List (List (List ℕ))} {all : Bool} {layout : Layout} {total : ℕ}
+    (f : AreFirst settings kept all) (l : IsLaidOut settings config (sniffed settings kept) layout) (some : 0 < layout.count)
     (t : total ≡ stream_total settings config (sniffed settings kept)) (b : total < 2 ^ 64) where
   in-range : stream_total settings config (sniffed settings kept) < 2 ^ 64
   in-range = subst (λ n. n < 2 ^ 64) t b
@@ -261,13 +261,11 @@ module _ {settings : StreamSettings} {config : CompactConfig} (kept : List (List
   some-columns : 0 < column_count settings (sniffed settings kept)
   some-columns = subst (λ n. 0 < n) l.count some
 
-module _ {settings : StreamSettings} {config : CompactConfig} {kept : List (List (List ℕ))} {all : Bool} {layout : Layout} {old new : Sent} {total : ℕ}
-    (f : AreFirst settings kept all) (l : IsLaidOut settings config (sniffed settings kept) layout) (some : 0 < layout.count)
-    (t : total ≡ stream_total settings config (sniffed settings kept)) (b : total < 2 ^ 64) where
-  pub put-halted : {R : Type 0} (r : Result R TableError) (e : TableError) (shown : List (List (List ℕ))) → shown ≡ limited settings.rows kept
-      → IsErrAnd r (λ d. d ≡ e) → (n : ℕ) × Halts settings config (sniffed settings kept) (take n shown) old layout.count e new
+  pub put-halted : {R : Type 0} {old new : Sent} (r : Result R TableError) (e : TableError) (shown : List (List (List ℕ)))
+      → shown ≡ limited settings.rows kept → IsErrAnd r (λ d. d ≡ e)
+      → (n : ℕ) × Halts settings config (sniffed settings kept) (take n shown) old layout.count e new
       → Streams settings config (kept ++ []) all old r new
-  put-halted r e shown s i h =
+  put-halted {old = old} {new} r e shown s i h =
       let H : ℕ → List (List (List ℕ)) → Type 0 = λ k rows. Halts settings config (sniffed settings kept) (take h.0 rows) old k e new in
       let P : List (List (List ℕ)) → Type 0 = λ rows. Streams settings config rows all old r new in
       let laid = subst (λ rows. H (column_count settings (sniffed settings kept)) rows) s (subst (λ k. H k shown) l.count h.1) in
@@ -275,22 +273,21 @@ module _ {settings : StreamSettings} {config : CompactConfig} {kept : List (List
       let few = few-first f in
       subst P (sym (append-nil kept)) (err-streams r e i
       (halted (take h.0 rows) (drop h.0 rows) (sym (take-append-drop h.0 rows)) (omega arith) (sniffed-first all f)
-      (some-columns kept l some t b) (in-range kept l some t b) laid))
+      some-columns in-range laid))
 
-  pub put-finished : {R : Type 0} (r : Result R TableError) (more : List (List (List ℕ))) (whole : Bool) (items count : ℕ) → items ≡ length kept
-      → count ≡ length more
-      → AreFurther settings.rows items all count whole
+  pub put-finished : {R : Type 0} {old new : Sent} (r : Result R TableError) (more : List (List (List ℕ))) (whole : Bool) (items count : ℕ)
+      → items ≡ length kept → count ≡ length more → AreFurther settings.rows items all count whole
       → (IsLimited (left_of settings.rows items) (length more) whole
       × EndsSheet settings config (sniffed settings kept) (limited settings.rows kept ++ more) old r new)
       ⊎ IsErrAnd r (λ e. Halts settings config (sniffed settings kept) (limited settings.rows kept ++ more) old layout.count e new)
       → Streams settings config (kept ++ more) whole old r new
-  put-finished r more whole items count i n g h =
+  put-finished {old = old} {new} r more whole items count i n g h =
       let F : ℕ → ℕ → Type 0 = λ k m. AreFurther settings.rows k all m whole in
       let Q : ℕ → ℕ → Type 0 = λ k c.
       (IsLimited (left_of settings.rows k) (length more) whole
       × EndsSheet settings config (sniffed settings kept) (limited settings.rows kept ++ more) old r new)
       ⊎ IsErrAnd r (λ e. Halts settings config (sniffed settings kept) (limited settings.rows kept ++ more) old c e new) in
-      finished f (some-columns kept l some t b) (in-range kept l some t b) r more whole (subst (λ m. F (length kept) m) n (subst (λ k. F k count) i g))
+      finished f some-columns in-range r more whole (subst (λ m. F (length kept) m) n (subst (λ k. F k count) i g))
       (subst (λ c. Q (length kept) c) l.count (subst (λ k. Q k layout.count) i h))
 
 -- nothing was printed, since the whole is too wide or memory was refused
