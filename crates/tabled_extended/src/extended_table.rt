@@ -121,6 +121,7 @@ impl ExtendedTable<RecordTemplate> {
 
     /// Makes a table of rows: the first has the names of the fields, the others are records, of any
     /// length. Nothing is escaped. No rows give no fields and no records. Error: `Memory`.
+    #[tactic(auto, using(crate::proofs::MadeRows::first_removed, crate::proofs::MadeRows::further_removed, crate::proofs::MadeRows::first_of_none, crate::proofs::MadeRows::further_of_none))]
     pub fn from_rows<I: IntoRecords>(
         alloc: Global,
         rows: I,
@@ -137,7 +138,16 @@ impl ExtendedTable<RecordTemplate> {
         for row in rows.iter_rows() {
             all.push(collect_row(alloc, row)?)?;
         }
-        Ok(named_by_first(alloc, all))
+        let fields = if all.is_empty() {
+            Vec::new(alloc)
+        } else {
+            all.remove(0)
+        };
+        Ok(ExtendedTable {
+            fields,
+            records: all,
+            template: RecordTemplate,
+        })
     }
 }
 
@@ -155,21 +165,4 @@ where
         row.push(Text::copied(alloc, cell.text())?)?;
     }
     Ok(row)
-}
-
-#[tactic(auto, using(crate::proofs::MadeRows::first_removed, crate::proofs::MadeRows::further_removed, crate::proofs::MadeRows::first_of_none, crate::proofs::MadeRows::further_of_none))]
-fn named_by_first(alloc: Global, mut rows: Vec<Vec<Text<String>>>) -> ExtendedTable<RecordTemplate>
-    ensures fields { result.fields.items ≡ first_row (row_texts rows.items) }
-    ensures records { row_texts result.records.items ≡ further_rows (row_texts rows.items) }
-{
-    let fields = if rows.is_empty() {
-        Vec::new(alloc)
-    } else {
-        rows.remove(0)
-    };
-    ExtendedTable {
-        fields,
-        records: rows,
-        template: RecordTemplate,
-    }
 }
