@@ -15,7 +15,7 @@ ghost use Rattle.tabled_size.specs.Totals.{total_width};
 ghost use Rattle.tabled_line.specs.Plain.{EachLineTakes};
 ghost use Rattle.tabled_grid.specs.Picture.{picture};
 ghost use Rattle.tabled_grid.specs.Printed.{Prints};
-ghost use Rattle.tabled_table.specs.PrintedWith.{asked, left_part, missing_columns, shown};
+ghost use Rattle.tabled_table.specs.PrintedWith.{asked, missing_columns, shown};
 ghost use Rattle.tabled_table.specs.PrintedWith.{shown_config, shown_fill, takes_memory, widened};
 ghost use Rattle.tabled_table.specs.TableSheet.{IsApart, IsPlain, cells_of, sheet};
 
@@ -25,16 +25,6 @@ use tabled_base::{Entity, TableError};
 use tabled_config::{AlignmentHorizontal, Indent, Sides, SpannedConfig};
 use tabled_grid::{TextSink, print_standing};
 use tabled_size::is_empty;
-
-fn left_part(align: Option<AlignmentHorizontal>, missing: usize) -> usize
-    ensures { result ≡ left_part align missing }
-{
-    match align {
-        None | Some(AlignmentHorizontal::Left) => missing,
-        Some(AlignmentHorizontal::Center) => missing / 2,
-        Some(AlignmentHorizontal::Right) => 0,
-    }
-}
 
 /// Returns a margin with the missing columns added to its sides.
 fn widened(
@@ -50,7 +40,11 @@ fn widened(
         return margin;
     }
     let fill = if fill == '\0' { ' ' } else { fill };
-    let left = left_part(align, missing);
+    let left = match align {
+        None | Some(AlignmentHorizontal::Left) => missing,
+        Some(AlignmentHorizontal::Center) => missing / 2,
+        Some(AlignmentHorizontal::Right) => 0,
+    };
     let right = missing - left;
     Sides::new(
         Indent::new(margin.left.size + left, fill),
