@@ -24,9 +24,9 @@ PATHS = {
     # The styles of columns are looked up once.
     "styles": ("tabled_grid/src/column_styles.rt", ("FEWEST_ROWS: usize = 4;", "FEWEST_ROWS: usize = usize::MAX;")),
     # The placements of up to 128 columns are kept without an allocator.
-    "placements": ("tabled_grid/src/column_styles.rt", ("FEW_COLUMNS: usize = 128;", "FEW_COLUMNS: usize = 1;")),
+    "placements": ("tabled_grid/src/print.rt", ("FEW_PLACEMENTS: usize = 128;", "FEW_PLACEMENTS: usize = 1;")),
     # Tables of few columns have few cursors.
-    "cursors": ("tabled_line/src/cursor.rt", ("FEW_CURSORS: usize = 64;", "FEW_CURSORS: usize = 1;")),
+    "cursors": ("tabled_grid/src/print.rt", ("FEW_CURSORS: usize = 8;", "FEW_CURSORS: usize = 1_024;")),
     # The bar between two texts is kept with spaces around it.
     "separator": ("tabled_line/src/separator.rt", ("ColumnSeparator { bar, buffer, whole }", "ColumnSeparator { bar, buffer, whole: whole && false }")),
     # Spaces and dashes are written 64 at a time.
