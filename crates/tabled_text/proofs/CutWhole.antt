@@ -1,7 +1,7 @@
 -- A text of at most n bytes is cut to itself: no character counts more columns than it has bytes.
 use Rattle.tabled_text.proofs.Names.{IsCut, IsParted, IsReached, IsUtf8, Kind, List, [], alone, ap, append-nil, append_assoc, arith}
 use Rattle.tabled_text.proofs.Names.{cases_Bool, cases_lt, char_columns, char_count, char_width, chars, chars-nil, count_of, encode_utf8}
-use Rattle.tabled_text.proofs.Names.{encode_utf8_all, encodes-chars, eqb-false, eqb-true, false, inl, inr, kind, last_line, len_utf8}
+use Rattle.tabled_text.proofs.Names.{encode_utf8_all, encodes-chars, eqb-false, eqb-true, false, inl, inr, kind, last_line, len_utf8, missing_columns, nil_from_length}
 use Rattle.tabled_text.proofs.Names.{len_utf8_bounds, length, length-append, length-encode, nat_tests, of_kind, refl, single, subst}
 use Rattle.tabled_text.proofs.Names.{sum_by-cons, sym, width_or_zero-le, ℕ, ⊎_elim, ◌++◌, ◌+◌, ◌<◌, ◌==◌, ◌∙◌, ◌∷◌, ◌≡◌, ◌≤◌}
 use Rattle.tabled_text.proofs.CountBound.{count-some}
@@ -81,3 +81,39 @@ IsCut-counted n text u le = IsCut-filled u (IsParted-counted n text le) (sym (ap
 
 pub IsParted-short : (n : ℕ) (text : List ℕ) → IsUtf8 text → length text ≤ n → IsParted n (chars text) (chars text) 0 (chars [])
 IsParted-short n text u le = IsParted-counted n text (omega (arith, count_of-bytes text u))
+
+-- ---- what is appended, which needs a column and a text
+
+some-chars : (front : List ℕ) → IsUtf8 front → 0 < length front → 0 < length (chars front)
+some-chars front u some = elim (cases_lt 0 (length (chars front))) [
+  | inl lt ↦ lt
+  | inr none ↦
+      let is : front ≡ [] = sym (encodes-chars front u) ∙ ap encode_utf8_all (nil_from_length (chars front) (omega arith)) in
+      absurd (omega (arith, ap length is))
+]
+
+some-bytes : (text : List ℕ) → 0 < length (chars text) → 0 < length text
+some-bytes text some = elim (cases_lt 0 (length text)) [
+  | inl lt ↦ lt
+  | inr none ↦
+      let is : chars text ≡ [] = ap chars (nil_from_length text (omega arith)) ∙ chars-nil in
+      absurd (omega (arith, ap length is))
+]
+
+-- the beginning
+pub parted-front : {n missing : ℕ} (text : List ℕ) {front after : List ℕ} → IsParted n (chars text) (chars front) missing after → IsUtf8 front
+    → 0 < length front → (0 < n) × (0 < length text)
+parted-front {n} {missing} text {front} p u some =
+    let long = some-chars front u some in
+    let below = p.longest.reached.shorter 0 long in
+    (omega (arith, below), some-bytes text (omega (arith, ap length p.longest.parts, length-append (chars front) p.rest)))
+
+-- the copies of U+FFFD
+pub parted-missing : {n missing : ℕ} (text : List ℕ) {front after : List ℕ} → IsParted n (chars text) front missing after → 0 < missing
+    → (0 < n) × (0 < length text)
+parted-missing {n} {missing} text {front} p some = by_rest p.rest p.longest.parts (sym p.columns)
+  where
+    by_rest : (rest : List ℕ) → chars text ≡ front ++ rest → missing_columns n front rest ≡ missing → (0 < n) × (0 < length text)
+    by_rest [] parts is = absurd (omega (arith, is))
+    by_rest (c ∷ rest) parts is =
+        (omega (arith, is), some-bytes text (omega (arith, ap length parts, length-append front (c ∷ rest))))

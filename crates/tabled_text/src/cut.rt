@@ -81,9 +81,12 @@ fn fill(alloc: Global, front: &str, missing: usize) -> Result<CowStr<'_, Global>
     Ok(CowStr::Owned(answer))
 }
 
-/// Appends a text as `cut_str` cuts it. Error: an allocation failed.
+/// Appends a text as `cut_str` cuts it. Fails only if an allocation fails. Nothing is allocated if n
+/// is 0 or the text is empty.
 pub fn append_cut(out: &mut String, text: &str, n: usize) -> Result<(), AllocError>
-    ensures { OnOk result (AddsCut n text.now (string_bytes out.old) (string_bytes out.new)) }
+    ensures added { OnOk result
+        (AddsCut n text.now (string_bytes out.old) (string_bytes out.new)) }
+    ensures memory { OnErr result ((0 < n) × (0 < length text.now)) }
 {
     let (front, missing, _) = part(text, n);
     out.push_str(front)?;

@@ -1,6 +1,6 @@
 //! The trait of what wrapping writes to, and copies of a character.
 ghost use Rattle.std.specs.Prelude.{◌≡◌, ◌++◌, encode_utf8, encode_utf8_all, replicate, List, ℕ};
-ghost use Rattle.std.specs.Prelude.{IfOk, OnOk, [], string_bytes};
+ghost use Rattle.std.specs.Prelude.{IfOk, OnErr, OnOk, [], ◌<◌, string_bytes};
 ghost use Rattle.std.proofs.Common.{sym, ap, ◌∙◌, append-nil, append_assoc};
 
 use std::alloc::{AllocError, Global};
@@ -45,7 +45,8 @@ impl Sink for String {
 
 /// Writes n copies of a character.
 pub(crate) fn append_copies<S: Sink>(out: &mut S, c: char, n: usize) -> Result<(), S::Error>
-    ensures { OnOk result (S.adds out.old (encode_utf8_all (replicate n c)) out.new) }
+    ensures added { OnOk result (S.adds out.old (encode_utf8_all (replicate n c)) out.new) }
+    ensures some { OnErr result (0 < n) }
 {
     for _i in 0..n {
         out.append_char(c)?;

@@ -19,4 +19,4 @@ returns-clause-text g c =
     (encodes-wide n c.args.used c.args.c c.char_count-count.result column c.char_count-count.ensures.value
     c.if-count-n.false c.in_ok-column-2.ensures.at)
     (g.met.S.Sink.adds_more c.args.out.now c.begin-2.new.out c.append_copies.new.out (begin_text n c.args.used 1)
-    (encode_utf8_all (replicate (n - column) 0xFFFD)) c.in_ok-column-2.ensures.text c.in_ok-append_copies.ensures)
+    (encode_utf8_all (replicate (n - column) 0xFFFD)) c.in_ok-column-2.ensures.text c.in_ok-append_copies.ensures.added)
