@@ -7,7 +7,7 @@ ghost use Rattle.tabled_grid.specs.Printed.{IsOutOfRange};
 ghost use Rattle.tabled_records.specs.TextRows.{text_rows};
 ghost use Rattle.tabled_set.specs.Common.{at};
 ghost use Rattle.tabled_set.specs.Minimums.{side_padding};
-ghost use Rattle.tabled_set.specs.NarrowedRows.{cells_of_or};
+ghost use Rattle.tabled_set.specs.NarrowedCells.{cells_of_or};
 ghost use Rattle.tabled_size.specs.Effective.{effective};
 ghost use Rattle.tabled_size.specs.Sheet.{estimated, is_empty};
 ghost use Rattle.tabled_size.specs.Stored.{heights_of, widths_of};
@@ -61,7 +61,10 @@ fn narrow<'r, 't>(
             let wrap = wrap.priority(OrderPriority::new(order));
             let wrapped = wrap.narrowed(rows, config, sizes)?;
             sizes.clear_height();
-            Ok(NarrowedRows::made(wrapped))
+            let Some(cells) = wrapped else {
+                return Ok(None);
+            };
+            Ok(Some(NarrowedRows::Made(cells)))
         }
         Plan::Shortened { target, order } => {
             let truncate = Truncate::new(target).priority(OrderPriority::new(order));

@@ -1,10 +1,10 @@
 pub mod ChangingCells
-pub mod CutRows
 pub mod Emptied
 pub mod ExactTotals
 pub mod Names
 pub mod Totals
 pub mod JoinedLines
+pub mod NarrowedCells
 pub mod NarrowingTables
 pub mod Picking
 pub mod PromisedSizes

@@ -13,7 +13,7 @@ use Rattle.tabled_set.specs.Common.{FitsMinimums, IsTooWide}
 use Rattle.tabled_set.specs.CellChanges.{NeedsMemoryIn, if_taken, CellFilter}
 use Rattle.tabled_set.specs.Increased.{StopsFilling}
 use Rattle.tabled_set.specs.declared.narrowing.ColumnWidths.{ColumnWidths}
-use Rattle.tabled_set.specs.Narrowed.{content_of, FitsAlready, HasWidths, StopsEarly, StopsNarrowing, WiderOutOfRange, is_permitted}
+use Rattle.tabled_set.specs.Narrowed.{AreShrunk, content_of, FitsAlready, HasWidths, StopsEarly, StopsNarrowing, WiderOutOfRange, is_permitted}
 use Rattle.tabled_set.specs.Narrowed.{needs_for_content_size, IsFound, content_width, less_padding}
 use Rattle.tabled_config.specs.Settings.{style_at}
 use Rattle.tabled_entity.specs.Changes.{shared}
@@ -125,45 +125,57 @@ minimums-fit cells config sizes widths mins w m =
     let short = short-widths cells config sizes in
     inr (omega (arith, long, short, ap length w, minimums-length cells config))
 
-module _ {P : Type 0} (shrinks : Shrinks P) (priority : P) (n : ℕ) where
-  -- ---- what narrowing leaves
+-- ---- what narrowing leaves
 
-  module _ (change : ℕ → List ℕ → List ℕ → Type 0) (cells : List (List (List ℕ))) (config : SpannedConfig) (old mid : CompleteDimension) (some : is_empty cells ≡ false) (filled : IsFilledIn old cells config mid) where
-    found-old : (found : ColumnWidths) → IsFound shrinks priority n (effective cells config mid) found
-        → IsFound shrinks priority n (effective cells config old) found
-    found-old found h = subst (λ t. IsFound shrinks priority n t found) (effective-filled cells config old mid filled) h
+module _ {P : Type 0} (shrinks : Shrinks P) (priority : P) (n : ℕ) (cells : List (List (List ℕ))) (config : SpannedConfig) (old : CompleteDimension) where
+  found-old : (mid : CompleteDimension) (found : ColumnWidths) → HasWidths shrinks priority n cells config old mid found
+      → IsFound shrinks priority n (effective cells config old) found
+  found-old mid found h = subst (λ t. IsFound shrinks priority n t found) (effective-filled cells config old mid h.filled) h.found
 
-    pub narrows-some : (cells' : List (List (List ℕ))) (new : CompleteDimension) (found : ColumnWidths)
-        → IsFound shrinks priority n (effective cells config mid) found
-        → AreChanged (λ r c. true) (λ row column. if_sized change (content_of found row column)) cells cells'
-        → widths_of new ≡ Some found.widths.items → heights_of new ≡ None → Narrows shrinks priority change n cells config old cells' new
-    narrows-some cells' new found was changed stored cleared =
-        let t = effective cells config old in
-        let widths = found.widths.items in
-        let is = found-old found was in
-        let above : nat_le (total_width t) n ≡ false = let lt : n < total_width t = is.wider in grind (arith, nat_tests) in
-        match-last _ _ some above (record {
-          widths = widths;
-          shrunk = is.shrunk;
-          changed = sized-made t widths is.sized change changed;
-          stored = stored;
-          cleared = cleared;
-        })
+  -- the widths that were found are stored
+  pub are-shrunk : (mid new : CompleteDimension) (found : ColumnWidths) → HasWidths shrinks priority n cells config old mid found
+      → widths_of new ≡ Some found.widths.items → heights_of new ≡ None → AreShrunk shrinks priority n cells config old (content_of found) new
+  are-shrunk mid new found h stored cleared =
+      let is = found-old mid found h in
+      record {
+        some = h.some;
+        wider = is.wider;
+        widths = found.widths.items;
+        shrunk = is.shrunk;
+        sized = is.sized;
+        stored = stored;
+        cleared = cleared;
+      }
 
-    -- a failure at a cell
-    pub stops-some : (cell_filter : CellFilter) (in_place : ℕ → List ℕ → Type 0) (cells' : List (List (List ℕ))) (error : TableError)
-        (found : ColumnWidths) → error ≡ Memory → IsFound shrinks priority n (effective cells config mid) found
-        → AreChangedBefore ByColumn (λ r c. true) (λ row column. NeedsMemoryIn cell_filter in_place (content_of found row column))
-        (λ row column. if_sized (if_taken cell_filter change) (content_of found row column)) cells cells'
-        → StopsNarrowing shrinks priority cell_filter in_place change n error cells config old cells' mid
-    stops-some cell_filter in_place cells' error found e was changed =
-        let is = found-old found was in
-        let before = sized-before (effective cells config old) found.widths.items is.sized cell_filter in_place change changed in
-        inr (record {
-          wider = is.wider;
-          filled = filled;
-          stopped = inr (e, record { wider = is.wider; widths = found.widths.items; shrunk = is.shrunk; changed = before });
-        })
+  -- and the cells are changed for their content widths
+  pub narrows-shrunk : (change : ℕ → List ℕ → List ℕ → Type 0) (cells' : List (List (List ℕ))) (content : ℕ → ℕ → Option ℕ) (new : CompleteDimension)
+      → AreShrunk shrinks priority n cells config old content new → AreChanged (λ r c. true) (λ row column. if_sized change (content row column)) cells cells'
+      → Narrows shrinks priority change n cells config old cells' new
+  narrows-shrunk change cells' content new h changed =
+      let t = effective cells config old in
+      let above : nat_le (total_width t) n ≡ false = let lt : n < total_width t = h.wider in grind (arith, nat_tests) in
+      match-last _ _ h.some above (record {
+        widths = h.widths;
+        shrunk = h.shrunk;
+        changed = sized-made t h.widths h.sized change changed;
+        stored = h.stored;
+        cleared = h.cleared;
+      })
+
+  -- an allocation failed at a cell
+  pub stops-some : (change : ℕ → List ℕ → List ℕ → Type 0) (cell_filter : CellFilter) (in_place : ℕ → List ℕ → Type 0) (cells' : List (List (List ℕ)))
+      (error : TableError) (mid : CompleteDimension) (found : ColumnWidths) → error ≡ Memory → HasWidths shrinks priority n cells config old mid found
+      → AreChangedBefore ByColumn (λ r c. true) (λ row column. NeedsMemoryIn cell_filter in_place (content_of found row column))
+      (λ row column. if_sized (if_taken cell_filter change) (content_of found row column)) cells cells'
+      → StopsNarrowing shrinks priority cell_filter in_place change n error cells config old cells' mid
+  stops-some change cell_filter in_place cells' error mid found e h changed =
+      let is = found-old mid found h in
+      let before = sized-before (effective cells config old) found.widths.items is.sized cell_filter in_place change changed in
+      inr (record {
+        wider = is.wider;
+        filled = h.filled;
+        stopped = inr (e, record { wider = is.wider; widths = found.widths.items; shrunk = is.shrunk; changed = before });
+      })
 
 -- ---- what fails
 

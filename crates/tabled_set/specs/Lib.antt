@@ -7,7 +7,7 @@ pub mod HeightFrame
 pub mod Increased
 pub mod Minimums
 pub mod Narrowed
-pub mod NarrowedRows
+pub mod NarrowedCells
 pub mod Priorities
 pub mod Promised
 pub mod Sides

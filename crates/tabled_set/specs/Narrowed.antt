@@ -128,6 +128,22 @@ pub record HasWidths {P : Type 0} (shrinks : Shrinks P) (priority : P) (n : ℕ)
   pub filled : IsFilledIn sizes cells config sizes'
   pub found : IsFound shrinks priority n (effective cells config sizes') widths
 
+-- the content width of each cell by a list for the columns
+abbrev pub column_width : List (Option ℕ) → ℕ → ℕ → Option ℕ
+column_width widths row column = slice_index_or widths column None
+
+-- the columns of a table wider than n shrink: the new widths are stored, and the heights are
+-- cleared. The cells have these content widths
+pub record AreShrunk {P : Type 0} (shrinks : Shrinks P) (priority : P) (n : ℕ) (cells : List (List (List ℕ)))
+    (config : SpannedConfig) (old : CompleteDimension) (content : ℕ → ℕ → Option ℕ) (new : CompleteDimension) : Type 0 where
+  pub some : is_empty cells ≡ false
+  pub wider : n < total_width (effective cells config old)
+  pub widths : List ℕ
+  pub shrunk : IsShrunkTo shrinks priority n (effective cells config old) widths
+  pub sized : (row column : ℕ) → content row column ≡ content_width (effective cells config old) widths row column
+  pub stored : widths_of new ≡ Some widths
+  pub cleared : heights_of new ≡ None
+
 -- what an error leaves while no cell has changed: the sizes unchanged while they are estimated, or
 -- filled in if the table is wider than n
 pub record StopsEarly (n : ℕ) (error : TableError) (cells : List (List (List ℕ))) (config : SpannedConfig)

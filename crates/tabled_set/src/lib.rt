@@ -20,15 +20,15 @@
 //! Changing cells and tables:
 //! - `walk`: changes the cells of an entity, row by row or column by column
 //! - `rewriting`: writes records anew, row by row, with some cells changed
-//! - `narrowing`: narrows a table, and changes its cells to fit
-//! - `narrowed_rows`: narrows the rows of a text by cutting their cells
+//! - `narrowing`: the widths to which columns shrink, and the change of a table to them
+//! - `narrowed_cells`: the cells of a narrowed table, for records that are only borrowed
 #![tactic(auto)]
 
 mod heights;
 pub mod laws;
 mod measurement;
 mod min_width;
-mod narrowed_rows;
+mod narrowed_cells;
 mod narrowing;
 mod resize;
 mod rewriting;
@@ -41,7 +41,7 @@ mod wrap;
 pub use heights::{CellHeightIncrease, CellHeightLimit, TableHeightIncrease, TableHeightLimit};
 pub use measurement::{Height, Max, Measurement, Min, Percent, Width};
 pub use min_width::{Justify, MinWidth};
-pub use narrowed_rows::NarrowedRows;
+pub use narrowed_cells::NarrowedRows;
 pub use resize::{CellFilter, Change, ContentSizes};
 pub use rewriting::changed_records;
 pub use sizes::{HeightList, WidthList};

@@ -1,4 +1,4 @@
-//! Narrows a table to a total width, and changes its cells to fit.
+//! The widths to which the columns of a table shrink, and the change of a table to them.
 ghost use Rattle.std.specs.Prelude.{◌≡◌, ◌⊎◌, ℕ, IfErr, IfOk, IfSome, ◌<◌, ◌≤◌, MatchOption, OnErr};
 ghost use Rattle.std.specs.Prelude.{Some, false, is_some, true, None, ◌-◌, OnOk, slice_index_or};
 ghost use Rattle.std.specs.Prelude.{IfNone, unwrap_or};
@@ -12,13 +12,12 @@ ghost use Rattle.tabled_set.specs.Minimums.{emptied, side_columns};
 
 use crate::measurement::{Measurement, Width};
 use crate::resize::{CellFilter, Change, ContentSizes, Resize, TextTransform};
-use crate::rewriting::changed_records;
 use crate::sizes::{shrunk, stored_columns};
 use crate::walk::{WalkOrder, change_cells};
 use std::alloc::{AllocError, Global};
 use tabled_base::{Entity, ExactRecords, PeekableRecords, Position, RecordsMut, TableError};
 use tabled_config::{Indent, Sides, SpannedConfig};
-use tabled_records::{EmptyRecords, JoinedRecords};
+use tabled_records::EmptyRecords;
 use tabled_size::{CompleteDimension, Estimate, Peaker, estimate_widths, is_empty};
 
 /// Returns the widths to which the columns of a table shrink, with the content widths of its cells,
@@ -191,46 +190,4 @@ pub(crate) fn narrow_table<
     sizes.set_widths(found.widths);
     sizes.clear_height();
     Ok(())
-}
-
-/// Returns the cells of a table as `narrow_table` changes them, or `None` if it isn't too wide. The
-/// sizes are stored as by `narrow_table`, but no record changes.
-pub(crate) fn narrowed_records<
-    T: TextTransform + Drop,
-    W: Measurement<Width> + Drop,
-    P: Peaker + Drop,
-    R: PeekableRecords,
->(
-    option: Resize<T, W, P>,
-    cell_filter: CellFilter,
-    records: &R,
-    config: &SpannedConfig,
-    sizes: &mut CompleteDimension,
-) -> Result<Option<JoinedRecords>, TableError>
-    ensures rectangular { IsRectangular (R.cells records.now) }
-    ensures ok { IfOk result (λ changed. Narrows P.shrinks option.priority
-        (if_taken cell_filter (T.makes option.transform))
-        (W.measures option.size (R.cells records.now) config.now) (R.cells records.now)
-        config.now sizes.old (unwrap_or changed (R.cells records.now)) sizes.new) }
-    ensures err { IfErr result (λ e. StopsEarly
-        (W.measures option.size (R.cells records.now) config.now) e
-        (R.cells records.now) config.now sizes.old sizes.new) }
-    ensures only { IfErr result (λ e. (e ≡ Memory) ⊎ ((e ≡ Range)
-        × NarrowingOutOfRange (W.out_of_range option.size (R.cells records.now) config.now)
-        (W.measures option.size (R.cells records.now) config.now)
-        (R.cells records.now) config.now sizes.old)) }
-{
-    let priority = option.priority;
-    let Some(found) = wanted_widths(&option.size, priority, records, config, sizes)? else {
-        return Ok(None);
-    };
-    let change = Change {
-        transform: &option.transform,
-        cell_filter,
-        content_sizes: &found,
-    };
-    let changed = changed_records(sizes.allocator(), &change, records)?;
-    sizes.set_widths(found.widths);
-    sizes.clear_height();
-    Ok(Some(changed))
 }

@@ -9,18 +9,18 @@ ghost use Rattle.tabled_set.specs.Narrowed.{Narrows, NarrowingOutOfRange, StopsE
 ghost use Rattle.tabled_set.specs.Narrowed.{StopsNarrowing};
 ghost use Rattle.tabled_set.specs.Truncated.{AddsEnded, Cut, HasEndedLines, IsMade, IsTruncated};
 ghost use Rattle.tabled_set.specs.Truncated.{IsUsed, suffix_columns, truncating_in_place};
-ghost use Rattle.tabled_set.specs.NarrowedRows.{cells_of_or};
+ghost use Rattle.tabled_set.specs.NarrowedCells.{cells_of_or};
 ghost use Rattle.tabled_set.specs.Promised.{AfterClearing, TruncatesAsPromised};
 
 use crate::measurement::{Measurement, Width};
-use crate::narrowed_rows::{NarrowedRows, narrowed_rows};
+use crate::narrowed_cells::{NarrowedRows, narrow_when_read, narrowed_records, shrink_columns};
 use crate::narrowing::narrow_table;
 use crate::resize::{Beginning, CellFilter, Resize, TextTransform};
 use std::alloc::{AllocError, Global};
 use std::borrow::CowStr;
 use tabled_base::{Entity, RecordsMut, SHORT_TEXT, TableError, TableOption};
 use tabled_config::{ColoredConfig, SpannedConfig};
-use tabled_records::LentRows;
+use tabled_records::{CutLentRows, LentRows};
 use tabled_size::{CompleteDimension, Peaker, PriorityNone};
 use tabled_text::{append_cut, copies, count_lines, cut_length, cut_str, line_width, lines};
 
@@ -298,7 +298,18 @@ impl<'a, W: Measurement<Width> + Drop, P: Peaker + Drop> Truncate<'a, W, P> {
             × NarrowingOutOfRange (W.out_of_range self.entry.size rows.now cfg.now)
             (W.measures self.entry.size rows.now cfg.now) rows.now cfg.now dims.old)) }
     {
-        narrowed_rows(self, rows, cfg, dims)
+        let by = self.transform;
+        if by.suffix.is_empty() && !by.multiline && narrow_when_read(rows, cfg) {
+            let priority = self.priority;
+            let Some(widths) = shrink_columns(&self.size, priority, rows, cfg, dims)? else {
+                return Ok(None);
+            };
+            return Ok(Some(NarrowedRows::Cut(CutLentRows::new(rows, widths))));
+        }
+        let Some(made) = narrowed_records(self, CellFilter::Wider, rows, cfg, dims)? else {
+            return Ok(None);
+        };
+        Ok(Some(NarrowedRows::Made(made)))
     }
 }
 

@@ -10,7 +10,8 @@ ghost use Rattle.tabled_text.specs.Breaking.{EachUnitFits, HasFewestLines, IsLea
 ghost use Rattle.tabled_text.specs.Wrapping.{IsWrapped};
 
 use crate::measurement::{Measurement, Width};
-use crate::narrowing::{narrow_table, narrowed_records};
+use crate::narrowed_cells::narrowed_records;
+use crate::narrowing::narrow_table;
 use crate::resize::{Beginning, CellFilter, Resize, TextTransform};
 use std::alloc::{AllocError, Global};
 use tabled_base::{Entity, PeekableRecords, RecordsMut, TableError, TableOption};

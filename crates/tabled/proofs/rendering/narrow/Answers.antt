@@ -2,7 +2,7 @@ use Rattle.tabled.proofs.Names.{AreCleared, Buffered, Cells, Cut, IsMade, Memory
 use Rattle.tabled.proofs.Names.{Wrapped, [], ap, arith, effective, effective_estimated, estimated, false, measured, refl, rules, subst, sym}
 use Rattle.tabled.proofs.Names.{unwrap_or, ⊎_elim, ◌∙◌, ◌≡◌, ◌⊎◌}
 use Rattle.std.proofs.lemmas.Grind.{common_steps}
-use Rattle.tabled_set.specs.NarrowedRows.{cells_of_or}
+use Rattle.tabled_set.specs.NarrowedCells.{cells_of_or}
 use Rattle.tabled.proofs.FittedTables.{passes, truncated, wrapped}
 use Rattle.tabled.proofs.RenderedTables.{buffered_made, range_only}
 use Rattle.tabled.proofs.rendering.narrow.Goals as goal

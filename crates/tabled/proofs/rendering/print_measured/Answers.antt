@@ -1,6 +1,6 @@
 use Rattle.tabled.proofs.Names.{IsMade, Option, Some, ap, effective, estimated, is_stored, measured, not, subst, ◌∙◌}
-use Rattle.tabled_set.specs.NarrowedRows.{cells_of_or}
-use Rattle.tabled_set.specs.declared.narrowed_rows.NarrowedRows.{NarrowedRows}
+use Rattle.tabled_set.specs.NarrowedCells.{cells_of_or}
+use Rattle.tabled_set.specs.declared.narrowed_cells.NarrowedRows.{NarrowedRows}
 use Rattle.tabled.proofs.RenderedTables.{prints_made}
 use Rattle.tabled.proofs.rendering.print_measured.Goals as goal
 

@@ -1,6 +1,6 @@
 use Rattle.tabled_set.proofs.Names.{◌∙◌}
 use Rattle.tabled_set.specs.CellChanges.{if_taken}
-use Rattle.tabled_set.proofs.NarrowingTables.{at-none, at-some, if-err, narrows-fitting, narrows-some, stops-early, stops-some}
+use Rattle.tabled_set.proofs.NarrowingTables.{are-shrunk, at-none, at-some, if-err, narrows-fitting, narrows-shrunk, stops-early, stops-some}
 use Rattle.tabled_set.proofs.narrowing.narrow_table.Goals as goal
 
 pub returns-in_err-found-clause-err : goal.returns-in_err-found-clause-err
@@ -19,14 +19,13 @@ pub returns-in_err-change_cells-clause-err : goal.returns-in_err-change_cells-cl
 returns-in_err-change_cells-clause-err g c =
     let found = c.in-Some.found in
     let h = at-some _ _ found c.in-Some.is c.in_ok-found.ensures.some in
-    if-err _ c.from_residual-in_err-change_cells.result _ c.from_residual-in_err-change_cells.ensures.1 (
-      h.some,
-      stops-some _ _ _ _ _ _ _ _ h.some h.filled _ _ _ _ found c.in_err-change_cells.ensures.only h.found c.in_err-change_cells.ensures.err,
-    )
+    if-err _ c.from_residual-in_err-change_cells.result _ c.from_residual-in_err-change_cells.ensures.1
+    (h.some, stops-some _ _ _ _ _ _ _ _ _ _ _ _ found c.in_err-change_cells.ensures.only h c.in_err-change_cells.ensures.err)
 
 pub returns-clause-ok : goal.returns-clause-ok
 returns-clause-ok g c =
     let found = c.in-Some.found in
     let h = at-some _ _ found c.in-Some.is c.in_ok-found.ensures.some in
-    narrows-some _ _ _ _ _ _ _ _ h.some h.filled _ c.clear_height.new.self found h.found c.in_ok-change_cells.ensures.ok
-    (c.clear_height.ensures.widths ∙ c.set_widths.ensures.widths) c.clear_height.ensures.heights
+    narrows-shrunk _ _ _ _ _ _ _ _ _ _
+    (are-shrunk _ _ _ _ _ _ _ c.clear_height.new.self found h (c.clear_height.ensures.widths ∙ c.set_widths.ensures.widths) c.clear_height.ensures.heights)
+    c.in_ok-change_cells.ensures.ok

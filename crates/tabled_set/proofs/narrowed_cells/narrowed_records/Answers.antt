@@ -1,7 +1,7 @@
 use Rattle.tabled_set.proofs.Names.{◌∙◌}
 use Rattle.tabled_set.specs.CellChanges.{if_taken}
-use Rattle.tabled_set.proofs.NarrowingTables.{at-none, at-some, early-found, if-err, narrows-fitting, narrows-some}
-use Rattle.tabled_set.proofs.narrowing.narrowed_records.Goals as goal
+use Rattle.tabled_set.proofs.NarrowingTables.{are-shrunk, at-none, at-some, early-found, if-err, narrows-fitting, narrows-shrunk}
+use Rattle.tabled_set.proofs.narrowed_cells.narrowed_records.Goals as goal
 
 pub returns-in_err-found-clause-err : goal.returns-in_err-found-clause-err
 returns-in_err-found-clause-err g c = if-err _ c.from_residual.result _ c.from_residual.ensures.1 c.in_err-found.ensures.err
@@ -24,5 +24,6 @@ pub returns-clause-ok : goal.returns-clause-ok
 returns-clause-ok g c =
     let found = c.in-Some.found in
     let h = at-some _ _ found c.in-Some.is c.in_ok-found.ensures.some in
-    narrows-some _ _ _ _ _ _ _ _ h.some h.filled _ c.clear_height.new.self found h.found c.in_ok-changed.ensures.ok
-    (c.clear_height.ensures.widths ∙ c.set_widths.ensures.widths) c.clear_height.ensures.heights
+    narrows-shrunk _ _ _ _ _ _ _ _ _ _
+    (are-shrunk _ _ _ _ _ _ _ c.clear_height.new.self found h (c.clear_height.ensures.widths ∙ c.set_widths.ensures.widths) c.clear_height.ensures.heights)
+    c.in_ok-changed.ensures.ok

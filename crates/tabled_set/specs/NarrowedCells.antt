@@ -1,7 +1,7 @@
 -- The rows of a table that is narrowed.
 use Rattle.std.specs.Prelude.{ℕ, List, Option, None, Some}
-use Rattle.tabled_set.specs.declared.narrowed_rows.NarrowedRows.{NarrowedRows}
-use Rattle.tabled_set.specs.declared.narrowed_rows.NarrowedRows.TheVariants.{Cut, Made}
+use Rattle.tabled_set.specs.declared.narrowed_cells.NarrowedRows.{NarrowedRows}
+use Rattle.tabled_set.specs.declared.narrowed_cells.NarrowedRows.TheVariants.{Cut, Made}
 
 -- the cells of narrowed rows
 abbrev pub cells_of : NarrowedRows → List (List (List ℕ))

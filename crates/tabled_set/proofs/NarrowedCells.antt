@@ -1,9 +1,9 @@
--- Rows of printable ASCII that are truncated by cutting their cells.
-use Rattle.tabled_set.proofs.Names.{AreChanged, IsTruncated, List, MatchBool, None, Option, Some}
-use Rattle.tabled_set.proofs.Names.{SuffixLimit, [], ap, append-nil, arith, cases_Bool, cell_at, false, if_sized, if_wider, if◌then◌else◌, length, inr}
+-- Cells of printable ASCII that are narrowed when they are read.
+use Rattle.tabled_set.proofs.Names.{AreChanged, CompleteDimension, IsTruncated, List, MatchBool, None, Option, Some}
+use Rattle.tabled_set.proofs.Names.{Shrinks, SpannedConfig, SuffixLimit, [], ap, append-nil, arith, cases_Bool, cell_at, false, if_sized, if_wider, if◌then◌else◌, length, inr}
 use Rattle.tabled_set.proofs.Names.{nat_lt, nat_tests, side_padding}
 use Rattle.tabled_set.specs.Common.{IsCut}
-use Rattle.tabled_set.specs.Narrowed.{content_of, less_padding}
+use Rattle.tabled_set.specs.Narrowed.{AreShrunk, column_width, content_of, less_padding}
 use Rattle.tabled_set.specs.declared.narrowing.ColumnWidths.{ColumnWidths}
 use Rattle.tabled_set.proofs.Names.{refl, slice_index_or, subst, sym, take, text_columns, true, truncating, ℕ, ⊎_elim, ◌<◌, ◌∙◌, ◌≡◌, ◌≤◌}
 use Rattle.std.proofs.Common.{chars, drop, is_some, ◌-◌}
@@ -49,35 +49,50 @@ cut-changed (Some n) limit text h =
 
 -- ---- all cells
 
-pub rows-cut : (sizes : List (Option ℕ)) (own : ℕ → ℕ → Option ℕ) (limit : SuffixLimit) (rows : List (List (List ℕ))) → ArePrintable rows
-    → ((row column : ℕ) → own row column ≡ slice_index_or sizes column None)
-    → AreChanged (λ row column. true) (λ row column. if_sized (if_wider (truncating [] limit false)) (own row column)) rows (cut_rows sizes rows)
-rows-cut sizes own limit rows h same =
-    let long = length-map rows (cut_row sizes) in
+pub rows-cut : (widths : List (Option ℕ)) (limit : SuffixLimit) (rows : List (List (List ℕ))) → ArePrintable rows
+    → AreChanged (λ row column. true) (λ row column. if_sized (if_wider (truncating [] limit false)) (column_width widths row column)) rows (cut_rows widths rows)
+rows-cut widths limit rows h =
+    let long = length-map rows (cut_row widths) in
     record {
       rows = long;
       row_lengths = λ row.
           ⊎_elim
           (λ inside. let l : row < length rows = grind (arith, nat_tests) in
-          ap length (get_or-map (cut_row sizes) rows row [] [] l) ∙ length-cut sizes (slice_index_or rows row []))
+          ap length (get_or-map (cut_row widths) rows row [] [] l) ∙ length-cut widths (slice_index_or rows row []))
           (λ outside.
           let past : length rows ≤ row = grind (arith, nat_tests) in
-          ap length (get_or_past (cut_rows sizes rows) row [] (omega (arith, past, long)) ∙ sym (get_or_past rows row [] past)))
+          ap length (get_or_past (cut_rows widths rows) row [] (omega (arith, past, long)) ∙ sym (get_or_past rows row [] past)))
           (cases_Bool (nat_lt row (length rows)));
       cells = λ row column inside.
           let text = cell_at rows row column in
-          subst (λ after. if_sized (if_wider (truncating [] limit false)) (own row column) text after)
-          (ap (λ o. cut_text o text) (same row column) ∙ sym (cell-cut sizes rows row column inside.row_in))
-          (cut-changed (own row column) limit text (h row column));
+          subst (λ after. if_sized (if_wider (truncating [] limit false)) (column_width widths row column) text after)
+          (sym (cell-cut widths rows row column inside.row_in))
+          (cut-changed (column_width widths row column) limit text (h row column));
     }
 
+-- ---- the columns that shrink
+
 -- a content width where all cells have the same padding
-pub unpadded : (found : ColumnWidths) (row column : ℕ) → is_some (shared found.config.now.padding) ≡ true
-    → content_of found row column ≡ slice_index_or found.content.items column None
+unpadded : (found : ColumnWidths) (row column : ℕ) → is_some (shared found.config.now.padding) ≡ true
+    → column_width found.content.items row column ≡ content_of found row column
 unpadded found row column h =
-    let width = slice_index_or found.content.items column None in
-    ap (λ b. less_padding width (if b then 0 else side_padding found.config.now row column)) h ∙ less-nothing width
+    let width = column_width found.content.items row column in
+    sym (less-nothing width) ∙ ap (λ b. less_padding width (if b then 0 else side_padding found.config.now row column)) (sym h)
   where
     less-nothing : (width : Option ℕ) → less_padding width 0 ≡ width
     less-nothing None = refl
     less-nothing (Some n) = let same : n - 0 ≡ n = omega arith in ap Some same
+
+pub shrunk-unpadded : {P : Type 0} (shrinks : Shrinks P) (priority : P) (n : ℕ) (cells : List (List (List ℕ))) (config : SpannedConfig)
+    (old new : CompleteDimension) (found : ColumnWidths) → is_some (shared found.config.now.padding) ≡ true
+    → AreShrunk shrinks priority n cells config old (content_of found) new
+    → AreShrunk shrinks priority n cells config old (column_width found.content.items) new
+shrunk-unpadded shrinks priority n cells config old new found padded h = record {
+  some = h.some;
+  wider = h.wider;
+  widths = h.widths;
+  shrunk = h.shrunk;
+  sized = λ row column. unpadded found row column padded ∙ h.sized row column;
+  stored = h.stored;
+  cleared = h.cleared;
+}
