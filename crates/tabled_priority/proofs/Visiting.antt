@@ -1,7 +1,7 @@
 -- Counts of visits.
 use Rattle.tabled_priority.proofs.Names.{IsGrownFrom, IsTakenFrom, List, [], added, arith, changed, counted, length, nat_tests, refl, suc}
 use Rattle.tabled_priority.proofs.Names.{taken, zero, ℕ, ◌*◌, ◌+◌, ◌∷◌, ◌≡◌, ◌≤◌}
-use Rattle.tabled_priority.specs.declared.change.Steps.{Steps}
+use Rattle.tabled_priority.specs.declared.column_changes.Steps.{Steps}
 use Rattle.tabled_priority.specs.Changes.{Grows, Shrinks}
 use Rattle.std.proofs.Math.ListN.{set}
 use Rattle.tabled_priority.specs.Visits.{IsBounded}

@@ -1,7 +1,7 @@
 -- What shrinking and growing ensure whatever the priority: the old list, the minimums, the amount,
 -- the new list, how much was taken or added, and the counts before and after.
 use Rattle.std.specs.Prelude.{◌≡◌, ℕ, ◌+◌, ◌≤◌, List, sum}
-use Rattle.tabled_priority.specs.declared.change.Steps.{Steps}
+use Rattle.tabled_priority.specs.declared.column_changes.Steps.{Steps}
 use Rattle.tabled_priority.specs.Grown.{IsNoneSmaller}
 use Rattle.tabled_priority.specs.Permitted.{IsPermitted}
 use Rattle.tabled_priority.specs.Visits.{IsBounded}

@@ -13,8 +13,8 @@ ghost use Rattle.tabled_priority.specs.Least.{HasGreatestLeast, HasLeastGreatest
 ghost use Rattle.tabled_priority.specs.Permitted.{HasOneBetween};
 ghost use Rattle.tabled_priority.specs.Shrunk.{IsMaxShrunk, IsMinShrunk, IsSideShrunk};
 
-use crate::change::{Steps, change_columns};
 use crate::choice::Choice;
+use crate::column_changes::{Steps, change_columns};
 use crate::in_order::{shrink_from, shrink_smallest};
 use crate::priority::{Peaker, TakesAll};
 use crate::schedule::Schedule;

@@ -6,7 +6,7 @@ ghost use Rattle.tabled_priority.specs.Grown.{IsGrownAt};
 ghost use Rattle.tabled_priority.specs.Changes.{Grows};
 ghost use Rattle.tabled_priority.specs.Visits.{counted};
 
-use crate::change::{Steps, visit};
+use crate::column_changes::{Steps, visit};
 
 /// Which of the sizes above their minimums comes first, counted from the right if `right`, else
 /// from the left.

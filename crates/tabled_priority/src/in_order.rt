@@ -7,8 +7,8 @@ ghost use Rattle.std.specs.Prelude.{if◌then◌else◌};
 ghost use Rattle.tabled_priority.specs.Spares.{IsTakenInOrder, spare_up_to};
 ghost use Rattle.tabled_priority.specs.Visits.{counted};
 
-use crate::change::{Column, Steps, visit};
 use crate::choice::place_at;
+use crate::column_changes::{Column, Steps, visit};
 use crate::schedule::{Bracket, Levels, Schedule, amount_by, halved};
 
 /// The columns of some sizes, in order from one side. Their sizes are above the base, and at most

@@ -15,7 +15,7 @@ ghost use Rattle.tabled_priority.specs.Shrunk.{IsRoundShrunk, place_after};
 ghost use Rattle.tabled_priority.specs.Visits.{changed, counted};
 
 use crate::by_size_or_side::{PriorityLeft, PriorityMax, PriorityMin, PriorityRight};
-use crate::change::{Steps, change_columns, place_after, visit};
+use crate::column_changes::{Steps, change_columns, place_after, visit};
 use crate::schedule::Schedule;
 
 /// An order in which sizes shrink or grow. An implementation needs `peak`, three relations and

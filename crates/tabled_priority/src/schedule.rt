@@ -9,7 +9,7 @@ ghost use Rattle.tabled_priority.specs.Schedule.{open_of, start_of, total_amount
 ghost use Rattle.tabled_priority.specs.Shrunk.{start};
 ghost use Rattle.tabled_priority.specs.Visits.{counted};
 
-use crate::change::{Steps, visit};
+use crate::column_changes::{Steps, visit};
 
 /// What a level means. Up to a level, each column takes its part of the amount; for what is then
 /// missing, some columns take one more.

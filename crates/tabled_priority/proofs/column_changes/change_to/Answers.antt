@@ -1,7 +1,7 @@
 use Rattle.tabled_priority.proofs.Names.{CanChange, IsChanged, arith, at, cases_eq, first_level, get_or-set_other, get_or-set_same}
 use Rattle.tabled_priority.proofs.Names.{last_level, length, length-set, share, slice_set, subst, sym, ⊎_elim, ◌<◌, ◌∙◌, ◌≡◌}
 use Rattle.tabled_priority.proofs.Shares.{share-at}
-use Rattle.tabled_priority.proofs.change.change_to.Goals as goal
+use Rattle.tabled_priority.proofs.column_changes.change_to.Goals as goal
 
 -- what the column was found to be and to take
 pub changed-requires : goal.changed-requires

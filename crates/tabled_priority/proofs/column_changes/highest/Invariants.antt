@@ -1,5 +1,5 @@
 use Rattle.tabled_priority.proofs.Names.{at, length, low, ℕ, ◌<◌, ◌≡◌, ◌≤◌}
-use Rattle.tabled_priority.proofs.change.highest.Given as goal
+use Rattle.tabled_priority.proofs.column_changes.highest.Given as goal
 
 abbrev pub invariant-loop-place : goal.invariant-loop-place
 invariant-loop-place l = record {

@@ -1,6 +1,6 @@
 use Rattle.tabled_priority.proofs.Names.{ap, arith, at, cases_eq, cases_lt, low, min, subst, sym, ⊎_elim, ◌<◌, ◌∙◌, ◌≡◌, ◌≤◌}
-use Rattle.tabled_priority.proofs.change.highest.Goals as goal
-use Rattle.tabled_priority.proofs.change.highest.Goals.{then-size-least, else-size-least}
+use Rattle.tabled_priority.proofs.column_changes.highest.Goals as goal
+use Rattle.tabled_priority.proofs.column_changes.highest.Goals.{then-size-least, else-size-least}
 
 pub loop-place-preserved : goal.loop-place-preserved
 loop-place-preserved c =

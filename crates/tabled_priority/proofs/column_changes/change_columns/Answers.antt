@@ -2,7 +2,7 @@ use Rattle.tabled_priority.proofs.Names.{CanChange, IsChanged, IsScheduled, ap, 
 use Rattle.tabled_priority.proofs.Names.{share, subst, sym, ◌∙◌}
 use Rattle.tabled_priority.proofs.ByLevel.{fits_by, planned, scheduled_by, still_by}
 use Rattle.tabled_priority.proofs.Visiting.{IsBounded-whole, IsBounded-passes}
-use Rattle.tabled_priority.proofs.change.change_columns.Goals as goal
+use Rattle.tabled_priority.proofs.column_changes.change_columns.Goals as goal
 
 pub returns-then-amount-eq0-clause-changed : goal.returns-then-amount-eq0-clause-changed
 returns-then-amount-eq0-clause-changed c =

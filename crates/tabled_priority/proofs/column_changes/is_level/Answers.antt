@@ -1,6 +1,6 @@
 use Rattle.tabled_priority.proofs.Names.{arith, at, in_range}
 use Rattle.tabled_priority.proofs.Optimal.{HasLeastGreatest-from_level}
-use Rattle.tabled_priority.proofs.change.is_level.Goals as goal
+use Rattle.tabled_priority.proofs.column_changes.is_level.Goals as goal
 
 pub returns-clause-least : goal.returns-clause-least
 returns-clause-least c = λ _. HasLeastGreatest-from_level c.args.old.now c.args.mins.now c.args.new.now (record {

@@ -1,5 +1,5 @@
 use Rattle.tabled_priority.proofs.Names.{IsChanged, at, counted, first_level, last_level, length, share, ℕ, ◌<◌, ◌≡◌, ◌≤◌}
-use Rattle.tabled_priority.proofs.change.change_to.Given as goal
+use Rattle.tabled_priority.proofs.column_changes.change_to.Given as goal
 
 abbrev pub invariant-loop-place : goal.invariant-loop-place
 invariant-loop-place l = record {

@@ -3,8 +3,8 @@ use Rattle.tabled_priority.proofs.Names.{sum_below-prefix, sym, true, ℕ, ◌+�
 use Rattle.std.proofs.Common.{MatchBool}
 use Rattle.tabled_priority.specs.Laws.Round.{start-le}
 use Rattle.tabled_priority.proofs.Spans.{span_right, span_round}
-use Rattle.tabled_priority.proofs.change.find_span.Goals as goal
-use Rattle.tabled_priority.proofs.change.find_span.Goals.{then-rest-ahead, else-rest-ahead}
+use Rattle.tabled_priority.proofs.column_changes.find_span.Goals as goal
+use Rattle.tabled_priority.proofs.column_changes.find_span.Goals.{then-rest-ahead, else-rest-ahead}
 
 pub returns-then-is_from_right-clause-span : goal.returns-then-is_from_right-clause-span
 returns-then-is_from_right-clause-span c =
