@@ -28,7 +28,7 @@ PATHS = {
     # Tables of few columns have few cursors.
     "cursors": ("tabled_grid/src/print.rt", ("FEW_CURSORS: usize = 8;", "FEW_CURSORS: usize = 1_024;")),
     # The bar between two texts is kept with spaces around it.
-    "separator": ("tabled_line/src/separator.rt", ("ColumnSeparator { bar, buffer, whole }", "ColumnSeparator { bar, buffer, whole: whole && false }")),
+    "separator": ("tabled_line/src/column_separator.rt", ("ColumnSeparator { bar, buffer, whole }", "ColumnSeparator { bar, buffer, whole: whole && false }")),
     # Spaces and dashes are written 64 at a time.
     "spaces": ("tabled_line/src/padding.rt", ("        let part = left.min(64);", "        let part = left.min(1);")),
     # The program writes 64 KiB at once. For `compare.py`, over a `tabprint` that was built in the copy.

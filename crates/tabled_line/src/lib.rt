@@ -12,7 +12,7 @@
 //! Pieces of a line:
 //! - `padding`: padding, and runs of one character.
 //! - `borders`: the columns of a table, vertical lines, margins and horizontal lines.
-//! - `separator`: the separator between two texts, which is cached.
+//! - `column_separator`: the separator between the texts of two columns, which is cached.
 //! - `new_config`: the settings of a new table that is printed while its rows are read.
 //!
 //! The text of a cell:
@@ -33,6 +33,7 @@
 
 mod borders;
 mod cell_block;
+mod column_separator;
 mod cursor;
 pub mod laws;
 mod line_printer;
@@ -41,17 +42,16 @@ mod padding;
 mod placement;
 mod row;
 mod row_template;
-mod separator;
 mod spaced_line;
 mod text_sink;
 
 pub use borders::{TableColumns, count_drawn, write_bar, write_left_edge, write_right_edge};
 pub use cell_block::{CellBlock, Content, before_text};
+pub use column_separator::ColumnSeparator;
 pub use cursor::Cursor;
 pub use line_printer::{LinePrinter, write_break};
 pub use new_config::new_compact_config;
 pub use padding::{write_char, write_fill, write_padded_text};
 pub use placement::{KnownPlacements, Placement, UniformPlacement};
 pub use row::Row;
-pub use separator::ColumnSeparator;
 pub use text_sink::{IoSink, TextSink, WriterSink};

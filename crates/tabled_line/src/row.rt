@@ -8,9 +8,9 @@ ghost use Rattle.tabled_line.specs.Sent.{Sent, Writes};
 
 use crate::borders::{write_bar, write_left_edge, write_right_edge};
 use crate::cell_block::{CellBlock, Content};
+use crate::column_separator::ColumnSeparator;
 use crate::cursor::RowLine;
 use crate::placement::KnownPlacements;
-use crate::separator::ColumnSeparator;
 use crate::spaced_line::write_spaced_row;
 use crate::text_sink::TextSink;
 use tabled_base::TableError;

@@ -5,7 +5,7 @@ use Rattle.std.proofs.lemmas.Str.{IsCharBoundary-end}
 use Rattle.tabled_line.proofs.Fills.{fill-first_bytes}
 use Rattle.tabled_line.proofs.SeparatorTexts.{separator-last_bytes, separator-length, separator-part, separator-parts}
 use Rattle.tabled_line.proofs.Sending.{finished, further, stopped, stopped-first}
-use Rattle.tabled_line.proofs.separator.SeparatorText.write.Goals as goal
+use Rattle.tabled_line.proofs.column_separator.SeparatorText.write.Goals as goal
 
 pub overflow_sub-end-2 : goal.overflow_sub-end-2
 overflow_sub-end-2 g c = omega (arith, ap length c.args.self.now.whole, separator-length c.args.self.now.bar 64 64)

@@ -1,6 +1,6 @@
 use Rattle.tabled_line.proofs.Names.{append_assoc, fill, piece, refl, sym, ◌++◌}
 use Rattle.tabled_line.proofs.Sending.{finished, further, stopped, stopped-first}
-use Rattle.tabled_line.proofs.separator.write_separator_text.Goals as goal
+use Rattle.tabled_line.proofs.column_separator.write_separator_text.Goals as goal
 
 pub returns-in_err-write_spaces : goal.returns-in_err-write_spaces
 returns-in_err-write_spaces g c =
