@@ -1,5 +1,6 @@
 -- Which tables can be printed, why others fail, and what a call that prints leaves.
-use Rattle.std.specs.Prelude.{◌≡◌, ◌^◌, ◌<◌, ◌≤◌, ◌⊎◌, Bool, length, true, false, Result, Ok, Err}
+use Rattle.std.specs.Prelude.{◌≡◌, ◌^◌, ◌<◌, ◌≤◌, ◌⊎◌, ℕ, Bool, length, true, false, Result, Ok, Err}
+use Rattle.std.specs.List.{join_with_byte}
 use Rattle.tabled_base.specs.Cells.{columns}
 use Rattle.tabled_base.specs.declared.error.TableError.{TableError}
 use Rattle.tabled_base.specs.declared.error.TableError.TheVariants.{Memory, ShortWidths, ShortHeights, Narrow, Range}
@@ -7,8 +8,8 @@ use Rattle.tabled_size.specs.Sheet.{Sheet, is_empty}
 use Rattle.tabled_size.specs.Totals.{filled_height, filled_width}
 use Rattle.tabled_size.specs.Holds.{Holds, IsSized}
 use Rattle.tabled_grid.specs.Narrow.{IsFirstNarrow}
-use Rattle.tabled_grid.specs.Picture.{table_text}
-use Rattle.tabled_line.specs.Sent.{Sent, Sends, Stops}
+use Rattle.tabled_grid.specs.Picture.{filled_picture, table_text}
+use Rattle.tabled_line.specs.Sent.{Sent, Sends, Stops, Writes}
 
 -- the totals fit a `usize`
 pub record IsInRange (t : Sheet) : Type 0 where
@@ -27,6 +28,10 @@ IsFailure t ShortHeights = (columns t.cells ≤ length t.widths) × (length t.he
 IsFailure t (Narrow row column) = IsSized t × IsFirstNarrow t row column
 IsFailure t Range = IsSized t × Holds t × IsOutOfRange t
 IsFailure t _ = ⊥
+
+-- what a call leaves that writes the picture of a table, with margins of `whole` columns
+abbrev pub WritesPicture : {T : Type 0} → Sheet → ℕ → Sent → Result T TableError → Sent → Type 0
+WritesPicture t whole old result new = Writes old result new (join_with_byte 10 (filled_picture t whole))
 
 -- a table with a row and a column, whose sizes hold its cells
 pub record IsChecked (t : Sheet) : Type 0 where

@@ -1,10 +1,8 @@
 //! Checks a table, and writes all of its lines.
-ghost use Rattle.std.specs.List.{join_with_byte};
 ghost use Rattle.std.specs.Prelude.{false, is_some};
 ghost use Rattle.tabled_grid.specs.Grid.{sheet_by};
-ghost use Rattle.tabled_grid.specs.Picture.{filled_picture};
-ghost use Rattle.tabled_grid.specs.Printed.{IsChecked, Prints};
-ghost use Rattle.tabled_line.specs.Sent.{Sent, Writes};
+ghost use Rattle.tabled_grid.specs.Printed.{IsChecked, Prints, WritesPicture};
+ghost use Rattle.tabled_line.specs.Sent.{Sent};
 ghost use Rattle.tabled_size.specs.Holds.{IsSized};
 
 use crate::checks::{check_narrow, check_sizes, check_totals};
@@ -37,8 +35,7 @@ pub(crate) fn write_picture<'a, R: PeekableRecords, D: Dimension, S: TextSink>(
     whole: usize,
 ) -> Result<(), TableError>
     requires { IsSized grid.now }
-    ensures { Writes (S.sent sink.old) result (S.sent sink.new)
-        (join_with_byte 10 (filled_picture grid.now whole)) }
+    ensures { WritesPicture grid.now whole (S.sent sink.old) result (S.sent sink.new) }
 {
     let margin = grid.around.margin;
     let mut lines = LinePrinter::new(GridColumns { grid }, grid.memory);
@@ -51,8 +48,8 @@ pub(crate) fn write_picture<'a, R: PeekableRecords, D: Dimension, S: TextSink>(
     lines.write_margin(sink, margin.bottom, whole)
 }
 
-/// Writes a picture with cursors for some columns. They are cleared on the stack, which other calls
-/// don't need, so this is a separate function.
+/// Writes a picture with cursors for some columns. Each call clears their stack, so this is a
+/// separate function.
 #[inline(never)]
 fn write_with_some_cursors<'a, R: PeekableRecords, D: Dimension, S: TextSink>(
     sink: &mut S,
@@ -60,13 +57,12 @@ fn write_with_some_cursors<'a, R: PeekableRecords, D: Dimension, S: TextSink>(
     whole: usize,
 ) -> Result<(), TableError>
     requires { IsSized grid.now }
-    ensures { Writes (S.sent sink.old) result (S.sent sink.new)
-        (join_with_byte 10 (filled_picture grid.now whole)) }
+    ensures { WritesPicture grid.now whole (S.sent sink.old) result (S.sent sink.new) }
 {
     write_picture(sink, grid, &mut [Cursor::nowhere(); SOME_CURSORS], whole)
 }
 
-/// Writes a picture with cursors for many columns, which take 72 KiB of stack.
+/// Writes a picture with cursors for many columns, which take 80 KiB of stack.
 #[inline(never)]
 fn write_with_many_cursors<'a, R: PeekableRecords, D: Dimension, S: TextSink>(
     sink: &mut S,
@@ -74,8 +70,7 @@ fn write_with_many_cursors<'a, R: PeekableRecords, D: Dimension, S: TextSink>(
     whole: usize,
 ) -> Result<(), TableError>
     requires { IsSized grid.now }
-    ensures { Writes (S.sent sink.old) result (S.sent sink.new)
-        (join_with_byte 10 (filled_picture grid.now whole)) }
+    ensures { WritesPicture grid.now whole (S.sent sink.old) result (S.sent sink.new) }
 {
     write_picture(sink, grid, &mut [Cursor::nowhere(); MANY_CURSORS], whole)
 }
@@ -93,8 +88,7 @@ fn has_tall_row<'a, R: PeekableRecords, D: Dimension>(grid: &'a Grid<'a, R, D>) 
 }
 
 /// Prints a table whose sizes hold its cells. With an allocator, more than `FEW_CURSORS` cursors are
-/// allocated: one for each column, or none if there are more than `MANY_CURSORS` columns and each
-/// row has one line. `Range`: a total passes `usize::MAX`; nothing is written.
+/// allocated, if a row needs them. `Range`: a total passes `usize::MAX`; nothing is written.
 #[tactic(auto, unfolding(crate::specs::Picture::picture))]
 pub(crate) fn print_checked<'a, R: PeekableRecords, D: Dimension, S: TextSink>(
     memory: Option<Global>,
@@ -110,10 +104,10 @@ pub(crate) fn print_checked<'a, R: PeekableRecords, D: Dimension, S: TextSink>(
         return write_picture(sink, grid, &mut [Cursor::nowhere(); FEW_CURSORS], whole);
     }
     match memory {
+        // Only rows of several lines use cursors.
+        _ if !has_tall_row(grid) => write_picture(sink, grid, &mut [], whole),
         Some(alloc) => {
-            let are_used = columns <= MANY_CURSORS || has_tall_row(grid);
-            let count = if are_used { columns } else { 0 };
-            let mut cursors = vec![in alloc; Cursor::nowhere(); count]?;
+            let mut cursors = vec![in alloc; Cursor::nowhere(); columns]?;
             write_picture(sink, grid, &mut cursors, whole)
         }
         None if columns <= SOME_CURSORS => write_with_some_cursors(sink, grid, whole),
