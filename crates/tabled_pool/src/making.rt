@@ -120,5 +120,6 @@ where
     for cell in cells {
         row.push(TableValue::Cell(String::from_str(alloc, cell.text())?))?;
     }
+    row.shrink_to_fit();
     Ok(row)
 }
