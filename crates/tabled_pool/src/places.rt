@@ -1,5 +1,6 @@
-//! `Rectangle`; `Piece`, a text or a border in its rectangle; `Drawing`, the pieces and their
-//! settings; and the rectangles of texts, of the borders between boxes, and of those around a tree.
+//! `Rectangle`; `Piece`, a text or a border in its rectangle; `PieceList`, the pieces by the line
+//! that they begin on; `Drawing`, the pieces and their settings; and the rectangles of texts, of the
+//! borders between boxes, and of those around a tree.
 ghost use Rattle.std.specs.Prelude.{IfOk, Some, [], map, ◌++◌, ◌+◌, ◌<◌, ◌^◌, ◌∷◌, ◌≡◌, ◌≤◌};
 ghost use Rattle.tabled_pool.specs.Boxes.{AreTiles, CanSplit, Fits, IsSize, behind_border};
 ghost use Rattle.tabled_pool.specs.Boxes.{border_kind, border_part, box_along, box_of, first_part};
@@ -9,6 +10,7 @@ ghost use Rattle.tabled_pool.specs.Boxes.{place_along, rest_part, share, shown};
 use crate::sizes::{BoxSpacing, Direction, Size, own_size};
 use crate::tree::TableValue;
 use std::alloc::{AllocError, Global};
+use std::mem;
 use tabled_config::{ANSIStr, Borders, CellStyle, Sides};
 use tabled_size::DimensionPriority;
 
@@ -76,10 +78,57 @@ pub enum Kind {
 pub struct Piece<'a> {
     /// What it is.
     pub kind: Kind,
+    /// The number of the piece before it that begins on the same line, if there is one. No
+    /// contract says that it is right.
+    pub earlier: u32,
     /// Where it is.
     pub place: Rectangle,
     /// Its text; a border has none.
     pub text: &'a str,
+}
+
+/// The number of no piece.
+pub const NO_PIECE: u32 = u32::MAX;
+
+/// Pieces in the order of their tree. Those that begin on a line are linked when they are placed:
+/// later, all would have to be read from memory once more.
+#[derive(Drop)]
+pub struct PieceList<'a> {
+    pub pieces: Vec<Piece<'a>>,
+    /// For each line, the number of the last piece that begins there. No contract says that it is
+    /// right. The list is empty if its allocation failed.
+    pub begins: Vec<u32>,
+}
+
+impl<'a> PieceList<'a> {
+    /// An empty list for a drawing of `height` lines.
+    pub fn new(alloc: Global, height: usize) -> PieceList<'a>
+        ensures { result.pieces.items ≡ [] }
+    {
+        PieceList {
+            pieces: Vec::new(alloc),
+            begins: no_pieces(alloc, height),
+        }
+    }
+
+    /// Makes the next piece the last that begins on the line of its rectangle. Returns the number
+    /// of the one that was.
+    fn link(&mut self, place: Rectangle) -> u32
+        ensures { self.new.pieces.items ≡ self.old.pieces.items }
+    {
+        let Ok(number) = u32::try_from(self.pieces.len()) else {
+            return NO_PIECE;
+        };
+        match self.begins.get_mut(place.y) {
+            Some(last) if place.width > 0 && place.height > 0 => mem::replace(last, number),
+            _ => NO_PIECE,
+        }
+    }
+}
+
+/// A list of `count` numbers of no piece, or an empty one if an allocation fails.
+pub fn no_pieces(alloc: Global, count: usize) -> Vec<u32> {
+    Vec::from_elem(alloc, NO_PIECE, count).unwrap_or_else(|_| Vec::new(alloc))
 }
 
 pub fn is_line_kind(kind: Kind) -> bool
@@ -96,6 +145,8 @@ pub fn is_line_kind(kind: Kind) -> bool
 pub struct Drawing<'d, 'a> {
     /// In the order of their tree.
     pub pieces: &'d [Piece<'a>],
+    /// For each line, the number of the last piece that begins there.
+    pub begins: &'d [u32],
     pub width: usize,
     pub height: usize,
     pub borders: Borders<char>,
@@ -132,12 +183,18 @@ pub fn place_piece<'a>(
     kind: Kind,
     place: Rectangle,
     text: &'a str,
-    pieces: &mut Vec<Piece<'a>>,
+    list: &mut PieceList<'a>,
 ) -> Result<(), AllocError>
-    ensures { IfOk result (λ _. map shown pieces.new.items ≡ map shown pieces.old.items
+    ensures { IfOk result (λ _. map shown list.new.pieces.items ≡ map shown list.old.pieces.items
         ++ (part_of kind place text.now ∷ [])) }
 {
-    pieces.push(Piece { kind, place, text })?;
+    let earlier = list.link(place);
+    list.pieces.push(Piece {
+        kind,
+        earlier,
+        place,
+        text,
+    })?;
     Ok(())
 }
 
@@ -227,18 +284,18 @@ fn place_list<'a>(
     children: &'a [TableValue],
     spacing: &BoxSpacing,
     whole: BoxPlace,
-    pieces: &mut Vec<Piece<'a>>,
+    list: &mut PieceList<'a>,
 ) -> Result<(), AllocError>
     requires own { IsSize (Some whole.own)
         (list_box direction spacing.now (map (box_of spacing.now) children.now)) }
     requires fits { Fits (list_box direction spacing.now (map (box_of spacing.now) children.now))
         whole.place }
-    ensures { IfOk result (λ _. map shown pieces.new.items ≡ map shown pieces.old.items
+    ensures { IfOk result (λ _. map shown list.new.pieces.items ≡ map shown list.old.pieces.items
         ++ (list_box direction spacing.now (map (box_of spacing.now) children.now)).parts
         whole.place) }
 {
     let Some((last, front)) = children.split_last() else {
-        return place_piece(Kind::Leaf, whole.place, "", pieces);
+        return place_piece(Kind::Leaf, whole.place, "", list);
     };
     let border = direction.pick(spacing.bar, spacing.rule);
     let kind = direction.pick(Kind::Bar, Kind::Rule);
@@ -248,14 +305,14 @@ fn place_list<'a>(
     let mut place = whole.place;
     for child in front {
         let cut = split(direction, child, spacing, left, place);
-        place_value(child, spacing, cut.given, pieces)?;
-        place_piece(kind, cut.line, "", pieces)?;
+        place_value(child, spacing, cut.given, list)?;
+        place_piece(kind, cut.line, "", list)?;
         left.size -= cut.own + border;
         left.count -= 1;
         place = cut.rest;
     }
     let own = size_within(last, spacing, place);
-    place_value(last, spacing, BoxPlace { own, place }, pieces)
+    place_value(last, spacing, BoxPlace { own, place }, list)
 }
 
 /// Adds the texts of a tree and the borders between its boxes. Recurses at each level of several
@@ -266,22 +323,22 @@ pub fn place_value<'a>(
     value: &'a TableValue,
     spacing: &BoxSpacing,
     whole: BoxPlace,
-    pieces: &mut Vec<Piece<'a>>,
+    list: &mut PieceList<'a>,
 ) -> Result<(), AllocError>
     requires own { IsSize (Some whole.own) (box_of spacing.now value.now) }
     requires fits { Fits (box_of spacing.now value.now) whole.place }
-    ensures { IfOk result (λ _. map shown pieces.new.items ≡ map shown pieces.old.items
+    ensures { IfOk result (λ _. map shown list.new.pieces.items ≡ map shown list.old.pieces.items
         ++ (box_of spacing.now value.now).parts whole.place) }
 {
     match value.inner() {
-        TableValue::Cell(text) => place_piece(Kind::Leaf, whole.place, text.as_str(), pieces),
+        TableValue::Cell(text) => place_piece(Kind::Leaf, whole.place, text.as_str(), list),
         TableValue::Row(children) => {
             let children = children.as_slice();
-            place_list(Direction::Across, children, spacing, whole, pieces)
+            place_list(Direction::Across, children, spacing, whole, list)
         }
         TableValue::Column(children) => {
             let children = children.as_slice();
-            place_list(Direction::Down, children, spacing, whole, pieces)
+            place_list(Direction::Down, children, spacing, whole, list)
         }
     }
 }
@@ -295,7 +352,7 @@ pub fn place_tree<'a>(
     spacing: &BoxSpacing,
     frame: &Sides<usize>,
     whole: Rectangle,
-    pieces: &mut Vec<Piece<'a>>,
+    list: &mut PieceList<'a>,
 ) -> Result<(), AllocError>
     requires wide { whole.width
         ≡ frame.now.left + (box_of spacing.now value.now).width + frame.now.right }
@@ -303,7 +360,7 @@ pub fn place_tree<'a>(
         ≡ frame.now.top + (box_of spacing.now value.now).height + frame.now.bottom }
     requires right { whole.x + whole.width < 2 ^ 64 }
     requires low { whole.y + whole.height < 2 ^ 64 }
-    ensures { IfOk result (λ _. map shown pieces.new.items ≡ map shown pieces.old.items
+    ensures { IfOk result (λ _. map shown list.new.pieces.items ≡ map shown list.old.pieces.items
         ++ framed (frame.now) (box_of spacing.now value.now) whole) }
 {
     let rest = whole.rest_part(Direction::Across, frame.left);
@@ -317,10 +374,10 @@ pub fn place_tree<'a>(
     let place = below.first_part(Direction::Down, height);
     let own = Size { width, height };
     let bottom = below.rest_part(Direction::Down, height);
-    place_piece(Kind::Bar, left, "", pieces)?;
-    place_piece(Kind::Bar, right, "", pieces)?;
-    place_piece(Kind::Rule, top, "", pieces)?;
-    place_piece(Kind::Rule, bottom, "", pieces)?;
-    place_value(value, spacing, BoxPlace { own, place }, pieces)?;
+    place_piece(Kind::Bar, left, "", list)?;
+    place_piece(Kind::Bar, right, "", list)?;
+    place_piece(Kind::Rule, top, "", list)?;
+    place_piece(Kind::Rule, bottom, "", list)?;
+    place_value(value, spacing, BoxPlace { own, place }, list)?;
     Ok(())
 }

@@ -5,7 +5,7 @@ ghost use Rattle.tabled_base.specs.declared.error.TableError.TheVariants.{Memory
 ghost use Rattle.tabled_config.specs.Styles.{ascii};
 ghost use Rattle.tabled_line.specs.Plain.{EachLineTakes};
 ghost use Rattle.tabled_line.specs.Sent.{Sent, Writes};
-ghost use Rattle.tabled_pool.specs.Boxes.{shown};
+ghost use Rattle.tabled_pool.specs.Boxes.{IsSize, box_of, shown};
 ghost use Rattle.tabled_pool.specs.Colours.{marks_of};
 ghost use Rattle.tabled_pool.specs.Drawn.{Tiled, drawn};
 ghost use Rattle.tabled_pool.specs.Inherited.{block_sheet_of, has_zero_width};
@@ -17,11 +17,12 @@ ghost use Rattle.tabled_pool.specs.Pool.{borders_of, frame_of, frame_place, fram
 ghost use Rattle.tabled_pool.specs.Pool.{framed_width, margin_around, marks_for, plan, pool_lines};
 ghost use Rattle.tabled_pool.specs.Pool.{pool_text, spacing_of, style_of, total_height};
 ghost use Rattle.tabled_pool.specs.Pool.{total_width};
+ghost use Rattle.tabled_pool.specs.Tree.{IsInner};
 ghost use Rattle.tabled_priority.specs.Sums.{one_if};
 
 use crate::bordered_text::DrawnBlock;
 use crate::junction::{has_bottom, has_top};
-use crate::places::{Drawing, Piece, Rectangle, place_tree};
+use crate::places::{Drawing, Piece, PieceList, Rectangle, place_tree};
 use crate::sizes::{BoxSpacing, Size, own_size, sum};
 use crate::table_lines::{ColoredMargin, TableLines, draw_lines};
 use crate::tree::TableValue;
@@ -164,15 +165,25 @@ impl PoolTable {
         }
     }
 
-    /// The width and height without the margin, if the totals with it fit in `usize`.
-    fn checked_size(&self) -> Option<Size>
+    /// The size that the inner value needs, if it fits in `usize`.
+    fn inner_size(&self, value: &TableValue) -> Option<Size>
+        requires { IsInner self.now.value value.now }
+        ensures { IsSize result (box_of (spacing_of self.now) self.now.value) }
+    {
+        own_size(value, &self.spacing())
+    }
+
+    /// The width and height without the margin, if the totals with it fit in `usize`. `value` is
+    /// the inner value.
+    fn checked_size(&self, value: &TableValue) -> Option<Size>
+        requires { IsInner self.now.value value.now }
         ensures { MatchOption result (IsOutOfRange self.now)
             (λ size. (size.width ≡ framed_width self.now) × (size.height ≡ framed_height self.now)
             × IsInRange self.now) }
     {
         let frame = frame_of(self.config.get_borders());
         let margin = *self.config.get_margin();
-        let own = own_size(&self.value, &self.spacing())?;
+        let own = self.inner_size(value)?;
         let width = sum(frame.left, own.width, frame.right)?;
         let height = sum(frame.top, own.height, frame.bottom)?;
         sum(margin.left.size, width, margin.right.size)?;
@@ -180,12 +191,14 @@ impl PoolTable {
         Some(Size { width, height })
     }
 
-    fn pieces(&self, size: Size) -> Result<Vec<Piece<'_>>, AllocError>
+    /// The placed pieces of the inner value.
+    fn pieces<'a>(&self, value: &'a TableValue, size: Size) -> Result<PieceList<'a>, AllocError>
+        requires inner { IsInner self.now.value value.now }
         requires width { size.width ≡ framed_width self.now }
         requires height { size.height ≡ framed_height self.now }
-        ensures { IfOk result (λ pieces. map shown pieces.items ≡ (plan self.now).parts) }
+        ensures { IfOk result (λ list. map shown list.pieces.items ≡ (plan self.now).parts) }
     {
-        let mut pieces = Vec::new(self.value.allocator());
+        let mut list = PieceList::new(self.value.allocator(), size.height);
         let frame = frame_of(self.config.get_borders());
         let whole = Rectangle {
             x: 0,
@@ -193,21 +206,22 @@ impl PoolTable {
             width: size.width,
             height: size.height,
         };
-        place_tree(&self.value, &self.spacing(), &frame, whole, &mut pieces)?;
-        Ok(pieces)
+        place_tree(value, &self.spacing(), &frame, whole, &mut list)?;
+        Ok(list)
     }
 
-    fn drawing<'d, 'a>(&self, pieces: &'d [Piece<'a>], size: Size) -> Drawing<'d, 'a>
+    fn drawing<'d, 'a>(&self, list: &'d PieceList<'a>, size: Size) -> Drawing<'d, 'a>
         requires width { size.width ≡ framed_width self.now }
         requires height { size.height ≡ framed_height self.now }
-        requires places { map shown pieces.now ≡ (plan self.now).parts }
+        requires places { map shown list.now.pieces.items ≡ (plan self.now).parts }
         ensures plan { plan_of result ≡ plan self.now }
         ensures spacing { result.spacing ≡ spacing_of self.now }
         ensures width { result.width ≡ size.width }
         ensures height { result.height ≡ size.height }
     {
         Drawing {
-            pieces,
+            pieces: list.pieces.as_slice(),
+            begins: list.begins.as_slice(),
             width: size.width,
             height: size.height,
             borders: *self.config.get_borders(),
@@ -233,12 +247,13 @@ impl PoolTable {
     fn write_checked<S: TextSink>(&self, sink: &mut S) -> Result<(), TableError>
         ensures { WritesPool self.now (S.sent sink.old) result (S.sent sink.new) }
     {
-        let Some(size) = self.checked_size() else {
+        let value = self.value.inner();
+        let Some(size) = self.checked_size(value) else {
             return Err(TableError::Range);
         };
-        let pieces = self.pieces(size)?;
-        let has_columns = self.has_columns(pieces.as_slice());
-        let drawing = self.drawing(pieces.as_slice(), size);
+        let list = self.pieces(value, size)?;
+        let has_columns = self.has_columns(list.pieces.as_slice());
+        let drawing = self.drawing(&list, size);
         if has_columns {
             let margin = self.colored_margin(*self.config.get_margin());
             return draw_lines(sink, TableLines::Placed(&drawing), &margin);

@@ -4,17 +4,9 @@ ghost use Rattle.std.specs.Prelude.{map, option_map, true, ◌+◌, ◌<◌, ◌
 ghost use Rattle.tabled_pool.specs.Boxes.{contains, owner, shown, within};
 ghost use Rattle.tabled_pool.specs.Numbers.{IsNumber};
 
-use crate::places::{Drawing, Piece, Rectangle};
+use crate::places::{Drawing, NO_PIECE, Piece, Rectangle, no_pieces};
 use std::alloc::Global;
 use std::mem;
-
-/// The number of no piece.
-const NO_PIECE: u32 = u32::MAX;
-
-/// A list of `count` numbers of no piece, or an empty one if an allocation fails.
-fn no_pieces(alloc: Global, count: usize) -> Vec<u32> {
-    Vec::from_elem(alloc, NO_PIECE, count).unwrap_or_else(|_| Vec::new(alloc))
-}
 
 /// Numbers of pieces. No contract says that they are right: who uses one looks whether the piece is
 /// there. A list is too short if an allocation failed.
@@ -24,10 +16,6 @@ pub struct Sweep {
     pub above: Vec<u32>,
     pub here: Vec<u32>,
     pub below: Vec<u32>,
-    /// For each line, the last piece that begins there.
-    begins: Vec<u32>,
-    /// For each piece, the one before it that begins on the same line.
-    earlier: Vec<u32>,
 }
 
 /// Sets the number of the piece in the columns of a rectangle.
@@ -45,8 +33,6 @@ impl Sweep {
             above: Vec::new(alloc),
             here: Vec::new(alloc),
             below: Vec::new(alloc),
-            begins: Vec::new(alloc),
-            earlier: Vec::new(alloc),
         }
     }
 
@@ -56,36 +42,20 @@ impl Sweep {
             above: Vec::new(drawing.alloc),
             here: no_pieces(drawing.alloc, drawing.width),
             below: no_pieces(drawing.alloc, drawing.width),
-            begins: no_pieces(drawing.alloc, drawing.height),
-            earlier: no_pieces(drawing.alloc, drawing.pieces.len()),
         };
-        for number in 0..drawing.pieces.len() {
-            sweep.link(drawing.pieces[number].place, number);
-        }
         sweep.mark_line(drawing, 0);
         sweep
     }
 
-    /// Makes a piece the last that begins on its line.
-    fn link(&mut self, place: Rectangle, number: usize) {
-        if place.width > 0
-            && place.height > 0
-            && let Some(last) = self.begins.get_mut(place.y)
-            && let Some(earlier) = self.earlier.get_mut(number)
-        {
-            *earlier = mem::replace(last, u32::try_from(number).unwrap_or(NO_PIECE));
-        }
-    }
-
     /// Sets the pieces that begin on line `y`, which is the line below.
     fn mark_line(&mut self, drawing: &Drawing<'_, '_>, y: usize) {
-        let mut number = self.begins.get(y).copied().unwrap_or(NO_PIECE);
+        let mut number = drawing.begins.get(y).copied().unwrap_or(NO_PIECE);
         'pieces: while let Some(piece) = drawing.pieces.get(number as usize) {
             mark(self.below.as_mut_slice(), piece.place, number);
-            match self.earlier.get(number as usize) {
-                Some(earlier) if *earlier < number => number = *earlier,
-                _ => return,
+            if piece.earlier >= number {
+                return;
             }
+            number = piece.earlier;
         }
     }
 

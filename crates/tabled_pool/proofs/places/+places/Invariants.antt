@@ -7,7 +7,7 @@ invariant-place_list-loop-child l =
     let bs = boxes_left l.spacing (drop l.child-index l.front) l.last in
     record {
       placing : Placing (list_box l.direction l.spacing (map (box_of l.spacing) l.children)) (list_box l.direction l.spacing bs)
-          l.fn.whole.place l.place l.initial.pieces.items l.pieces.items;
+          l.fn.whole.place l.place l.initial.list.pieces.items l.list.pieces.items;
       left : AreLeft l.direction l.spacing bs l.left;
     }
 
