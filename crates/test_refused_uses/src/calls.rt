@@ -1,11 +1,10 @@
 //! Calls that make, copy and measure rows and tables.
 
 use crate::found::{Found, refused_if, whole_if};
+use crate::joined::{end_row, joined_picture, push_text};
 use crate::printers::{PAIRS, PICTURE, table_of_pairs};
 use std::alloc::Global;
 use tabled::builder::Builder;
-use tabled::grid::config::new_config;
-use tabled::grid::print_estimated;
 use tabled::grid::records::JoinedRecords;
 use tabled::tables::{ExtendedTable, PoolTable};
 use tabled::{Table, TableError};
@@ -15,6 +14,8 @@ pub const CALLS: &[&str] = &[
     "push_record",
     "push_record longer",
     "push_record joined",
+    "push text",
+    "end row",
     "new",
     "with_capacity",
     "nohead",
@@ -58,12 +59,6 @@ fn push(alloc: Global, record: &[&'static str], wanted: &str) -> Result<Found, T
     let answer = builder.push_record(record.iter().copied()).map(|_| ());
     let picture = Table::from(builder).to_string()?;
     Ok(pushed(answer, picture.as_str(), wanted))
-}
-
-fn joined_picture(alloc: Global, records: &JoinedRecords) -> Result<String, TableError> {
-    let mut picture = String::new(alloc);
-    print_estimated(alloc, &mut picture, records, &new_config(alloc))?;
-    Ok(picture)
 }
 
 // A failed push must leave the records unchanged.
@@ -214,6 +209,8 @@ pub fn called(alloc: Global, name: &str) -> Result<Found, TableError> {
         "push_record" => push(alloc, &["ccc"], PICTURE),
         "push_record longer" => push(alloc, &["c", "d", "e"], LONGER),
         "push_record joined" => push_joined(alloc),
+        "push text" => push_text(alloc),
+        "end row" => end_row(alloc),
         "total_width" | "total_height" => measured(alloc, name),
         "clone" => copied(alloc),
         "records new" | "records from_rows" => Ok(records_made(alloc, name)),

@@ -5,6 +5,7 @@
 mod calls;
 mod drawings;
 mod found;
+mod joined;
 mod materials;
 mod printers;
 mod prints;
