@@ -4,7 +4,7 @@ use Rattle.tabled_set.proofs.truncate.push_ended.Goals as goal
 
 pub returns : goal.returns
 returns c =
-    let front = c.in_ok-append_cut.ensures in
+    let front = c.in_ok-append_cut.ensures.added in
     let used = cow_str_bytes c.args.used.now.text in
     record {
       piece = front.piece ++ used;
