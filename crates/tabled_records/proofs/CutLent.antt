@@ -1,6 +1,6 @@
 -- Rows of printable ASCII whose cells are cut to their columns.
-use Rattle.tabled_records.proofs.Names.{All, IsCharBoundary, IsRectangular, List, None, Option, Some, [], ap, arith, cell_at}
-use Rattle.tabled_records.proofs.Names.{columns, get_or, is_in_range, length, lines_of, refl, subst, suc, sym, take}
+use Rattle.tabled_records.proofs.Names.{IsCharBoundary, IsRectangular, List, None, Option, Some, [], ap, arith, cell_at}
+use Rattle.tabled_records.proofs.Names.{columns, get_or, is_in_range, length, lines_of, refl, suc, sym, take}
 use Rattle.tabled_records.proofs.Names.{text_columns, true, zero, ℕ, ◌<◌, ◌∙◌, ◌∷◌, ◌≡◌, ◌≤◌}
 use Rattle.std.proofs.lemmas.Bool.Decides.{nat_tests}
 use Rattle.std.proofs.lemmas.List.{get_or-map, take_all}

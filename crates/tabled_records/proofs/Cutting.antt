@@ -4,12 +4,11 @@ use Rattle.tabled_records.proofs.Names.{List, [], ap, append_assoc, arith, behin
 use Rattle.tabled_records.proofs.Names.{get_or-drop, get_or-take, is_in_range, length, length-append, length-drop, length-take, map-append}
 use Rattle.tabled_records.proofs.Names.{lengthened, part, parts, refl, replicate, rows_in, slice_range, subst, sym, take, take-length, texts_from, true, ℕ, ◌++◌, ◌+◌, ◌-◌}
 use Rattle.tabled_records.proofs.Names.{◌<◌, ◌==◌, ◌∙◌, ◌∷◌, ◌≡◌, ◌≤◌}
-use Rattle.std.proofs.Common.{⊎_elim, ◌&&◌}
+use Rattle.std.proofs.Common.{⊎_elim}
 use Rattle.std.proofs.lemmas.Bool.Decides.{nat_tests}
 use Rattle.std.proofs.lemmas.List.{drop_all, drop_more, get_or_past}
 use Rattle.std.proofs.lemmas.Str.{IsCharBoundary-start}
 use Rattle.std.proofs.lemmas.List.Folds.{drop_split}
-use Rattle.std.proofs.lemmas.Bool.{and_parts}
 use Rattle.std.proofs.lemmas.List.Elements.{All-drop, All-from_get_or, All-replicate, All-take}
 use Rattle.std.proofs.lemmas.List.Sums.{list_all-from_AllPass}
 use Rattle.tabled_base.specs.Cells.{longest}
@@ -244,13 +243,13 @@ split-begun text bytes cells ranges start first at plain same cut from ends run 
 
 -- a further cell is printable if its part of the text is
 pub plain-next : (text : List ℕ) (cells : List (ℕ × ℕ)) (columns start at : ℕ) (all own : Bool) → start ≡ behind 1 0 cells
-    → (all ≡ true → All IsPrintable (texts_from 1 text 0 cells)) → (own ≡ true → IsPrintable (slice_range text start at))
-    → all && own ≡ true → All IsPrintable (texts_from 1 text 0 (cells ++ (at, columns) ∷ []))
-plain-next text cells columns start at all own s h last both =
-    let parts = and_parts all own both in
+    → (all ≡ true → All IsPrintable (texts_from 1 text 0 cells)) → (all ≡ true → own ≡ true)
+    → (own ≡ true → IsPrintable (slice_range text start at))
+    → all ≡ true → All IsPrintable (texts_from 1 text 0 (cells ++ (at, columns) ∷ []))
+plain-next text cells columns start at all own s h this last plain =
     subst (All IsPrintable) (sym (cells-next text cells columns start at s))
-    (All-append IsPrintable (texts_from 1 text 0 cells) (slice_range text start at ∷ []) (h parts.0)
-    (All-cons IsPrintable (slice_range text start at) [] (last parts.1) (All-nil IsPrintable)))
+    (All-append IsPrintable (texts_from 1 text 0 cells) (slice_range text start at ∷ []) (h plain)
+    (All-cons IsPrintable (slice_range text start at) [] (last (this plain)) (All-nil IsPrintable)))
 
 -- an item of a list, or one for where it ends
 all-or : {X : Type 0} (P : X → Type 0) (xs : List X) (d : X) → P d → All P xs → (i : ℕ) → P (get_or xs i d)

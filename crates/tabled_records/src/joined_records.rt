@@ -123,7 +123,7 @@ fn split_rows(alloc: Global, text: &str) -> Result<LentRows<'_>, TableError>
     let mut rows = RowRanges::new(alloc);
     let mut start: usize = 0;
     let mut first: usize = 0;
-    // Whether all cells that have ended are printable ASCII.
+    // Whether all cells so far are printable ASCII.
     let mut all_printable = true;
     // Whether all of the cell so far is printable ASCII.
     let mut printable = true;
@@ -132,12 +132,12 @@ fn split_rows(alloc: Global, text: &str) -> Result<LentRows<'_>, TableError>
         let byte = bytes[at];
         if byte != b'\t' && byte != b'\n' {
             printable = false;
+            all_printable = false;
             at = run_end(bytes, at + 1, b' ', u8::MAX);
             continue;
         }
         let columns = cell_columns(text, start, at, printable);
         cells.push((at, columns))?;
-        all_printable = all_printable & printable;
         start = at + 1;
         printable = true;
         at = run_end(bytes, start, b' ', b'~');
@@ -157,7 +157,7 @@ fn split_rows(alloc: Global, text: &str) -> Result<LentRows<'_>, TableError>
         text,
         cells,
         rows,
-        printable: all_printable & printable,
+        printable: all_printable,
     })
 }
 

@@ -119,7 +119,14 @@ fn bounds_of(ends: &Pairs, gap: usize, place: usize) -> (usize, (usize, usize))
     if place == 0 {
         return (0, ends.at(place));
     }
-    (ends.at(place - 1).0 + gap, ends.at(place))
+    let before = place - 1;
+    // The pair before a small one is small.
+    if place < ends.small.len() {
+        let first = ends.small[before].0 as usize;
+        let (end, columns) = ends.small[place];
+        return (first + gap, (end as usize, columns as usize));
+    }
+    (ends.at(before).0 + gap, ends.at(place))
 }
 
 impl RowRanges {

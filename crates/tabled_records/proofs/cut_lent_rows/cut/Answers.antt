@@ -1,4 +1,4 @@
-use Rattle.tabled_records.proofs.Names.{ap, arith, length, length-take, subst, sym, take, text_columns, ◌∙◌, ◌≡◌, ◌≤◌}
+use Rattle.tabled_records.proofs.Names.{ap, arith, length, length-take, sym, take, text_columns, ◌∙◌, ◌≡◌, ◌≤◌}
 use Rattle.tabled_records.proofs.CutLent.{cut-whole, printable-boundary, printable-columns, printable-cut}
 use Rattle.tabled_records.specs.CutLentRows.{cut_text}
 use Rattle.tabled_records.proofs.cut_lent_rows.cut.Goals as goal

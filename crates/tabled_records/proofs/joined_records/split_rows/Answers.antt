@@ -1,4 +1,4 @@
-use Rattle.tabled_records.proofs.Names.{All-nil, AreRanges, [], ap, arith, false, get_or, is_in_range, length, length-append, lengthened_rows}
+use Rattle.tabled_records.proofs.Names.{All-nil, AreRanges, [], ap, arith, false, get_or, is_in_range, length, length-append, lengthened_rows, refl}
 use Rattle.tabled_records.proofs.Names.{lines_of, rows_in, slice_range, subst, sym, texts_from, true, ℕ, ◌++◌, ◌+◌, ◌-◌, ◌<◌, ◌∙◌, ◌∷◌, ◌≡◌, ◌≤◌}
 use Rattle.tabled_records.proofs.Cutting.{split-begun, IsWithin, cut-feed, cut-tab, cut-start, lent-next, no-feed, placed-next, plain-next, rows-cut}
 use Rattle.tabled_records.proofs.Cutting.{within-end, within-more, within-run}
@@ -12,6 +12,7 @@ bytes-init c =
     rw (c.new-cells.ensures, c.new-rows.ensures) (
       split-begun c.args.text.now c.as_bytes-bytes.result.now [] [] 0 0 at.result true c.as_bytes-bytes.ensures.value
           (cut-start c.args.text.now c.utf8.text) (omega arith) at.ensures.end at.ensures.passed,
+      λ _. refl,
       λ _. All-nil IsPrintable,
     )
 
@@ -33,7 +34,8 @@ bytes-preserved-then-byte-ne10 c =
         within = within-run text c.bytes.start (c.bytes.at + 1) at 0xFF c.run_end-at-then-byte-ne10.ensures.from run first;
         printable = λ e. absurd (let f : false ≡ true = e in cc);
       },
-      c.bytes.invariant.1,
+      λ e. absurd (let f : false ≡ true = e in cc),
+      λ e. absurd (let f : false ≡ true = e in cc),
     )
 
 pub cell_columns-columns-requires-clause-ordered : goal.cell_columns-columns-requires-clause-ordered
@@ -71,10 +73,11 @@ bytes-preserved-then-byte-eq9 c =
     let cut = cut-tab text c.bytes.cells c.bytes.rows c.bytes.start c.bytes.first c.bytes.at c.cell_columns-columns.result c.utf8.text was.cut
     was.within inside tab c.cell_columns-columns.ensures in
     let plain = plain-next text c.bytes.cells c.cell_columns-columns.result c.bytes.start c.bytes.at c.bytes.all_printable c.bytes.printable
-    was.cut.starts c.bytes.invariant.1 was.printable in
+    was.cut.starts c.bytes.invariant.2 c.bytes.invariant.1 was.printable in
     rw c.in_ok-push.ensures.ok (
       split-begun text c.as_bytes-bytes.result.now _ c.bytes.rows (c.bytes.at + 1) c.bytes.first at.result true same cut at.ensures.from
           at.ensures.end at.ensures.passed,
+      λ _. refl,
       plain,
     )
 
@@ -101,10 +104,11 @@ bytes-preserved c =
     (c.len.result - c.bytes.first) c.utf8.text was.cut was.within inside feed c.cell_columns-columns.ensures
     (omega (arith, reached, c.len.ensures, ap length pushed, more)) in
     let plain = plain-next text c.bytes.cells c.cell_columns-columns.result c.bytes.start c.bytes.at c.bytes.all_printable c.bytes.printable
-    was.cut.starts c.bytes.invariant.1 was.printable in
+    was.cut.starts c.bytes.invariant.2 c.bytes.invariant.1 was.printable in
     rw (pushed, c.in_ok-push-2.ensures.ok, last) (
       split-begun text c.as_bytes-bytes.result.now cells _ (c.bytes.at + 1) (length cells) at.result true same cut at.ensures.from
           at.ensures.end at.ensures.passed,
+      λ _. refl,
       plain,
     )
 
@@ -125,7 +129,7 @@ invariant_of-result c =
     let last : c.bytes.at ≡ length c.as_bytes-bytes.result.now =
     omega (arith, c.bytes.invariant.0.inside, ap length c.as_bytes-bytes.ensures.value, c.bytes-test.false) in
     let plain = plain-next c.args.text.now c.bytes.cells c.cell_columns-columns-2.result c.bytes.start (length c.as_bytes-bytes.result.now)
-    c.bytes.all_printable c.bytes.printable cut.starts c.bytes.invariant.1
+    c.bytes.all_printable c.bytes.printable cut.starts c.bytes.invariant.2 c.bytes.invariant.1
     (λ p. subst (λ n. IsPrintable (slice_range c.args.text.now c.bytes.start n)) last (c.bytes.invariant.0.printable p)) in
     let all = placed-next c.bytes.cells c.bytes.rows cell c.bytes.first (c.len-2.result - c.bytes.first) cut.placed
     (omega (arith, reached, c.len-2.ensures, ap length pushed, more)) in
