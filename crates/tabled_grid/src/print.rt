@@ -62,7 +62,7 @@ fn write_with_some_cursors<'a, R: PeekableRecords, D: Dimension, S: TextSink>(
     write_picture(sink, grid, &mut [Cursor::nowhere(); SOME_CURSORS], whole)
 }
 
-/// Writes a picture with cursors for many columns, which take 80 KiB of stack.
+/// Writes a picture with cursors for many columns, which take 72 KiB of stack.
 #[inline(never)]
 fn write_with_many_cursors<'a, R: PeekableRecords, D: Dimension, S: TextSink>(
     sink: &mut S,
