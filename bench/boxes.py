@@ -13,7 +13,7 @@ with `rt run`. It runs anew for each table:
 
 Printing a nested level takes the same few instructions, whatever the number of levels, and one read
 of memory, which takes most of the time: 10 ns a level where all levels are in the caches of the
-processor (10,000), 50 ns where they aren't. So the bar of linear time compares two counts that both
+processor (10,000), 20 to 50 ns where they aren't. So the bar of linear time compares two counts that both
 exceed the caches: at 144 bytes a level, they take 45 and 430 MB.
 
 A table is printed to a writer that counts bytes and keeps none. The time is that from the first to the
