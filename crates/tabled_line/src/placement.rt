@@ -6,7 +6,7 @@ ghost use Rattle.tabled_line.specs.Placements.{IsPlacementIn, IsUniform};
 ghost use Rattle.tabled_line.specs.RowLines.{IsRowLine};
 
 use crate::cell_block::before_text;
-use crate::cursor::{CellLine, RowLine};
+use crate::cell_lines::{CellLine, RowLine};
 use crate::row::Row;
 use tabled_config::{AlignmentHorizontal, CellStyle, Indent, RowStyles, Sides};
 

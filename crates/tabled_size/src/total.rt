@@ -21,7 +21,7 @@ ghost use Rattle.tabled_size.specs.Totals.{framed_width, part_height, total_heig
 use crate::complete_dimension::CompleteDimension;
 use crate::dimension::Dimension;
 use crate::estimate::{column_width, estimate_heights, estimate_widths, row_height};
-use tabled_base::{ExactRecords, PeekableRecords, TableError};
+use tabled_base::{ContentRecords, ExactRecords, TableError};
 use tabled_config::SpannedConfig;
 
 /// Whether there are no rows or no columns.
@@ -174,7 +174,7 @@ fn reached_height<D: Dimension>(
 /// - `Memory`: an allocation failed. Never if widths are stored.
 /// - `ShortWidths`: the stored list is shorter than the table.
 /// - `Range`: the sum exceeds `usize::MAX`.
-pub fn total_width<R: PeekableRecords>(
+pub fn total_width<R: ContentRecords>(
     records: &R,
     config: &SpannedConfig,
     stored: &CompleteDimension,
@@ -208,7 +208,7 @@ pub fn total_width<R: PeekableRecords>(
 /// - `Memory`: an allocation failed. Never if heights are stored.
 /// - `ShortHeights`: the stored list is shorter than the table.
 /// - `Range`: the sum exceeds `usize::MAX`.
-pub fn total_height<R: PeekableRecords>(
+pub fn total_height<R: ContentRecords>(
     records: &R,
     config: &SpannedConfig,
     stored: &CompleteDimension,
@@ -236,7 +236,7 @@ pub fn total_height<R: PeekableRecords>(
 }
 
 #[tactic(auto, using(tabled_priority::proofs::Sums::sum_step, crate::proofs::Passing::width_at))]
-fn sum_columns<R: PeekableRecords>(records: &R, config: &SpannedConfig) -> Option<usize>
+fn sum_columns<R: ContentRecords>(records: &R, config: &SpannedConfig) -> Option<usize>
     ensures { let widths = estimated_widths (R.cells records.now) config.now in
         let sum = sum_below (slice_index widths) (columns (R.cells records.now)) in
         MatchOption result (IsTooWide (R.cells records.now) config.now ⊎ (2 ^ 64 ≤ sum))
@@ -251,7 +251,7 @@ fn sum_columns<R: PeekableRecords>(records: &R, config: &SpannedConfig) -> Optio
 
 /// Returns the total width of a table with estimated widths, in columns. It is 0 without rows or
 /// columns. `None` if it exceeds `usize::MAX`.
-pub fn estimated_total_width<R: PeekableRecords>(
+pub fn estimated_total_width<R: ContentRecords>(
     records: &R,
     config: &SpannedConfig,
 ) -> Option<usize>
@@ -265,7 +265,7 @@ pub fn estimated_total_width<R: PeekableRecords>(
 }
 
 #[tactic(auto, using(tabled_priority::proofs::Sums::sum_step))]
-fn sum_parts<R: PeekableRecords>(records: &R, config: &SpannedConfig) -> Option<usize>
+fn sum_parts<R: ContentRecords>(records: &R, config: &SpannedConfig) -> Option<usize>
     ensures { let part = part_height config.now (length (R.cells records.now))
         (estimated_heights (R.cells records.now) config.now) in
         let sum = sum_below part (length (R.cells records.now)) in
@@ -284,7 +284,7 @@ fn sum_parts<R: PeekableRecords>(records: &R, config: &SpannedConfig) -> Option<
 
 /// Returns the total height of a table with estimated heights, in lines. It is 0 without rows or
 /// columns. `None` if it exceeds `usize::MAX`.
-pub fn estimated_total_height<R: PeekableRecords>(
+pub fn estimated_total_height<R: ContentRecords>(
     records: &R,
     config: &SpannedConfig,
 ) -> Option<usize>
