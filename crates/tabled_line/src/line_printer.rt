@@ -147,7 +147,7 @@ pub struct LinePrinter<C: TableColumns> {
 
 impl<C: TableColumns> LinePrinter<C> {
     /// Returns a printer that has written no line yet. With an allocator it caches a horizontal
-    /// line of up to 1 MiB and a row template, else a horizontal line of up to 1 KiB.
+    /// line of up to 1 MiB and a row template, else a horizontal line of up to 4 KiB.
     pub fn new(columns: C, memory: Option<Global>) -> LinePrinter<C>
         ensures columns { result.columns ≡ columns }
         ensures begun { result.begun ≡ false }

@@ -162,19 +162,19 @@ impl<'a, W: Write> TextSink for WriterSink<'a, W> {
 }
 
 /// The capacity of a `FixedBuffer`, in bytes.
-const FIXED_BYTES: usize = 1024;
+const FIXED_BYTES: usize = 4096;
 
 /// The most bytes that a `LineBuffer` allocates. A longer line isn't worth the memory, and a table
 /// can be wider than memory is large.
 const MOST_BYTES: usize = 1_048_576;
 
-/// A sink of 1024 bytes without allocation. A text that doesn't fit fails with `Memory`, and
+/// A sink of 4096 bytes without allocation. A text that doesn't fit fails with `Memory`, and
 /// nothing of it is added.
 #[derive(Drop)]
 pub struct FixedBuffer {
     bytes: [u8; FIXED_BYTES],
     used: usize,
-    ghost within: { used ≤ 1024 },
+    ghost within: { used ≤ 4096 },
     ghost utf8: { is_utf8 (take used bytes) ≡ true },
 }
 
@@ -216,7 +216,7 @@ impl TextSink for FixedBuffer {
     }
 }
 
-/// A sink that holds up to 1 MiB with an allocator, and 1 KiB without one.
+/// A sink that holds up to 1 MiB with an allocator, and 4 KiB without one.
 #[derive(Drop)]
 pub enum LineBuffer {
     /// Without an allocator.
