@@ -3,8 +3,9 @@ use Rattle.std.specs.Prelude.{ℕ, List, Option, slice_get, unwrap_or}
 use Rattle.std.specs.Option.{option_and_then, option_map}
 use Rattle.tabled_base.specs.declared.position.Entity.{Entity}
 use Rattle.tabled_entity.specs.RowChanges.{latest_at}
+use Rattle.tabled_entity.specs.RunMap.{in_dense}
 use Rattle.tabled_entity.specs.declared.row_values.RowValues.{RowValues}
-use Rattle.tabled_entity.specs.declared.row_values.RowValues.TheVariants.{Set, Uniform}
+use Rattle.tabled_entity.specs.declared.row_values.RowValues.TheVariants.{Run, Set, Uniform}
 
 module _ {T : Type 0} where
   -- the value of the change at an index, or else that of the entire table
@@ -15,5 +16,7 @@ module _ {T : Type 0} where
   -- the value of the cell in a column
   abbrev pub value_at : RowValues T → ℕ → T
   value_at (Uniform value) column = value.now
+  value_at (Run first changes global) column =
+      unwrap_or (option_map (λ change. change.1) (in_dense first changes.now column)) global.now
   value_at (Set values) column =
       value_of values.global.now values.changes.now (latest_at values.latest column)

@@ -1,5 +1,5 @@
 //! Checks whether the sizes of a table are complete and hold its cells, in the order of the errors.
-ghost use Rattle.std.specs.Prelude.{◌≡◌, ◌↔◌, ◌<◌, ◌≤◌, IsTrue, false, length, IfOk, IfErr};
+ghost use Rattle.std.specs.Prelude.{◌≡◌, ◌↔◌, ◌<◌, ◌≤◌, IsTrue, false, length, IfOk, IfErr, ℕ};
 ghost use Rattle.std.specs.Prelude.{MatchOption, MatchResult, OnOk};
 ghost use Rattle.std.specs.List.{slice_index};
 ghost use Rattle.tabled_base.specs.Cells.{columns};
@@ -78,6 +78,25 @@ fn narrow_by_placements<R: PeekableRecords, D: Dimension>(
     None
 }
 
+/// Returns the first column of a row that is too narrow for its cell, where all have one padding.
+fn narrow_by_padding<R: PeekableRecords, D: Dimension>(
+    grid: &Grid<'_, R, D>,
+    row: usize,
+    padding: Sides<Indent>,
+) -> Option<usize>
+    requires sized { columns grid.now.cells ≤ length grid.now.widths }
+    requires row_in { row < length grid.now.cells }
+    requires padding { (column : ℕ) → (style_at grid.now.config row column).padding ≡ padding }
+    ensures { MatchOption result (IsHeldIn grid.now row) (IsNarrowIn grid.now row) }
+{
+    'columns: for column in 0..grid.records.count_columns() {
+        if !is_held(grid, row, column, padding) {
+            return Some(column);
+        }
+    }
+    None
+}
+
 /// Returns the first column of a row that is too narrow for its cell, with each padding looked up.
 fn narrow_by_lookup<R: PeekableRecords, D: Dimension>(
     grid: &Grid<'_, R, D>,
@@ -101,8 +120,11 @@ fn narrow_in<R: PeekableRecords, D: Dimension>(grid: &Grid<'_, R, D>, row: usize
     requires row_in { row < length grid.now.cells }
     ensures { MatchOption result (IsHeldIn grid.now row) (IsNarrowIn grid.now row) }
 {
-    match grid.placements(row) {
-        Some(placements) => narrow_by_placements(grid, row, placements),
+    if let Some(placements) = grid.placements(row) {
+        return narrow_by_placements(grid, row, placements);
+    }
+    match grid.config.row_padding(row) {
+        Some(padding) => narrow_by_padding(grid, row, *padding),
         None => narrow_by_lookup(grid, row),
     }
 }

@@ -4,8 +4,10 @@ use Rattle.std.specs.List.{range_with_len}
 use Rattle.tabled_config.specs.declared.sides.Indent.{Indent}
 use Rattle.tabled_config.specs.declared.sides.Sides.{Sides}
 use Rattle.tabled_config.specs.declared.spanned.CellStyle.{CellStyle}
+use Rattle.tabled_entity.specs.RowValues.{value_at}
 use Rattle.tabled_line.specs.Block.{inner_width}
 use Rattle.tabled_line.specs.Row.{ColumnSheet, RowSheet}
+use Rattle.tabled_line.specs.declared.placement.AlignedCells.{AlignedCells}
 use Rattle.tabled_line.specs.declared.placement.Placement.{Placement}
 use Rattle.tabled_line.specs.declared.placement.KnownPlacements.{KnownPlacements}
 use Rattle.tabled_line.specs.declared.placement.KnownPlacements.TheVariants.{Cached, Styled, Uniform}
@@ -52,6 +54,10 @@ pub record ArePlacements (style : ℕ → CellStyle) (columns : ColumnSheet) (pl
 pub record IsUniform (style : CellStyle) (uniform : UniformPlacement) : Type 0 where
   pub spaced : IsSpaced style.padding
   pub uniform_is : uniform ≡ uniform_of style
+
+-- the placement of the text in a column: that of all texts, with the column's own alignment
+abbrev pub aligned_in : AlignedCells → ℕ → UniformPlacement
+aligned_in cells column = record cells.uniform { horizontal = value_at cells.horizontal column }
 
 -- what is known of the placements of a row's texts is true
 abbrev pub AreKnown : (ℕ → CellStyle) → ColumnSheet → KnownPlacements → Type 0

@@ -8,7 +8,8 @@ ghost use Rattle.tabled_line.specs.RowLines.{IsRowLine};
 use crate::cell_block::before_text;
 use crate::cursor::{CellLine, RowLine};
 use crate::row::Row;
-use tabled_config::{AlignmentHorizontal, CellStyle, Indent, RowStyles, Sides};
+use tabled_config::{AlignmentHorizontal, CellStyle, Indent, RowStyles, SetStyles, Sides};
+use tabled_entity::RowValues;
 
 /// Where a text is in its column. Side padding is spaces, and there is no top padding.
 #[derive(Clone, Copy)]
@@ -147,6 +148,45 @@ impl<'a> RowPlacements for RowStyles<'a> {
     fn at(&self, column: usize, width: usize) -> Option<Placement> {
         let (padding, horizontal) = self.sides(column)?;
         UniformPlacement::of(padding, horizontal)?.placement(width)
+    }
+}
+
+/// Placements from the styles that were set.
+impl<'a> RowPlacements for SetStyles<'a> {
+    ghost use Rattle.std.specs.Prelude.{◌≡◌, ◌<◌, ℕ};
+    ghost use Rattle.tabled_config.specs.RowStyles.{set_style};
+
+    ghost describes = { λ styles row. (column : ℕ) → column < row.columns.count
+        → set_style styles column ≡ row.style column };
+
+    #[inline(always)]
+    fn at(&self, column: usize, width: usize) -> Option<Placement> {
+        let (padding, horizontal) = self.sides(column);
+        UniformPlacement::of(padding, horizontal)?.placement(width)
+    }
+}
+
+/// Placements in a row whose cells share one padding, each with an alignment of its own.
+#[derive(Clone, Copy)]
+pub(crate) struct AlignedCells<'a> {
+    /// The placement of all texts but for the alignment.
+    pub uniform: UniformPlacement,
+    /// The alignments.
+    pub horizontal: RowValues<'a, AlignmentHorizontal>,
+}
+
+impl<'a> RowPlacements for AlignedCells<'a> {
+    ghost use Rattle.std.specs.Prelude.{◌<◌, ℕ};
+    ghost use Rattle.tabled_line.specs.Placements.{IsUniform, aligned_in};
+
+    ghost describes = { λ cells row. (column : ℕ) → column < row.columns.count
+        → IsUniform (row.style column) (aligned_in cells column) };
+
+    #[inline(always)]
+    fn at(&self, column: usize, width: usize) -> Option<Placement> {
+        let mut uniform = self.uniform;
+        uniform.horizontal = *self.horizontal.at(column);
+        uniform.placement(width)
     }
 }
 

@@ -9,12 +9,14 @@ ghost use Rattle.tabled_line.specs.RowLines.{IsRowLine};
 
 use crate::borders::{TableColumns, write_left_edge, write_right_edge, write_rule_pieces};
 use crate::cursor::RowLine;
-use crate::placement::{KnownPlacements, RowPlacements, place_text};
+use crate::placement::{
+    AlignedCells, KnownPlacements, RowPlacements, UniformPlacement, place_text,
+};
 use crate::row::Row;
 use crate::text_sink::TextSink;
 use std::alloc::Global;
 use tabled_base::TableError;
-use tabled_config::{HorizontalLine, VerticalLine};
+use tabled_config::{AlignmentHorizontal, HorizontalLine, RowStyles, VerticalLine};
 
 /// The most columns of a template, not counting vertical lines. A longer one isn't worth the
 /// memory, and a table can be wider than memory is large.
@@ -278,7 +280,21 @@ impl RowTemplate {
         ensures filled { IfSome result
             (IsFilled (R.sheet row.now) at.now.index self.new.buffer.items) }
     {
-        self.fill_placed(row, row.styles(), at)
+        match row.styles() {
+            RowStyles::Set(styles) => {
+                let Some((padding, horizontal)) = styles.aligned() else {
+                    return self.fill_placed(row, styles, at);
+                };
+                // Any alignment will do: each text has its own.
+                let uniform = UniformPlacement::of(padding, AlignmentHorizontal::Left)?;
+                let cells = AlignedCells {
+                    uniform,
+                    horizontal,
+                };
+                self.fill_placed(row, cells, at)
+            }
+            styles => self.fill_placed(row, styles, at),
+        }
     }
 
     /// Fills the buffer with a line of a row. Returns its length in bytes. `None`: the line must be

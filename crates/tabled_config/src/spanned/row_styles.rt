@@ -1,6 +1,6 @@
 //! The styles of the cells of a row, and whether cells or rows share their settings.
 ghost use Rattle.std.specs.Prelude.{IfSome, true, ℕ, ◌≡◌};
-ghost use Rattle.tabled_config.specs.RowStyles.{DescribesStyles, style_in};
+ghost use Rattle.tabled_config.specs.RowStyles.{DescribesStyles, set_style, style_in};
 ghost use Rattle.tabled_config.specs.Settings.{shared_style, style_at};
 ghost use Rattle.tabled_entity.specs.Changes.{shared};
 ghost use Rattle.tabled_entity.specs.RowValues.{value_at};
@@ -29,6 +29,29 @@ pub enum RowStyles<'a> {
     Listed(&'a [CellStyle]),
     /// The styles set in the configuration.
     Set(SetStyles<'a>),
+}
+
+impl<'a> SetStyles<'a> {
+    /// Returns the padding and horizontal alignment of a column.
+    #[inline(always)]
+    pub fn sides(&self, column: usize) -> (&'a Sides<Indent>, AlignmentHorizontal)
+        ensures padding { result.0.now ≡ (set_style self.now column).padding }
+        ensures horizontal { result.1 ≡ (set_style self.now column).horizontal }
+    {
+        (self.padding.at(column), *self.horizontal.at(column))
+    }
+
+    /// Returns the padding shared by the row's cells, and their horizontal alignments. `None` only
+    /// if padding was set for a column or for a cell of the row.
+    #[inline(always)]
+    pub fn aligned(&self) -> Option<(&'a Sides<Indent>, RowValues<'a, AlignmentHorizontal>)>
+        ensures padding { IfSome result (λ aligned. (column : ℕ)
+            → aligned.0.now ≡ (set_style self.now column).padding) }
+        ensures horizontal { IfSome result (λ aligned. (column : ℕ)
+            → value_at aligned.1 column ≡ (set_style self.now column).horizontal) }
+    {
+        Some((self.padding.shared()?, self.horizontal))
+    }
 }
 
 impl<'a> RowStyles<'a> {
@@ -70,9 +93,7 @@ impl<'a> RowStyles<'a> {
                 let style = styles.get(column)?;
                 Some((&style.padding, style.horizontal))
             }
-            RowStyles::Set(styles) => {
-                Some((styles.padding.at(column), *styles.horizontal.at(column)))
-            }
+            RowStyles::Set(styles) => Some(styles.sides(column)),
         }
     }
 }
