@@ -6,12 +6,10 @@ use Rattle.std.proofs.lemmas.Bool.{cases_Bool, cases_eq, eqb-true}
 use Rattle.std.proofs.lemmas.Bool.Decides.{nat_tests}
 use Rattle.std.specs.Option.{option_and_then, option_or}
 use Rattle.std.specs.Vec.{with_item}
-use Rattle.tabled_entity.specs.RunMap.{HoldsCell, HoldsValue, SameCells, SameValues, cell_in, in_others, in_run, value_in}
+use Rattle.tabled_entity.specs.RowPlaces.{HoldsCell, SameCells, cell_in}
+use Rattle.tabled_entity.specs.RunMap.{HoldsValue, SameValues, in_others, in_run, value_in}
 use Rattle.tabled_entity.specs.declared.run_map.RunMap.{RunMap}
-
-pub or_none : {X : Type 0} (o : Option X) → option_or o None ≡ o
-or_none None = refl
-or_none (Some x) = refl
+use Rattle.tabled_entity.specs.declared.run_map.RowPlaces.{RowPlaces}
 
 set-same : {X : Type 0} (xs : List X) (i : ℕ) (x : X) → i < length xs → slice_get (slice_set xs i x) i ≡ Some x
 set-same [] i x below = absurd (omega arith)
@@ -46,8 +44,8 @@ item-set xs first index other x below =
           ∙ item-other first index other (Some x) (slice_get xs (other - first)) apart
     ]
 
-module _ (old : RunMap (RunMap ℕ)) (index : ℕ) (within : index < length old.run.items) where
-  row-set : (more : RunMap ℕ) → HoldsValue old (record old { run = with_item old.run index more }) (old.first + index) more
+module _ (old : RunMap RowPlaces) (index : ℕ) (within : index < length old.run.items) where
+  row-set : (more : RowPlaces) → HoldsValue old (record old { run = with_item old.run index more }) (old.first + index) more
   row-set more =
       record {
         at = λ other.
@@ -59,7 +57,7 @@ module _ (old : RunMap (RunMap ℕ)) (index : ℕ) (within : index < length old.
             ];
       }
 
-  row-there : (cells : RunMap ℕ) → cells ≡ get_or old.run.items index cells → value_in old (old.first + index) ≡ Some cells
+  row-there : (cells : RowPlaces) → cells ≡ get_or old.run.items index cells → value_in old (old.first + index) ≡ Some cells
   row-there cells is =
       let row = old.first + index in
       let at : row - old.first ≡ index = omega arith in
@@ -71,12 +69,12 @@ module _ (old : RunMap (RunMap ℕ)) (index : ℕ) (within : index < length old.
       ∙ ap Some (sym is))
 
 -- a cell of a row has a new value
-cell-held : (old new : RunMap (RunMap ℕ)) (row column value : ℕ) (cells more : RunMap ℕ) → value_in old row ≡ Some cells
-    → HoldsValue old new row more → HoldsValue cells more column value → HoldsCell old new row column value
+cell-held : (old new : RunMap RowPlaces) (row column value : ℕ) (cells more : RowPlaces) → value_in old row ≡ Some cells
+    → HoldsValue old new row more → HoldsValue cells.places more.places column value → HoldsCell old new row column value
 cell-held old new row column value cells more there held set =
     record {
       at = λ r c.
-          let tell : Option (RunMap ℕ) → Option ℕ = option_and_then (λ m. value_in m c) in
+          let tell : Option RowPlaces → Option ℕ = option_and_then (λ m. value_in m.places c) in
           ap tell (held.at r)
           ∙ elim (cases_Bool (row == r)) [
             | inl same ↦
@@ -91,12 +89,12 @@ cell-held old new row column value cells more there held set =
           ];
     }
 
-cells-same : (old new : RunMap (RunMap ℕ)) (row : ℕ) (cells more : RunMap ℕ) → value_in old row ≡ Some cells
-    → HoldsValue old new row more → SameValues cells more → SameCells old new
+cells-same : (old new : RunMap RowPlaces) (row : ℕ) (cells more : RowPlaces) → value_in old row ≡ Some cells
+    → HoldsValue old new row more → SameValues cells.places more.places → SameCells old new
 cells-same old new row cells more there held same-values =
     record {
       at = λ r c.
-          let tell : Option (RunMap ℕ) → Option ℕ = option_and_then (λ m. value_in m c) in
+          let tell : Option RowPlaces → Option ℕ = option_and_then (λ m. value_in m.places c) in
           ap tell (held.at r)
           ∙ elim (cases_Bool (row == r)) [
             | inl same ↦
@@ -106,10 +104,10 @@ cells-same old new row cells more there held same-values =
           ];
     }
 
-module _ {E : Type 0} (old : RunMap (RunMap ℕ)) (index : ℕ) (cells more : RunMap ℕ) where
+module _ {E : Type 0} (old : RunMap RowPlaces) (index : ℕ) (cells more : RowPlaces) where
   -- what is inserted into a row of the run is inserted into the map
   pub run-row-held : (row column value : ℕ) (r : Result (Unit {0}) E) → row ≡ old.first + index → index < length old.run.items
-      → cells ≡ get_or old.run.items index cells → OnOk r (HoldsValue cells more column value)
+      → cells ≡ get_or old.run.items index cells → OnOk r (HoldsValue cells.places more.places column value)
       → OnOk r (HoldsCell old (record old { run = with_item old.run index more }) row column value)
   run-row-held row column value (Ok _) at within is set =
       rw at (cell-held old _ _ column value cells more (row-there old index within cells is) (row-set old index within more) set)
@@ -117,7 +115,7 @@ module _ {E : Type 0} (old : RunMap (RunMap ℕ)) (index : ℕ) (cells more : Ru
 
   -- where nothing is, nothing changes
   pub run-row-same : (r : Result (Unit {0}) E) → index < length old.run.items → cells ≡ get_or old.run.items index cells
-      → OnErr r (SameValues cells more) → OnErr r (SameCells old (record old { run = with_item old.run index more }))
+      → OnErr r (SameValues cells.places more.places) → OnErr r (SameCells old (record old { run = with_item old.run index more }))
   run-row-same (Ok _) within is same = tt
   run-row-same (Err _) within is same =
       cells-same old _ _ cells more (row-there old index within cells is) (row-set old index within more) same

@@ -2,7 +2,8 @@
 use Rattle.std.specs.Prelude.{ℕ, ◌≡◌, ◌==◌, ◌&&◌, if◌then◌else◌, Bool, true, false, List, [], ◌∷◌, length, Option, Some, None, max}
 use Rattle.tabled_base.specs.declared.position.Entity.{Entity}
 use Rattle.tabled_base.specs.declared.position.Entity.TheVariants.{Global, Row, Column, Cell}
-use Rattle.tabled_entity.specs.RunMap.{cell_in, value_in}
+use Rattle.tabled_entity.specs.RowPlaces.{cell_in}
+use Rattle.tabled_entity.specs.RunMap.{value_in}
 use Rattle.tabled_entity.specs.declared.row_values.ChangeIndex.{ChangeIndex}
 
 abbrev pub same : Entity → Entity → Bool

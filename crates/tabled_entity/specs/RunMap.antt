@@ -1,7 +1,9 @@
 -- A map from numbers, with a dense run of those that were inserted one after another.
-use Rattle.std.specs.Prelude.{ℕ, ◌≡◌, ◌==◌, ◌&&◌, ◌-◌, if◌then◌else◌, List, Option, Some, None, nat_lt, slice_get}
+use Rattle.std.specs.Prelude.{ℕ, ◌≡◌, ◌==◌, ◌-◌, ◌<◌, if◌then◌else◌, List, [], ◌∷◌, ◌++◌, length, Option, Some, None}
+use Rattle.std.specs.Prelude.{get_or, nat_lt, slice_get}
 use Rattle.std.specs.BTreeMap.{get}
-use Rattle.std.specs.Option.{option_and_then, option_or}
+use Rattle.std.specs.List.{range_with_len}
+use Rattle.std.specs.Option.{option_or}
 use Rattle.std.specs.Ordering.{nat_cmp}
 use Rattle.tabled_entity.specs.declared.run_map.RunMap.{RunMap}
 
@@ -35,15 +37,10 @@ module _ {V : Type 0} where
     pub at : (other : ℕ)
         → value_in new other ≡ (if number == other then Some value else value_in old other)
 
--- the value of the cell in a row and a column
-abbrev pub cell_in : RunMap (RunMap ℕ) → ℕ → ℕ → Option ℕ
-cell_in rows row column = option_and_then (λ cells. value_in cells column) (value_in rows row)
+  -- a run that grows has the value at its end
+  abbrev pub GrowsBy : RunMap V → RunMap V → V → Type 0
+  GrowsBy old new value = length old.run.items < length new.run.items → new.run.items ≡ old.run.items ++ value ∷ []
 
--- each cell has the same value
-pub record SameCells (old new : RunMap (RunMap ℕ)) : Type 0 where
-  pub at : (row column : ℕ) → cell_in new row column ≡ cell_in old row column
-
--- one cell has a new value
-pub record HoldsCell (old new : RunMap (RunMap ℕ)) (row column value : ℕ) : Type 0 where
-  pub at : (r c : ℕ)
-      → cell_in new r c ≡ (if row == r && column == c then Some value else cell_in old r c)
+-- numbers that follow each other
+abbrev pub AreSuccessive : List ℕ → Type 0
+AreSuccessive run = run ≡ range_with_len (get_or run 0 0) (length run)

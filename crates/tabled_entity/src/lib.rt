@@ -5,7 +5,7 @@
 //! - `row_values.rt`: the values of the cells of a row, and the index that finds the latest change
 //!   for each.
 //! - `run_map.rt`: `RunMap`, a map from numbers that finds those inserted one after another by
-//!   index.
+//!   index, and `RowPlaces`, one of the changes for a row's cells.
 #![tactic(auto)]
 
 mod entity_map;
@@ -13,4 +13,4 @@ mod row_values;
 mod run_map;
 
 pub use entity_map::EntityMap;
-pub use row_values::{RowValues, SetValues};
+pub use row_values::{RowValues, RunValues, SetValues};

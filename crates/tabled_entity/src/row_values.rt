@@ -5,9 +5,9 @@ ghost use Rattle.tabled_base.specs.declared.position.Entity.TheVariants.{Column}
 ghost use Rattle.tabled_entity.specs.ChangeIndex.{HasNone, IsPart, IsReindexed, SamePlaces, found};
 ghost use Rattle.tabled_entity.specs.ChangeIndex.{later, latest};
 ghost use Rattle.tabled_entity.specs.RowChanges.{latest_at, latest_of};
-ghost use Rattle.tabled_entity.specs.RowValues.{value_at, value_of};
+ghost use Rattle.tabled_entity.specs.RowValues.{run_at, value_at, value_of};
 
-use crate::run_map::{RunMap, in_dense};
+use crate::run_map::{RowPlaces, RunMap, in_dense};
 use std::alloc::{AllocError, Global};
 use tabled_base::Entity;
 
@@ -17,7 +17,7 @@ pub(crate) struct ChangeIndex {
     rows: RunMap<usize>,
     columns: RunMap<usize>,
     // By row, then by column.
-    cells: RunMap<RunMap<usize>>,
+    cells: RunMap<RowPlaces>,
 }
 
 impl ChangeIndex {
@@ -90,10 +90,10 @@ impl ChangeIndex {
 pub(crate) enum RowChanges<'a> {
     /// One change for all cells, or none.
     Same(Option<usize>),
-    /// Changes for a dense run of cells, from this column on, and no others. A lookup is one index.
-    Run(usize, &'a [usize]),
+    /// Those for the row's cells, and no others.
+    Cells(&'a RowPlaces),
     /// The change for the row, those for columns, and those for the row's cells.
-    Mixed(Option<usize>, &'a RunMap<usize>, Option<&'a RunMap<usize>>),
+    Mixed(Option<usize>, &'a RunMap<usize>, Option<&'a RowPlaces>),
 }
 
 /// Returns the later of two changes, by their indices.
@@ -114,7 +114,7 @@ impl<'a> RowChanges<'a> {
     pub fn new(
         row: Option<usize>,
         columns: &'a RunMap<usize>,
-        cells: Option<&'a RunMap<usize>>,
+        cells: Option<&'a RowPlaces>,
     ) -> RowChanges<'a>
         ensures { (column : ℕ) → latest_at result column
             ≡ latest_of row columns.now cells.entry column }
@@ -124,10 +124,7 @@ impl<'a> RowChanges<'a> {
         }
         match (row, cells) {
             (_, None) => RowChanges::Same(row),
-            (None, Some(map)) => match map.only_run() {
-                Some((first, places)) => RowChanges::Run(first, places),
-                None => RowChanges::Mixed(row, columns, cells),
-            },
+            (None, Some(cells)) => RowChanges::Cells(cells),
             _ => RowChanges::Mixed(row, columns, cells),
         }
     }
@@ -139,10 +136,10 @@ impl<'a> RowChanges<'a> {
     {
         match self {
             RowChanges::Same(place) => *place,
-            RowChanges::Run(first, places) => in_dense(*first, *places, column).copied(),
+            RowChanges::Cells(cells) => cells.places.get(column).copied(),
             RowChanges::Mixed(row, columns, cells) => {
                 let of_column = columns.get(column).copied();
-                let of_cell = cells.and_then(|map| map.get(column).copied());
+                let of_cell = cells.and_then(|cells| cells.places.get(column).copied());
                 later(*row, later(of_column, of_cell))
             }
         }
@@ -159,11 +156,48 @@ pub struct SetValues<'a, T> {
     latest: RowChanges<'a>,
 }
 
+impl<'a, T> SetValues<'a, T> {
+    /// Returns the value of the cell in a column. It isn't inlined, so that loops stay short.
+    #[inline(never)]
+    fn at(&self, column: usize) -> &'a T
+        ensures { result.now ≡ value_of self.now.global.now self.now.changes.now
+            (latest_at self.now.latest column) }
+    {
+        value_of(self.global, self.changes, self.latest.at(column))
+    }
+}
+
+/// The values of a row's cells, where successive ones were set in order and nothing else was.
+#[derive(Clone, Copy)]
+pub struct RunValues<'a, T> {
+    // The first column that was set.
+    first: usize,
+    // The changes for it and the columns after it.
+    changes: &'a [(Entity, T)],
+    // The value of all others.
+    global: &'a T,
+}
+
+impl<'a, T> RunValues<'a, T> {
+    /// Returns the value of the cell in a column.
+    #[inline(always)]
+    pub fn at(&self, column: usize) -> &'a T
+        ensures { result.now ≡ run_at self.now column }
+    {
+        match in_dense(self.first, self.changes, column) {
+            Some(change) => &change.1,
+            None => self.global,
+        }
+    }
+}
+
 /// The values of a row's cells, which can be read in any order.
 #[derive(Clone, Copy)]
 pub enum RowValues<'a, T> {
     /// One value for all cells.
     Uniform(&'a T),
+    /// The values of successive cells, and one value for all others.
+    Run(RunValues<'a, T>),
     /// The values that were set for rows, columns and cells.
     Set(SetValues<'a, T>),
 }
@@ -186,13 +220,22 @@ impl<'a, T: Copy> RowValues<'a, T> {
         ensures { (column : ℕ) → value_at result column
             ≡ value_of global.now changes.now (latest_at latest.entry column) }
     {
+        let set = RowValues::Set(SetValues {
+            global,
+            changes,
+            latest,
+        });
         match latest {
             RowChanges::Same(place) => RowValues::Uniform(value_of(global, changes, place)),
-            _ => RowValues::Set(SetValues {
-                global,
-                changes,
-                latest,
-            }),
+            RowChanges::Cells(cells) => match cells.span(changes) {
+                Some((first, changes)) => RowValues::Run(RunValues {
+                    first,
+                    changes,
+                    global,
+                }),
+                None => set,
+            },
+            RowChanges::Mixed(..) => set,
         }
     }
 
@@ -203,7 +246,7 @@ impl<'a, T: Copy> RowValues<'a, T> {
     {
         match self {
             RowValues::Uniform(value) => Some(*value),
-            RowValues::Set(_) => None,
+            _ => None,
         }
     }
 
@@ -214,9 +257,8 @@ impl<'a, T: Copy> RowValues<'a, T> {
     {
         match self {
             RowValues::Uniform(value) => *value,
-            RowValues::Set(values) => {
-                value_of(values.global, values.changes, values.latest.at(column))
-            }
+            RowValues::Run(values) => values.at(column),
+            RowValues::Set(values) => values.at(column),
         }
     }
 }

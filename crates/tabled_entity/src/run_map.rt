@@ -1,8 +1,8 @@
-//! `RunMap`, a map from numbers.
-ghost use Rattle.std.specs.Prelude.{◌≡◌, ◌+◌, ◌≤◌, ℕ, length, true};
-ghost use Rattle.std.specs.Prelude.{IfNone, IfSome, None, OnErr, OnOk};
-ghost use Rattle.std.specs.Option.{option_copied};
-ghost use Rattle.tabled_entity.specs.RunMap.{HasNoValue, HoldsCell, HoldsValue, SameCells};
+//! `RunMap`, a map from numbers, and `RowPlaces`, one of the changes for a row's cells.
+ghost use Rattle.std.specs.Prelude.{◌≡◌, ◌+◌, ◌<◌, ◌≤◌, [], ℕ, length, slice_get, slice_index};
+ghost use Rattle.std.specs.Prelude.{IfNone, IfSome, None, OnErr, OnOk, true};
+ghost use Rattle.std.specs.Option.{option_and_then, option_copied};
+ghost use Rattle.tabled_entity.specs.RunMap.{AreSuccessive, GrowsBy, HasNoValue, HoldsValue};
 ghost use Rattle.tabled_entity.specs.RunMap.{SameValues, in_dense, in_run, value_in};
 
 use std::alloc::{AllocError, Global};
@@ -31,7 +31,8 @@ pub(crate) fn in_dense<V>(first: usize, run: &[V], number: usize) -> Option<&V>
 
 impl<V: Drop> RunMap<V> {
     pub fn new(alloc: Global) -> RunMap<V>
-        ensures { HasNoValue result }
+        ensures none { HasNoValue result }
+        ensures run { result.run.items ≡ [] }
     {
         RunMap {
             first: 0,
@@ -52,18 +53,6 @@ impl<V: Drop> RunMap<V> {
         ensures { result ≡ true → HasNoValue self.now }
     {
         self.run.is_empty() && self.others.is_empty()
-    }
-
-    /// Returns the first number and the values of the run, if there are no others.
-    #[inline(always)]
-    #[tactic(auto, using(crate::proofs::Runs::or_none))]
-    pub fn only_run(&self) -> Option<(usize, &[V])>
-        ensures { IfSome result (λ run. (number : ℕ)
-            → in_dense run.0 run.1.now number ≡ value_in self.now number) }
-    {
-        self.others
-            .is_empty()
-            .then_some((self.first, self.run.as_slice()))
     }
 
     #[inline(always)]
@@ -95,6 +84,7 @@ impl<V: Drop> RunMap<V> {
         requires { index ≤ length self.old.run.items }
         ensures ok { OnOk result (HoldsValue self.old self.new (self.old.first + index) value) }
         ensures err { OnErr result (SameValues self.old self.new) }
+        ensures run { GrowsBy self.old self.new value }
     {
         if index == self.run.len() {
             self.run.push(value)?;
@@ -108,15 +98,18 @@ impl<V: Drop> RunMap<V> {
         requires { in_run self.old number ≡ None }
         ensures ok { OnOk result (HoldsValue self.old self.new number value) }
         ensures err { OnErr result (SameValues self.old self.new) }
+        ensures run { GrowsBy self.old self.new value }
     {
         self.others.insert(number, value)?;
         Ok(())
     }
 
-    /// Stores the value of a number. If an allocation fails, no value changes.
+    /// Stores the value of a number. If an allocation fails, no value changes. A run that grows
+    /// has the value at its end.
     pub fn insert(&mut self, number: usize, value: V) -> Result<(), AllocError>
         ensures ok { OnOk result (HoldsValue self.old self.new number value) }
         ensures err { OnErr result (SameValues self.old self.new) }
+        ensures run { GrowsBy self.old self.new value }
     {
         if self.run.is_empty() {
             self.first = number;
@@ -128,8 +121,54 @@ impl<V: Drop> RunMap<V> {
     }
 }
 
+/// For the cells of a row, by column, the index of the latest change in the list of changes.
+#[derive(Debug, Drop)]
+pub(crate) struct RowPlaces {
+    pub places: RunMap<usize>,
+    // Whether the changes of the run are known to follow each other in the list.
+    in_order: bool,
+    ghost ordered: { in_order ≡ true → AreSuccessive places.run.items },
+}
+
+/// Whether a run is longer than `count`, and `place` is its first one plus `count`.
+fn goes_on(run: &[usize], count: usize, place: usize) -> bool
+    ensures { result ≡ true → (count < length run.now) × (place ≡ slice_index run.now 0 + count) }
+{
+    count < run.len() && place >= run[0] && place - run[0] == count
+}
+
+impl RowPlaces {
+    /// Returns the first column and the changes, if they are known to follow each other in the
+    /// list, for one column after another.
+    #[inline(always)]
+    pub fn span<'a, C>(&self, changes: &'a [C]) -> Option<(usize, &'a [C])>
+        ensures { IfSome result (λ span. (column : ℕ) → in_dense span.0 span.1.now column
+            ≡ option_and_then (slice_get changes.now) (value_in self.now.places column)) }
+    {
+        let run = self.places.run.as_slice();
+        if !self.in_order || run.is_empty() || !self.places.others.is_empty() {
+            return None;
+        }
+        let end = run[0].checked_add(run.len())?;
+        Some((self.places.first, changes.get(run[0]..end)?))
+    }
+
+    /// Stores the index of the change for a column. If an allocation fails, no entry changes.
+    fn insert(&mut self, column: usize, place: usize) -> Result<(), AllocError>
+        ensures ok { OnOk result (HoldsValue self.old.places self.new.places column place) }
+        ensures err { OnErr result (SameValues self.old.places self.new.places) }
+    {
+        let count = self.places.run.len();
+        let inserted = self.places.insert(column, place);
+        self.in_order = self.in_order && goes_on(&self.places.run, count, place);
+        inserted
+    }
+}
+
 /// A map from rows and columns.
-impl RunMap<RunMap<usize>> {
+impl RunMap<RowPlaces> {
+    ghost use Rattle.tabled_entity.specs.RowPlaces.{HoldsCell, SameCells};
+
     /// Stores the value of a cell in a row outside of the run.
     fn insert_outside(&mut self, row: usize, column: usize, value: usize) -> Result<(), AllocError>
         requires { in_run self.old row ≡ None }
@@ -139,7 +178,10 @@ impl RunMap<RunMap<usize>> {
         if let Some(cells) = self.others.get_mut(&row) {
             return cells.insert(column, value);
         }
-        let mut cells = RunMap::new(*self.run.allocator());
+        let mut cells = RowPlaces {
+            places: RunMap::new(*self.run.allocator()),
+            in_order: true,
+        };
         cells.insert(column, value)?;
         self.insert(row, cells)
     }

@@ -1,9 +1,10 @@
 //! Checks whether the sizes of a table are complete and hold its cells, in the order of the errors.
-ghost use Rattle.std.specs.Prelude.{◌≡◌, ◌↔◌, ◌<◌, ◌≤◌, IsTrue, false, length, IfOk, IfErr};
+ghost use Rattle.std.specs.Prelude.{◌≡◌, ◌↔◌, ◌<◌, ◌≤◌, IsTrue, false, length, IfOk, IfErr, ℕ};
 ghost use Rattle.std.specs.Prelude.{MatchOption, MatchResult, OnOk};
 ghost use Rattle.std.specs.List.{slice_index};
 ghost use Rattle.tabled_base.specs.Cells.{columns};
 ghost use Rattle.tabled_config.specs.Settings.{style_at};
+ghost use Rattle.tabled_entity.specs.RowValues.{value_at};
 ghost use Rattle.tabled_line.specs.Placements.{ArePlacements, IsPlaceable, placement_of};
 ghost use Rattle.tabled_size.specs.Effective.{effective};
 ghost use Rattle.tabled_size.specs.Stored.{is_stored};
@@ -17,6 +18,7 @@ use crate::column_styles::placement_buffer;
 use crate::grid::Grid;
 use tabled_base::{PeekableRecords, Position, TableError};
 use tabled_config::{Indent, Sides, SpannedConfig};
+use tabled_entity::RowValues;
 use tabled_line::Placement;
 use tabled_size::{
     CompleteDimension, Dimension, check_heights, check_widths, filled_height, filled_width,
@@ -78,16 +80,37 @@ fn narrow_by_placements<R: PeekableRecords, D: Dimension>(
     None
 }
 
+/// Returns the first column of a row that is too narrow for its cell, where all have one padding.
+fn narrow_by_padding<R: PeekableRecords, D: Dimension>(
+    grid: &Grid<'_, R, D>,
+    row: usize,
+    padding: Sides<Indent>,
+) -> Option<usize>
+    requires sized { columns grid.now.cells ≤ length grid.now.widths }
+    requires row_in { row < length grid.now.cells }
+    requires padding { (column : ℕ) → (style_at grid.now.config row column).padding ≡ padding }
+    ensures { MatchOption result (IsHeldIn grid.now row) (IsNarrowIn grid.now row) }
+{
+    'columns: for column in 0..grid.records.count_columns() {
+        if !is_held(grid, row, column, padding) {
+            return Some(column);
+        }
+    }
+    None
+}
+
 /// Returns the first column of a row that is too narrow for its cell, with each padding looked up.
 fn narrow_by_lookup<R: PeekableRecords, D: Dimension>(
     grid: &Grid<'_, R, D>,
     row: usize,
+    paddings: RowValues<'_, Sides<Indent>>,
 ) -> Option<usize>
     requires sized { columns grid.now.cells ≤ length grid.now.widths }
     requires row_in { row < length grid.now.cells }
+    requires paddings { (column : ℕ) → value_at paddings column
+        ≡ (style_at grid.now.config row column).padding }
     ensures { MatchOption result (IsHeldIn grid.now row) (IsNarrowIn grid.now row) }
 {
-    let paddings = grid.config.paddings_in(row);
     'columns: for column in 0..grid.records.count_columns() {
         if !is_held(grid, row, column, *paddings.at(column)) {
             return Some(column);
@@ -101,9 +124,12 @@ fn narrow_in<R: PeekableRecords, D: Dimension>(grid: &Grid<'_, R, D>, row: usize
     requires row_in { row < length grid.now.cells }
     ensures { MatchOption result (IsHeldIn grid.now row) (IsNarrowIn grid.now row) }
 {
-    match grid.placements(row) {
-        Some(placements) => narrow_by_placements(grid, row, placements),
-        None => narrow_by_lookup(grid, row),
+    if let Some(placements) = grid.placements(row) {
+        return narrow_by_placements(grid, row, placements);
+    }
+    match grid.config.paddings_in(row) {
+        RowValues::Uniform(padding) => narrow_by_padding(grid, row, *padding),
+        paddings => narrow_by_lookup(grid, row, paddings),
     }
 }
 

@@ -205,12 +205,10 @@ impl<'a, R: PeekableRecords, D: Dimension> Row<'a> for GridRow<'a, R, D> {
         if let Some(cells) = grid.placements(self.row) {
             return KnownPlacements::Cached(cells);
         }
-        if let Some((padding, horizontal)) = grid.config.row_sides(self.row)
-            && let Some(uniform) = UniformPlacement::of(padding, horizontal)
-        {
-            return KnownPlacements::Uniform(uniform);
+        match grid.config.paddings_in(self.row).shared() {
+            Some(padding) => KnownPlacements::of(padding, grid.config.horizontals_in(self.row)),
+            None => KnownPlacements::Styled,
         }
-        KnownPlacements::Styled
     }
 
     fn styles(&self) -> RowStyles<'_> {

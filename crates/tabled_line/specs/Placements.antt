@@ -4,11 +4,13 @@ use Rattle.std.specs.List.{range_with_len}
 use Rattle.tabled_config.specs.declared.sides.Indent.{Indent}
 use Rattle.tabled_config.specs.declared.sides.Sides.{Sides}
 use Rattle.tabled_config.specs.declared.spanned.CellStyle.{CellStyle}
+use Rattle.tabled_entity.specs.RowValues.{value_at}
 use Rattle.tabled_line.specs.Block.{inner_width}
 use Rattle.tabled_line.specs.Row.{ColumnSheet, RowSheet}
+use Rattle.tabled_line.specs.declared.placement.AlignedCells.{AlignedCells}
 use Rattle.tabled_line.specs.declared.placement.Placement.{Placement}
 use Rattle.tabled_line.specs.declared.placement.KnownPlacements.{KnownPlacements}
-use Rattle.tabled_line.specs.declared.placement.KnownPlacements.TheVariants.{Cached, Styled, Uniform}
+use Rattle.tabled_line.specs.declared.placement.KnownPlacements.TheVariants.{Aligned, Cached, Styled, Uniform}
 use Rattle.tabled_line.specs.declared.placement.UniformPlacement.{UniformPlacement}
 
 -- side padding is spaces, and there is no top padding
@@ -53,10 +55,15 @@ pub record IsUniform (style : CellStyle) (uniform : UniformPlacement) : Type 0 w
   pub spaced : IsSpaced style.padding
   pub uniform_is : uniform ≡ uniform_of style
 
+-- the placement of the text in a column: that of all texts, with the column's own alignment
+abbrev pub aligned_in : AlignedCells → ℕ → UniformPlacement
+aligned_in cells column = record cells.uniform { horizontal = value_at cells.horizontal column }
+
 -- what is known of the placements of a row's texts is true
 abbrev pub AreKnown : (ℕ → CellStyle) → ColumnSheet → KnownPlacements → Type 0
 AreKnown style columns (Cached cells) = ArePlacements style columns cells.now
 AreKnown style columns (Uniform uniform) = (column : ℕ) → column < columns.count → IsUniform (style column) uniform
+AreKnown style columns (Aligned cells) = (column : ℕ) → column < columns.count → IsUniform (style column) (aligned_in cells column)
 AreKnown style columns Styled = Unit {0}
 
 -- a column of a row that `describes` is true of

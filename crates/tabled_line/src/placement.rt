@@ -2,13 +2,16 @@
 ghost use Rattle.std.specs.Prelude.{◌≡◌, ◌<◌, ℕ, IfSome};
 ghost use Rattle.tabled_config.specs.declared.spanned.CellStyle.{CellStyle};
 ghost use Rattle.tabled_line.specs.PlacedText.{IsPlacedText};
-ghost use Rattle.tabled_line.specs.Placements.{IsPlacementIn, IsUniform};
+ghost use Rattle.tabled_entity.specs.RowValues.{value_at};
+ghost use Rattle.tabled_line.specs.Placements.{AreKnown, IsPlacementIn, IsUniform};
+ghost use Rattle.tabled_line.specs.Row.{ColumnSheet};
 ghost use Rattle.tabled_line.specs.RowLines.{IsRowLine};
 
 use crate::cell_block::before_text;
 use crate::cursor::{CellLine, RowLine};
 use crate::row::Row;
-use tabled_config::{AlignmentHorizontal, CellStyle, Indent, RowStyles, Sides};
+use tabled_config::{AlignmentHorizontal, CellStyle, Indent, RowStyles, SetStyles, Sides};
+use tabled_entity::RowValues;
 
 /// Where a text is in its column. Side padding is spaces, and there is no top padding.
 #[derive(Clone, Copy)]
@@ -37,6 +40,8 @@ pub enum KnownPlacements<'a> {
     Cached(&'a [Placement]),
     /// One placement for all texts.
     Uniform(UniformPlacement),
+    /// One for all texts, but for the alignment.
+    Aligned(AlignedCells<'a>),
     /// Nothing: each placement follows from the style of the cell.
     Styled,
 }
@@ -78,6 +83,43 @@ impl UniformPlacement {
             content_width: width.checked_sub(self.sides)?,
             horizontal: self.horizontal,
         })
+    }
+}
+
+/// The placements in a row whose cells share one padding, each with an alignment of its own.
+#[derive(Clone, Copy)]
+pub struct AlignedCells<'a> {
+    // The placement of all texts, but for the alignment.
+    uniform: UniformPlacement,
+    horizontal: RowValues<'a, AlignmentHorizontal>,
+}
+
+impl<'a> KnownPlacements<'a> {
+    /// Returns what is known of the placements of texts with one padding and these alignments.
+    #[inline(always)]
+    pub fn of(
+        padding: &Sides<Indent>,
+        horizontal: RowValues<'a, AlignmentHorizontal>,
+    ) -> KnownPlacements<'a>
+        ensures { (style : ℕ → CellStyle) (columns : ColumnSheet)
+            → ((column : ℕ) → padding.now ≡ (style column).padding)
+            → ((column : ℕ) → value_at horizontal.entry column ≡ (style column).horizontal)
+            → AreKnown style columns result }
+    {
+        // Any alignment will do: each text has its own.
+        let Some(mut uniform) = UniformPlacement::of(padding, AlignmentHorizontal::Left) else {
+            return KnownPlacements::Styled;
+        };
+        match horizontal.shared() {
+            Some(shared) => {
+                uniform.horizontal = *shared;
+                KnownPlacements::Uniform(uniform)
+            }
+            None => KnownPlacements::Aligned(AlignedCells {
+                uniform,
+                horizontal,
+            }),
+        }
     }
 }
 
@@ -145,8 +187,37 @@ impl<'a> RowPlacements for RowStyles<'a> {
 
     #[inline(always)]
     fn at(&self, column: usize, width: usize) -> Option<Placement> {
-        let (padding, horizontal) = self.sides(column)?;
+        UniformPlacement::new(&self.at(column))?.placement(width)
+    }
+}
+
+/// Placements from the styles that were set.
+impl<'a> RowPlacements for SetStyles<'a> {
+    ghost use Rattle.std.specs.Prelude.{◌≡◌, ◌<◌, ℕ};
+    ghost use Rattle.tabled_config.specs.RowStyles.{set_style};
+
+    ghost describes = { λ styles row. (column : ℕ) → column < row.columns.count
+        → set_style styles column ≡ row.style column };
+
+    #[inline(always)]
+    fn at(&self, column: usize, width: usize) -> Option<Placement> {
+        let (padding, horizontal) = self.sides(column);
         UniformPlacement::of(padding, horizontal)?.placement(width)
+    }
+}
+
+impl<'a> RowPlacements for AlignedCells<'a> {
+    ghost use Rattle.std.specs.Prelude.{◌<◌, ℕ};
+    ghost use Rattle.tabled_line.specs.Placements.{IsUniform, aligned_in};
+
+    ghost describes = { λ cells row. (column : ℕ) → column < row.columns.count
+        → IsUniform (row.style column) (aligned_in cells column) };
+
+    #[inline(always)]
+    fn at(&self, column: usize, width: usize) -> Option<Placement> {
+        let mut uniform = self.uniform;
+        uniform.horizontal = *self.horizontal.at(column);
+        uniform.placement(width)
     }
 }
 

@@ -14,7 +14,7 @@ use crate::row::Row;
 use crate::text_sink::TextSink;
 use std::alloc::Global;
 use tabled_base::TableError;
-use tabled_config::{HorizontalLine, VerticalLine};
+use tabled_config::{HorizontalLine, RowStyles, VerticalLine};
 
 /// The most columns of a template, not counting vertical lines. A longer one isn't worth the
 /// memory, and a table can be wider than memory is large.
@@ -268,17 +268,23 @@ impl RowTemplate {
         Some(end)
     }
 
-    /// Fills the buffer with a line of a row, with the style of each text looked up. Not inlined, so
-    /// that the calls for other placements are.
+    /// Fills the buffer as `fill_placed` does. Not inlined, so that the calls for placements that
+    /// most rows have are.
     #[inline(never)]
-    fn fill_styled<'a, R: Row<'a>>(&mut self, row: &R, at: &RowLine<'_, 'a>) -> Option<usize>
+    fn fill_apart<'a, R: Row<'a>, A: RowPlacements + Drop>(
+        &mut self,
+        row: &R,
+        placements: A,
+        at: &RowLine<'_, 'a>,
+    ) -> Option<usize>
         requires known { IsTemplateOf (R.sheet row.now).columns self.old }
         requires at { IsRowLine (R.sheet row.now) at.now }
+        requires describes { A.describes placements (R.sheet row.now) }
         ensures blank { self.new.blank ≡ self.old.blank }
         ensures filled { IfSome result
             (IsFilled (R.sheet row.now) at.now.index self.new.buffer.items) }
     {
-        self.fill_placed(row, row.styles(), at)
+        self.fill_placed(row, placements, at)
     }
 
     /// Fills the buffer with a line of a row. Returns its length in bytes. `None`: the line must be
@@ -297,7 +303,11 @@ impl RowTemplate {
         match row.placements() {
             KnownPlacements::Cached(cells) => self.fill_placed(row, cells, at),
             KnownPlacements::Uniform(uniform) => self.fill_placed(row, uniform, at),
-            KnownPlacements::Styled => self.fill_styled(row, at),
+            KnownPlacements::Aligned(cells) => self.fill_apart(row, cells, at),
+            KnownPlacements::Styled => match row.styles() {
+                RowStyles::Set(styles) => self.fill_apart(row, styles, at),
+                styles => self.fill_apart(row, styles, at),
+            },
         }
     }
 

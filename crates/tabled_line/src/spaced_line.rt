@@ -16,6 +16,7 @@ use crate::placement::{KnownPlacements, RowPlacements, place_text};
 use crate::row::{Row, write_cell};
 use crate::text_sink::TextSink;
 use tabled_base::TableError;
+use tabled_config::RowStyles;
 
 /// The state of a line between two of its cells.
 #[derive(Clone, Copy)]
@@ -129,6 +130,10 @@ pub(crate) fn write_spaced_row<'a, R: Row<'a>, S: TextSink>(
         KnownPlacements::Uniform(uniform) => {
             write_spaced_cells(sink, row, uniform, line, separator)
         }
-        KnownPlacements::Styled => write_spaced_cells(sink, row, row.styles(), line, separator),
+        KnownPlacements::Aligned(cells) => write_spaced_cells(sink, row, cells, line, separator),
+        KnownPlacements::Styled => match row.styles() {
+            RowStyles::Set(styles) => write_spaced_cells(sink, row, styles, line, separator),
+            styles => write_spaced_cells(sink, row, styles, line, separator),
+        },
     }
 }

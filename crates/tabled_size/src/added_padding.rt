@@ -2,14 +2,14 @@
 ghost use Rattle.std.specs.Prelude.{◌≡◌, ℕ, IfNone, IfSome, true};
 ghost use Rattle.std.specs.List.{slice_index_or};
 ghost use Rattle.tabled_config.specs.Settings.{style_at};
-ghost use Rattle.tabled_entity.specs.RowValues.{value_at};
-ghost use Rattle.tabled_size.specs.Added.{IsListed, KnowsAdded, PassesRange, added_at, added_by};
+ghost use Rattle.tabled_entity.specs.RowValues.{run_at, value_at};
+ghost use Rattle.tabled_size.specs.Added.{IsListed, KnowsAdded, PassesRange, added_by};
 ghost use Rattle.tabled_size.specs.Added.{nothing};
 
 use std::alloc::Global;
 use tabled_base::Position;
 use tabled_config::{Indent, Sides, SpannedConfig};
-use tabled_entity::RowValues;
+use tabled_entity::{RowValues, RunValues};
 
 /// A number of columns and lines: what padding adds to a cell, or what a cell needs.
 #[derive(Clone, Copy)]
@@ -61,14 +61,6 @@ fn added_by(padding: Sides<Indent>) -> Option<Extent>
     })
 }
 
-#[inline(always)]
-pub(crate) fn row_added(config: &SpannedConfig, row: usize) -> Option<Extent>
-    ensures { IfSome result (λ extent. (column : ℕ) → extent ≡ added_at config.now row column) }
-{
-    let padding = config.row_padding(row)?;
-    added_by(*padding)
-}
-
 /// Lists what padding adds in the first `columns` columns of a row. `None` if a sum exceeds
 /// `usize::MAX` or an allocation failed.
 fn list_row(alloc: Global, config: &SpannedConfig, row: usize, columns: usize) -> Option<ListedRow>
@@ -96,6 +88,16 @@ impl RowPadding for Extent {
     }
 }
 
+/// One padding in all columns.
+impl RowPadding for Sides<Indent> {
+    ghost known = { λ padding column. added_by padding };
+
+    #[inline(always)]
+    fn at(&self, _column: usize) -> Option<Extent> {
+        added_by(*self)
+    }
+}
+
 /// One entry for each column, and 0 after the last one.
 impl<'a> RowPadding for &'a [Extent] {
     ghost known = { λ extents column. slice_index_or extents.now column nothing };
@@ -117,6 +119,16 @@ impl<'a> RowPadding for RowValues<'a, Sides<Indent>> {
     #[inline(always)]
     fn at(&self, column: usize) -> Option<Extent> {
         added_by(*RowValues::at(self, column))
+    }
+}
+
+/// Paddings of successive cells.
+impl<'a> RowPadding for RunValues<'a, Sides<Indent>> {
+    ghost known = { λ paddings column. added_by (run_at paddings column) };
+
+    #[inline(always)]
+    fn at(&self, column: usize) -> Option<Extent> {
+        added_by(*RunValues::at(self, column))
     }
 }
 
@@ -146,7 +158,8 @@ impl KnownAdded {
         }
         // If padding was set only for rows and cells, each row looks up its own. Hardly anything is
         // set for the row after the last one, so most rows have its padding.
-        if rows < 2 || config.row_padding(rows).is_some() || !config.are_padded_alike(rows, rows) {
+        let are_shared = config.paddings_in(rows).shared().is_some();
+        if rows < 2 || are_shared || !config.are_padded_alike(rows, rows) {
             return KnownAdded::Unlike(None);
         }
         KnownAdded::Unlike(list_row(alloc, config, rows, columns))

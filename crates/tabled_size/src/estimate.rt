@@ -11,12 +11,13 @@ ghost use Rattle.tabled_size.specs.Estimates.{row_height};
 ghost use Rattle.tabled_size.specs.FilledIn.{HasNoEstimate, IsFilledIn};
 ghost use Rattle.tabled_size.specs.Stored.{is_stored};
 
-use crate::added_padding::{KnownAdded, RowPadding, row_added};
+use crate::added_padding::{KnownAdded, RowPadding};
 use crate::complete_dimension::CompleteDimension;
 use crate::dimension::Estimate;
 use std::alloc::Global;
 use tabled_base::{PeekableRecords, Position, TableError};
 use tabled_config::{ColoredConfig, SpannedConfig};
+use tabled_entity::RowValues;
 
 pub(crate) fn column_width<R: PeekableRecords>(
     records: &R,
@@ -152,9 +153,10 @@ fn measure_known<R: PeekableRecords>(
         KnownAdded::Unlike(Some(listed)) if listed.is_padded_in(config, row) => {
             measure_row(records, config, row, widths, listed.extents.as_slice())
         }
-        _ => match row_added(config, row) {
-            Some(extent) => measure_row(records, config, row, widths, extent),
-            None => measure_row(records, config, row, widths, config.paddings_in(row)),
+        _ => match config.paddings_in(row) {
+            RowValues::Uniform(padding) => measure_row(records, config, row, widths, *padding),
+            RowValues::Run(paddings) => measure_row(records, config, row, widths, paddings),
+            paddings => measure_row(records, config, row, widths, paddings),
         },
     }
 }

@@ -1,6 +1,6 @@
 //! The styles of the cells of a row, and whether cells or rows share their settings.
 ghost use Rattle.std.specs.Prelude.{IfSome, true, ℕ, ◌≡◌};
-ghost use Rattle.tabled_config.specs.RowStyles.{DescribesStyles, style_in};
+ghost use Rattle.tabled_config.specs.RowStyles.{DescribesStyles, set_style, style_in};
 ghost use Rattle.tabled_config.specs.Settings.{shared_style, style_at};
 ghost use Rattle.tabled_entity.specs.Changes.{shared};
 ghost use Rattle.tabled_entity.specs.RowValues.{value_at};
@@ -31,6 +31,17 @@ pub enum RowStyles<'a> {
     Set(SetStyles<'a>),
 }
 
+impl<'a> SetStyles<'a> {
+    /// Returns the padding and horizontal alignment of a column.
+    #[inline(always)]
+    pub fn sides(&self, column: usize) -> (&'a Sides<Indent>, AlignmentHorizontal)
+        ensures padding { result.0.now ≡ (set_style self.now column).padding }
+        ensures horizontal { result.1 ≡ (set_style self.now column).horizontal }
+    {
+        (self.padding.at(column), *self.horizontal.at(column))
+    }
+}
+
 impl<'a> RowStyles<'a> {
     /// Returns the style of a column. Columns after a list have no padding and are at the left and
     /// the top.
@@ -53,26 +64,6 @@ impl<'a> RowStyles<'a> {
                 vertical: styles.config.alignment_vertical.get(styles.row, column),
                 line_alignment: styles.config.line_alignment.get(styles.row, column),
             },
-        }
-    }
-
-    /// Returns the padding and horizontal alignment of a column. `None` after the end of a list.
-    #[inline(always)]
-    pub fn sides(&self, column: usize) -> Option<(&Sides<Indent>, AlignmentHorizontal)>
-        ensures padding { IfSome result (λ sides. sides.0.now
-            ≡ (style_in self.now column).padding) }
-        ensures horizontal { IfSome result (λ sides. sides.1
-            ≡ (style_in self.now column).horizontal) }
-    {
-        match self {
-            RowStyles::Alike(style) => Some((&style.padding, style.horizontal)),
-            RowStyles::Listed(styles) => {
-                let style = styles.get(column)?;
-                Some((&style.padding, style.horizontal))
-            }
-            RowStyles::Set(styles) => {
-                Some((styles.padding.at(column), *styles.horizontal.at(column)))
-            }
         }
     }
 }
@@ -104,36 +95,21 @@ impl SpannedConfig {
         })
     }
 
-    /// Returns the padding shared by all cells of a row. `None` only if padding was set for a
-    /// column or for a cell of the row.
-    #[inline(always)]
-    pub fn row_padding(&self, row: usize) -> Option<&Sides<Indent>>
-        ensures { IfSome result (λ padding. (column : ℕ)
-            → (style_at self.now row column).padding ≡ padding.now) }
-    {
-        self.padding.in_row(row).shared()
-    }
-
-    /// Returns the padding and horizontal alignment shared by all cells of a row. `None` only if
-    /// one of them was set for a column or for a cell of the row.
-    #[inline(always)]
-    pub fn row_sides(&self, row: usize) -> Option<(&Sides<Indent>, AlignmentHorizontal)>
-        ensures padding { IfSome result (λ sides. (column : ℕ)
-            → sides.0.now ≡ (style_at self.now row column).padding) }
-        ensures horizontal { IfSome result (λ sides. (column : ℕ)
-            → sides.1 ≡ (style_at self.now row column).horizontal) }
-    {
-        let padding = self.padding.in_row(row).shared()?;
-        let horizontal = self.alignment_horizontal.in_row(row).shared()?;
-        Some((padding, *horizontal))
-    }
-
     /// Returns the paddings of a row's cells.
     #[inline(always)]
     pub fn paddings_in(&self, row: usize) -> RowValues<'_, Sides<Indent>>
         ensures { (column : ℕ) → value_at result column ≡ (style_at self.now row column).padding }
     {
         self.padding.in_row(row)
+    }
+
+    /// Returns the horizontal alignments of a row's cells.
+    #[inline(always)]
+    pub fn horizontals_in(&self, row: usize) -> RowValues<'_, AlignmentHorizontal>
+        ensures { (column : ℕ)
+            → value_at result column ≡ (style_at self.now row column).horizontal }
+    {
+        self.alignment_horizontal.in_row(row)
     }
 }
 

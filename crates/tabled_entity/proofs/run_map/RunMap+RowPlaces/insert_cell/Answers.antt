@@ -1,6 +1,6 @@
 use Rattle.tabled_entity.proofs.Names.{arith}
 use Rattle.tabled_entity.proofs.Runs.{run-row-held, run-row-same}
-use Rattle.tabled_entity.proofs.run_map.RunMap+RunMap+usize.insert_cell.Goals as goal
+use Rattle.tabled_entity.proofs.run_map.RunMap+RowPlaces.insert_cell.Goals as goal
 
 pub returns-in-Some-clause-ok : goal.returns-in-Some-clause-ok
 returns-in-Some-clause-ok c =
