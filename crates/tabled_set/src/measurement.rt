@@ -1,13 +1,12 @@
 //! The trait `Measurement`, the numbers that options read from a table, and the measurements `Max`,
 //! `Min` and `Percent`.
-ghost use Rattle.std.specs.Prelude.{◌≡◌, ℕ, ◌+◌, ◌<◌, ◌≤◌, ◌^◌, IfErr, IfOk, List, MatchOption};
-ghost use Rattle.std.specs.Prelude.{OnOk, [], false, length, map};
+ghost use Rattle.std.specs.Prelude.{◌≡◌, ℕ, ◌+◌, ◌<◌, IfErr, IfOk, List, OnOk, []};
+ghost use Rattle.std.specs.Prelude.{false, length, map};
 ghost use Rattle.std.specs.Iterator.{IsFiniteIterable};
 ghost use Rattle.std.specs.List.{range_with_len};
-ghost use Rattle.tabled_set.specs.Common.{cell_at, estimated, IsInside, Memory, Range};
-ghost use Rattle.tabled_set.specs.Common.{SpannedConfig};
+ghost use Rattle.tabled_set.specs.Common.{estimated, Memory, Range, SpannedConfig};
 ghost use Rattle.tabled_base.specs.Given.{Given};
-ghost use Rattle.tabled_set.specs.Extremes.{extent_of, min_of, picked, picked_in_row};
+ghost use Rattle.tabled_set.specs.Extremes.{min_of, picked, picked_in_row};
 ghost use Rattle.tabled_set.specs.Extremes.{picked_of_rows, HasNoPercent, percent_of, total_of};
 ghost use Rattle.tabled_set.specs.Extremes.{Greatest, TextMeasure, Columns, Lines};
 ghost use Rattle.tabled_set.specs.Truncated.{Cut};
@@ -37,28 +36,6 @@ pub struct Height;
 pub enum TextMeasure {
     Columns,
     Lines,
-}
-
-impl TextMeasure {
-    fn of_cell<R: PeekableRecords>(self, records: &R, at: Position) -> usize
-        requires { IsInside (R.cells records.now) at.row at.column }
-        ensures { result ≡ extent_of self (cell_at (R.cells records.now) at.row at.column) }
-    {
-        match self {
-            TextMeasure::Columns => records.get_width(at),
-            TextMeasure::Lines => records.count_lines(at),
-        }
-    }
-
-    fn total<R: PeekableRecords>(self, records: &R, cfg: &SpannedConfig) -> Option<usize>
-        ensures { let whole = total_of self (estimated (R.cells records.now) cfg.now) in
-            MatchOption result (2 ^ 64 ≤ whole) (λ n. n ≡ whole) }
-    {
-        match self {
-            TextMeasure::Columns => estimated_total_width(records, cfg),
-            TextMeasure::Lines => estimated_total_height(records, cfg),
-        }
-    }
 }
 
 /// `Width` or `Height`.
@@ -145,7 +122,11 @@ fn picked_in_row<R: PeekableRecords>(
 {
     let mut best: usize = 0;
     'columns: for column in 0..records.count_columns() {
-        let size = extent.of_cell(records, Position { row, column });
+        let at = Position { row, column };
+        let size = match extent {
+            TextMeasure::Columns => records.get_width(at),
+            TextMeasure::Lines => records.count_lines(at),
+        };
         best = within.with(column, best, size);
     }
     best
@@ -225,7 +206,11 @@ impl<A: Direction> Measurement<A> for Percent {
         records: &R,
         cfg: &SpannedConfig,
     ) -> Result<usize, TableError> {
-        let total = A::COUNTED.total(records, cfg).ok_or(TableError::Range)?;
+        let total = match A::COUNTED {
+            TextMeasure::Columns => estimated_total_width(records, cfg),
+            TextMeasure::Lines => estimated_total_height(records, cfg),
+        };
+        let total = total.ok_or(TableError::Range)?;
         let product = total.checked_mul(self.0).ok_or(TableError::Range)?;
         Ok(product / 100)
     }
