@@ -139,27 +139,6 @@ impl<'a> ColumnStyles<'a> {
     }
 }
 
-/// Computes the placements of a row. `None` if a text has no placement.
-fn list_placements<D: Dimension>(
-    placements: &mut [Placement],
-    config: &SpannedConfig,
-    dimension: &D,
-    row: usize,
-) -> Option<()>
-    requires { length placements.old
-        ≤ length (reached (D.width_at dimension.now) (length placements.old)) }
-    ensures { IfSome result (λ _. ArePlacements (style_at config.now row)
-        (columns_by config.now (D.width_at dimension.now) (length placements.old))
-        placements.new) }
-{
-    'columns: for column in 0..placements.len() {
-        let uniform = UniformPlacement::new(&config.style_at(row, column))?;
-        let placement = uniform.placement(dimension.get_width(column))?;
-        placements[column] = placement;
-    }
-    Some(())
-}
-
 /// Computes the placements of a row in a buffer with one for each column. `None` if a width is
 /// missing or a text has no placement.
 fn placements_in<'a, D: Dimension>(
@@ -172,6 +151,10 @@ fn placements_in<'a, D: Dimension>(
         (columns_by config.now (D.width_at dimension.now) (length buffer.old)) placements.now) }
 {
     check_widths(dimension, buffer.len()).ok()?;
-    list_placements(buffer, config, dimension, row)?;
+    'columns: for column in 0..buffer.len() {
+        let uniform = UniformPlacement::new(&config.style_at(row, column))?;
+        let placement = uniform.placement(dimension.get_width(column))?;
+        buffer[column] = placement;
+    }
     Some(buffer)
 }
