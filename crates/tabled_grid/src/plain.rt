@@ -13,25 +13,19 @@ ghost use Rattle.tabled_grid.specs.ApartSheet.{IsApartConfig};
 ghost use Rattle.tabled_grid.specs.PlainSheet.{IsPlainConfig};
 
 use tabled_base::{PeekableRecords, Position};
-use tabled_config::{Frame, HorizontalLine, SpannedConfig};
+use tabled_config::{Frame, SpannedConfig};
 use tabled_text::{is_additive_column, is_plain, is_separator_column};
-
-fn is_plain_rule(line: HorizontalLine) -> bool
-    ensures { IsTrue result ↔ IsPlainRule line }
-{
-    is_additive_column(line.main.unwrap_or(' '))
-        && is_additive_column(line.left.unwrap_or(' '))
-        && is_additive_column(line.intersection.unwrap_or(' '))
-        && is_additive_column(line.right.unwrap_or(' '))
-}
 
 fn is_plain_rule_at(config: &SpannedConfig, rows: usize, index: usize) -> bool
     ensures { IsTrue result ↔ ((line : HorizontalLine) → rule_at config.now rows index ≡ Some line
         → IsPlainRule line) }
 {
-    config
-        .rule_at(rows, index)
-        .is_none_or(|line| is_plain_rule(line))
+    config.rule_at(rows, index).is_none_or(|line| {
+        is_additive_column(line.main.unwrap_or(' '))
+            && is_additive_column(line.left.unwrap_or(' '))
+            && is_additive_column(line.intersection.unwrap_or(' '))
+            && is_additive_column(line.right.unwrap_or(' '))
+    })
 }
 
 fn are_plain_rules(config: &SpannedConfig, rows: usize) -> bool
@@ -129,23 +123,17 @@ fn is_apart_style_at(config: &SpannedConfig, row: usize, column: usize) -> bool
         && is_separator_column(padding.bottom.fill)
 }
 
-fn is_positive(size: usize) -> bool
-    ensures { IsTrue result ↔ 0 < size }
-{
-    size > 0
-}
-
 fn has_left_padding(config: &SpannedConfig, row: usize, columns: usize) -> bool
     ensures { IsTrue result ↔ ArePaddedLeft columns (style_at config.now row) }
 {
-    (0..columns).all(|column| is_positive(config.style_at(row, column).padding.left.size))
+    (0..columns).all(|column| config.style_at(row, column).padding.left.size > 0)
 }
 
 fn has_right_padding(config: &SpannedConfig, row: usize, columns: usize) -> bool
     ensures { IsTrue result ↔ ((column : ℕ) → column < columns
         → 0 < (style_at config.now row column).padding.right.size) }
 {
-    (0..columns).all(|column| is_positive(config.style_at(row, column).padding.right.size))
+    (0..columns).all(|column| config.style_at(row, column).padding.right.size > 0)
 }
 
 /// Whether no cell of a row can join with the vertical line before it: the line is a separator, or
