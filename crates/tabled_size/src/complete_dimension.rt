@@ -1,6 +1,6 @@
 //! Sizes that are stored or not (`CompleteDimension`), and which boxes of a pool table are made
 //! wider or taller (`PoolTableDimension`).
-ghost use Rattle.std.specs.Prelude.{IfErr, IfOk, IsSome, None, OnErr, Some, is_none, is_some};
+ghost use Rattle.std.specs.Prelude.{IfErr, IfOk, IsSome, None, OnErr, Some, is_none};
 ghost use Rattle.std.specs.Prelude.{option_map, ◌&&◌, ◌≡◌, ◌⊎◌};
 ghost use Rattle.tabled_base.specs.declared.error.TableError.TheVariants.{Memory};
 ghost use Rattle.tabled_size.specs.Entries.{clears_heights, clears_widths, stored_at};
@@ -8,7 +8,7 @@ ghost use Rattle.tabled_size.specs.Entries.{unless_cleared};
 ghost use Rattle.tabled_size.specs.Stored.{heights_of, is_stored, widths_of};
 
 use crate::dimension::Dimension;
-use std::alloc::{AllocError, Global};
+use std::alloc::Global;
 use tabled_base::{Entity, TableError, TableOption};
 
 /// The widths and the heights of a table, each stored or not. What isn't stored is estimated when
@@ -134,29 +134,9 @@ impl CompleteDimension {
     {
         Ok(CompleteDimension {
             alloc: self.alloc,
-            width: clone_sizes(&self.width)?,
-            height: clone_sizes(&self.height)?,
+            width: self.width.as_ref().cloned()?,
+            height: self.height.as_ref().cloned()?,
         })
-    }
-}
-
-fn clone_sizes(sizes: &Option<Vec<usize>>) -> Result<Option<Vec<usize>>, AllocError>
-    ensures ok { IfOk result (λ copy. option_map (λ v. v.items) copy
-        ≡ option_map (λ v. v.items) sizes.now) }
-    ensures stored { OnErr result (IsSome (option_map (λ v. v.items) sizes.now)) }
-{
-    match sizes {
-        None => Ok(None),
-        Some(sizes) => Ok(Some(sizes.clone()?)),
-    }
-}
-
-fn has_entry(sizes: &Option<Vec<usize>>, place: usize) -> bool
-    ensures { result ≡ is_some (stored_at (option_map (λ v. v.items) sizes.now) place) }
-{
-    match sizes {
-        None => false,
-        Some(sizes) => place < sizes.len(),
     }
 }
 
@@ -166,11 +146,11 @@ impl Dimension for CompleteDimension {
     ghost height_at = { λ s row. stored_at (heights_of s) row };
 
     fn has_width(&self, column: usize) -> bool {
-        has_entry(&self.width, column)
+        matches!(&self.width, Some(widths) if column < widths.len())
     }
 
     fn has_height(&self, row: usize) -> bool {
-        has_entry(&self.height, row)
+        matches!(&self.height, Some(heights) if row < heights.len())
     }
 
     // A lookup through an `Option` costs a printed cell 17 instructions more.
