@@ -2,7 +2,7 @@
 use Rattle.tabled_size.proofs.Names.{List, None, Option, Some, [], ap, arith, cases_lt, effective_sizes, false, get_or}
 use Rattle.tabled_size.proofs.Names.{get_or-map-range_with_len, is_some, length, length-map-range_with_len, map, range_with_len, reached, refl}
 use Rattle.tabled_size.proofs.Names.{slice_index, stored_at, suc, sym, take, true, zero, ℕ, ⊎_elim, ◌<◌, ◌∙◌, ◌∷◌, ◌≡◌, ◌≤◌}
-use Rattle.std.proofs.Common.{nat_lt, unwrap_or, min}
+use Rattle.std.proofs.Common.{IfSome, nat_lt, unwrap_or, min, ◌+◌}
 use Rattle.std.proofs.lemmas.Bool.Decides.{nat_tests}
 use Rattle.std.proofs.Math.Seq.{take-length}
 use Rattle.std.proofs.lemmas.List.{ext_get_or, get_or-take, length-take}
@@ -54,6 +54,18 @@ unfolding reached
 reached_so f count k h there =
     leading_reaches (map f (range_with_len 0 count)) k (omega (arith, length-map-range_with_len f 0 count))
     (λ i lt. ap is_some (answer f count i (omega arith)) ∙ there i lt)
+
+-- so are all where those are that a dimension doesn't say to be like an earlier one
+pub reached_alike : (f : ℕ → Option ℕ) (count : ℕ) (o : Option ℕ) (n : ℕ) → IfSome o (λ from. (column : ℕ) → from ≤ column → f column ≡ f from)
+    → min count (unwrap_or o count + 1) ≤ n → ((i : ℕ) → i < n → is_some (f i) ≡ true) → count ≤ length (reached f count)
+reached_alike f count None n alike least there =
+    let all : min count (count + 1) ≤ n = least in reached_so f count count (omega arith) (λ i lt. there i (omega arith))
+reached_alike f count (Some from) n alike least there =
+    let some : min count (from + 1) ≤ n = least in
+    reached_so f count count (omega arith) (λ i lt. ⊎_elim
+    (λ (l : i < n). there i l)
+    (λ (l : n ≤ i). ap is_some (alike i (omega arith)) ∙ there from (omega arith))
+    (cases_lt i n))
 
 -- and none from one on whose size isn't
 pub reached_none : (f : ℕ → Option ℕ) (count i : ℕ) → i < count → f i ≡ None → length (reached f count) ≤ i

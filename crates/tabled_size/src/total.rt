@@ -1,7 +1,7 @@
 //! The total width and height of a table: of given sizes, of its effective sizes (stored ones, else
 //! estimates), and of estimates alone.
 ghost use Rattle.std.specs.List.{slice_index};
-ghost use Rattle.std.specs.Prelude.{◌≡◌, ◌⊎◌, ◌<◌, ◌≤◌, ◌^◌, ℕ, IfErr, MatchOption, None, Ok, OnOk};
+ghost use Rattle.std.specs.Prelude.{◌≡◌, ◌⊎◌, ◌<◌, ◌≤◌, ◌^◌, IfErr, MatchOption, None, Ok, OnOk};
 ghost use Rattle.std.specs.Prelude.{false, length, true};
 ghost use Rattle.tabled_base.specs.Cells.{IsRectangular, columns};
 ghost use Rattle.tabled_base.specs.declared.error.TableError.TheVariants.{Memory, Range};
@@ -33,19 +33,6 @@ pub fn is_empty<R: ExactRecords>(records: &R) -> bool
     records.count_rows() == 0 || columns == 0
 }
 
-/// Returns how many of the first columns to check. Each other one has the width of one of these.
-fn count_asked<D: Dimension>(sizes: &D, columns: usize) -> usize
-    ensures within { result ≤ columns }
-    ensures rest { let width = D.width_at sizes.now in
-        (column : ℕ) → result ≤ column → column < columns
-        → (asked : ℕ) × (asked < result) × (width column ≡ width asked) }
-{
-    match sizes.alike_from() {
-        Some(from) if from < columns => from + 1,
-        _ => columns,
-    }
-}
-
 /// Checks that the widths of the first `columns` columns are known. Fails with `ShortWidths` if one
 /// isn't.
 pub fn check_widths<D: Dimension>(sizes: &D, columns: usize) -> Result<(), TableError>
@@ -53,7 +40,9 @@ pub fn check_widths<D: Dimension>(sizes: &D, columns: usize) -> Result<(), Table
     ensures err { IfErr result (λ e. (e ≡ ShortWidths)
         × (length (reached (D.width_at sizes.now) columns) < columns)) }
 {
-    'columns: for column in 0..count_asked(sizes, columns) {
+    // All columns from `alike` on share one width.
+    let alike = sizes.alike_from().unwrap_or(columns);
+    'columns: for column in 0..columns.min(alike.saturating_add(1)) {
         if !sizes.has_width(column) {
             return Err(TableError::ShortWidths);
         }
