@@ -1,10 +1,13 @@
 -- Totals of estimated sizes.
 use Rattle.tabled_size.proofs.Names.{List, MatchOption, None, Option, SpannedConfig, ap, arith, columns, estimated_heights}
 use Rattle.tabled_size.proofs.Names.{estimated_widths, false, filled_height, filled_width, framed_height, framed_width, is_empty, length}
-use Rattle.tabled_size.proofs.Names.{part_height, slice_index, subst, suc, sum_below, sum_step, sym, ℕ, ◌+◌, ◌<◌, ◌^◌, ◌≡◌, ◌≤◌}
-use Rattle.std.proofs.Common.{cond}
+use Rattle.tabled_size.proofs.Names.{one_if, part_height, slice_index, subst, suc, sum_below, sum_step, sym, ℕ, ⊎_elim, ◌+◌, ◌<◌, ◌^◌, ◌≡◌, ◌≤◌, ◌⊎◌}
+use Rattle.std.proofs.Common.{Bool, cond, refl, true}
+use Rattle.std.specs.Int.{from_bool}
+use Rattle.tabled_size.specs.Estimates.{IsTooHigh, IsTooWide}
 use Rattle.tabled_size.specs.Sheet.{estimated}
-use Rattle.tabled_size.specs.Totals.{total_height, total_width}
+use Rattle.tabled_size.proofs.Passing.{too_high_passes, too_wide_passes}
+use Rattle.tabled_size.specs.Totals.{IsTotal, total_height, total_width}
 
 pub none-of : (P : Type 0) (Q : ℕ → Type 0) (o : Option ℕ) → o ≡ None → P → MatchOption o P Q
 none-of P Q o e p = subst (λ (q : Option ℕ). MatchOption q P Q) (sym e) p
@@ -31,6 +34,11 @@ module _ (cells : List (List (List ℕ))) (config : SpannedConfig) (some : is_em
   unfolding filled_width
   sum-in-width = omega arith
 
+  pub none-width : (o : Option ℕ) → o ≡ None → IsTooWide cells config ⊎ (2 ^ 64 ≤ sum_below (slice_index (estimated_widths cells config)) (columns cells)) → IsTotal (total_width (estimated cells config)) o
+  none-width o e h = none-of _ _ o e (let whole = filled-width-total in ⊎_elim
+      (λ passes. let past = too_wide_passes cells config passes in omega (arith, whole, past))
+      (λ past. let inside = sum-in-width in omega (arith, whole, inside, past)) h)
+
   pub filled-height-total : filled_height config (length cells) (estimated_heights cells config) ≡ total_height (estimated cells config)
   filled-height-total = ap (λ b. cond b 0 (filled_height config (length cells) (estimated_heights cells config))) (sym some)
 
@@ -41,3 +49,13 @@ module _ (cells : List (List (List ℕ))) (config : SpannedConfig) (some : is_em
   pub sum-in-height : sum_below (part_height config (length cells) (estimated_heights cells config)) (length cells) ≤ filled_height config (length cells) (estimated_heights cells config)
   unfolding filled_height
   sum-in-height = omega arith
+
+  pub none-height : (o : Option ℕ) → o ≡ None → IsTooHigh cells config ⊎ (2 ^ 64 ≤ sum_below (part_height config (length cells) (estimated_heights cells config)) (length cells)) → IsTotal (total_height (estimated cells config)) o
+  none-height o e h = none-of _ _ o e (let whole = filled-height-total in ⊎_elim
+      (λ passes. let past = too_high_passes cells config passes in omega (arith, whole, past))
+      (λ past. let inside = sum-in-height in omega (arith, whole, inside, past)) h)
+
+-- whether there is a line, as a number
+pub as_number : (there : Bool) → from_bool there ≡ one_if there
+as_number true = refl
+as_number false = refl

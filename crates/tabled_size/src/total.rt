@@ -1,22 +1,17 @@
 //! The total width and height of a table: of given sizes, of its effective sizes (stored ones, else
 //! estimates), and of estimates alone.
-ghost use Rattle.std.specs.List.{slice_index};
-ghost use Rattle.std.specs.Prelude.{◌≡◌, ◌⊎◌, ◌<◌, ◌≤◌, ◌^◌, IfErr, MatchOption, None, Ok, OnOk};
-ghost use Rattle.std.specs.Prelude.{false, length, true};
+ghost use Rattle.std.specs.Prelude.{◌≡◌, ◌⊎◌, ◌<◌, ◌≤◌, IfErr, None, Ok, OnOk, false, length, true};
 ghost use Rattle.tabled_base.specs.Cells.{IsRectangular, columns};
 ghost use Rattle.tabled_base.specs.declared.error.TableError.TheVariants.{Memory, Range};
 ghost use Rattle.tabled_base.specs.declared.error.TableError.TheVariants.{ShortHeights};
 ghost use Rattle.tabled_base.specs.declared.error.TableError.TheVariants.{ShortWidths};
-ghost use Rattle.tabled_priority.specs.Sums.{one_if, sum_below};
 ghost use Rattle.tabled_size.specs.Effective.{effective};
 ghost use Rattle.tabled_size.specs.EffectiveTotals.{ReturnsHeight, ReturnsWidth};
-ghost use Rattle.tabled_size.specs.Estimates.{IsTooHigh, IsTooWide};
-ghost use Rattle.tabled_size.specs.Estimates.{estimated_heights, estimated_widths};
 ghost use Rattle.tabled_size.specs.Reached.{reached};
 ghost use Rattle.tabled_size.specs.Sheet.{is_empty, estimated};
 ghost use Rattle.tabled_size.specs.Stored.{heights_of, widths_of};
 ghost use Rattle.tabled_size.specs.Totals.{IsTotal, filled_height, filled_width, framed_height};
-ghost use Rattle.tabled_size.specs.Totals.{framed_width, part_height, total_height, total_width};
+ghost use Rattle.tabled_size.specs.Totals.{framed_width, total_height, total_width};
 
 use crate::complete_dimension::CompleteDimension;
 use crate::dimension::Dimension;
@@ -65,21 +60,15 @@ pub fn check_heights<D: Dimension>(sizes: &D, rows: usize) -> Result<(), TableEr
     Ok(())
 }
 
-fn one_if(there: bool) -> usize
-    ensures { result ≡ one_if there }
-{
-    if there { 1 } else { 0 }
-}
-
-#[tactic(auto, unfolding(crate::specs::Totals::framed_width))]
+#[tactic(auto, unfolding(crate::specs::Totals::framed_width), using(crate::proofs::EstimatedTotals::as_number))]
 fn framed_width(config: &SpannedConfig, columns: usize, inside: usize) -> Option<usize>
     ensures { IsTotal (framed_width config.now columns inside) result }
 {
     let frame = config.frame();
     let margin = frame.margin;
-    let left = margin.left.size.checked_add(one_if(frame.left.there))?;
-    let right = one_if(frame.right.there).checked_add(margin.right.size)?;
-    let bars = columns.saturating_sub(1) * one_if(frame.inner.there);
+    let left = margin.left.size.checked_add(usize::from(frame.left.there))?;
+    let right = usize::from(frame.right.there).checked_add(margin.right.size)?;
+    let bars = columns.saturating_sub(1) * usize::from(frame.inner.there);
     let inside = inside.checked_add(bars)?;
     left.checked_add(inside.checked_add(right)?)
 }
@@ -103,12 +92,12 @@ pub fn filled_width<D: Dimension>(
     framed_width(config, columns, total)
 }
 
-#[tactic(auto, unfolding(crate::specs::Totals::framed_height))]
+#[tactic(auto, unfolding(crate::specs::Totals::framed_height), using(crate::proofs::EstimatedTotals::as_number))]
 fn framed_height(config: &SpannedConfig, rows: usize, inside: usize) -> Option<usize>
     ensures { IsTotal (framed_height config.now rows inside) result }
 {
     let margin = config.frame().margin;
-    let last = one_if(config.rule_at(rows, rows).is_some());
+    let last = usize::from(config.rule_at(rows, rows).is_some());
     let below = last.checked_add(margin.bottom.size)?;
     margin.top.size.checked_add(inside.checked_add(below)?)
 }
@@ -123,7 +112,7 @@ pub fn filled_height<D: Dimension>(config: &SpannedConfig, rows: usize, sizes: &
 {
     let mut total: usize = 0;
     'rows: for row in 0..rows {
-        let line = one_if(config.rule_at(rows, row).is_some());
+        let line = usize::from(config.rule_at(rows, row).is_some());
         let part = line.checked_add(sizes.get_height(row))?;
         total = total.checked_add(part)?;
     }
@@ -224,20 +213,6 @@ pub fn total_height<R: PeekableRecords>(
     }
 }
 
-#[tactic(auto, using(tabled_priority::proofs::Sums::sum_step, crate::proofs::Passing::width_at))]
-fn sum_columns<R: PeekableRecords>(records: &R, config: &SpannedConfig) -> Option<usize>
-    ensures { let widths = estimated_widths (R.cells records.now) config.now in
-        let sum = sum_below (slice_index widths) (columns (R.cells records.now)) in
-        MatchOption result (IsTooWide (R.cells records.now) config.now ⊎ (2 ^ 64 ≤ sum))
-        (λ n. n ≡ sum) }
-{
-    let mut total: usize = 0;
-    'columns: for column in 0..records.count_columns() {
-        total = total.checked_add(column_width(records, config, column)?)?;
-    }
-    Some(total)
-}
-
 /// Returns the total width of a table with estimated widths, in columns. It is 0 without rows or
 /// columns. `None` if it exceeds `usize::MAX`.
 pub fn estimated_total_width<R: PeekableRecords>(
@@ -249,26 +224,12 @@ pub fn estimated_total_width<R: PeekableRecords>(
     if is_empty(records) {
         return Some(0);
     }
-    let inside = sum_columns(records, config)?;
-    framed_width(config, records.count_columns(), inside)
-}
-
-#[tactic(auto, using(tabled_priority::proofs::Sums::sum_step))]
-fn sum_parts<R: PeekableRecords>(records: &R, config: &SpannedConfig) -> Option<usize>
-    ensures { let part = part_height config.now (length (R.cells records.now))
-        (estimated_heights (R.cells records.now) config.now) in
-        let sum = sum_below part (length (R.cells records.now)) in
-        MatchOption result (IsTooHigh (R.cells records.now) config.now ⊎ (2 ^ 64 ≤ sum))
-        (λ n. n ≡ sum) }
-{
-    let rows = records.count_rows();
+    let columns = records.count_columns();
     let mut total: usize = 0;
-    'rows: for row in 0..rows {
-        let line = one_if(config.rule_at(rows, row).is_some());
-        let part = line.checked_add(row_height(records, config, row)?)?;
-        total = total.checked_add(part)?;
+    'columns: for column in 0..columns {
+        total = total.checked_add(column_width(records, config, column)?)?;
     }
-    Some(total)
+    framed_width(config, columns, total)
 }
 
 /// Returns the total height of a table with estimated heights, in lines. It is 0 without rows or
@@ -282,5 +243,12 @@ pub fn estimated_total_height<R: PeekableRecords>(
     if is_empty(records) {
         return Some(0);
     }
-    framed_height(config, records.count_rows(), sum_parts(records, config)?)
+    let rows = records.count_rows();
+    let mut total: usize = 0;
+    'rows: for row in 0..rows {
+        let line = usize::from(config.rule_at(rows, row).is_some());
+        let part = line.checked_add(row_height(records, config, row)?)?;
+        total = total.checked_add(part)?;
+    }
+    framed_height(config, rows, total)
 }

@@ -1,5 +1,5 @@
 use Rattle.tabled_size.proofs.Names.{estimated_heights, length, part_height, sum_below, ◌≡◌}
-use Rattle.tabled_size.proofs.total.sum_parts.Given as goal
+use Rattle.tabled_size.proofs.total.estimated_total_height.Given as goal
 
 abbrev pub invariant-rows : goal.invariant-rows
 invariant-rows g l =
