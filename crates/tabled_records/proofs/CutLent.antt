@@ -1,12 +1,13 @@
 -- Rows of printable ASCII whose cells are cut to their columns.
 use Rattle.tabled_records.proofs.Names.{IsCharBoundary, IsRectangular, List, None, Option, Some, [], ap, arith, cell_at}
-use Rattle.tabled_records.proofs.Names.{columns, get_or, is_in_range, length, lines_of, refl, suc, sym, take}
-use Rattle.tabled_records.proofs.Names.{text_columns, true, zero, ℕ, ◌<◌, ◌∙◌, ◌∷◌, ◌≡◌, ◌≤◌}
+use Rattle.tabled_records.proofs.Names.{columns, get_or, is_in_range, length, lines_of, refl, suc, take}
+use Rattle.tabled_records.proofs.Names.{text_columns, true, zero, ℕ, ◌<◌, ◌∙◌, ◌≡◌, ◌≤◌}
 use Rattle.std.proofs.lemmas.Bool.Decides.{nat_tests}
-use Rattle.std.proofs.lemmas.List.{get_or-map, take_all}
-use Rattle.std.proofs.lemmas.List.Elements.{All-map, All-weaker, All-take}
+use Rattle.std.proofs.lemmas.List.{take_all}
+use Rattle.std.proofs.lemmas.List.Elements.{All-take}
 use Rattle.std.proofs.lemmas.List.Sums.{AllPass-from_list_all, list_all-from_AllPass}
 use Rattle.tabled_text.proofs.PlainLines.{plain_line-lines, plain_line-printable, text_columns-plain_line}
+use Rattle.tabled_records.proofs.SizedRows.{cell-sized, columns-sized, length-sized, rectangular-sized}
 use Rattle.tabled_records.specs.CutLentRows.{cut_row, cut_rows, cut_text}
 use Rattle.tabled_records.specs.Joined.{IsPrintable}
 
@@ -35,37 +36,22 @@ cut-whole width n text e l = ap (λ w. cut_text w text) e ∙ take_all n text l
 
 -- ---- rows
 
+nil-cut : (n : ℕ) → take {A = ℕ} n [] ≡ []
+nil-cut zero = refl
+nil-cut (suc n) = refl
+
 pub length-cut : (widths : List (Option ℕ)) (row : List (List ℕ)) → length (cut_row widths row) ≡ length row
-length-cut [] row = refl
-length-cut (width ∷ widths) [] = refl
-length-cut (width ∷ widths) (text ∷ row) = omega (arith, length-cut widths row)
-
-cut-nil : (width : Option ℕ) → [] ≡ cut_text width []
-cut-nil None = refl
-cut-nil (Some zero) = refl
-cut-nil (Some (suc n)) = refl
-
-text-at : (widths : List (Option ℕ)) (row : List (List ℕ)) (i : ℕ) → get_or (cut_row widths row) i [] ≡ cut_text (get_or widths i None) (get_or row i [])
-text-at [] row i = refl
-text-at (width ∷ widths) [] zero = cut-nil width
-text-at (width ∷ widths) [] (suc i) = cut-nil (get_or widths i None)
-text-at (width ∷ widths) (text ∷ row) zero = refl
-text-at (width ∷ widths) (text ∷ row) (suc i) = text-at widths row i
+length-cut widths row = length-sized take widths row
 
 pub columns-cut : (widths : List (Option ℕ)) (rows : List (List (List ℕ))) → columns (cut_rows widths rows) ≡ columns rows
-columns-cut widths [] = refl
-columns-cut widths (row ∷ rows) = length-cut widths row
+columns-cut widths rows = columns-sized take widths rows
 
 pub rectangular-cut : (widths : List (Option ℕ)) (rows : List (List (List ℕ))) → IsRectangular rows → IsRectangular (cut_rows widths rows)
-rectangular-cut widths rows h =
-    All-map (λ row. length row ≡ columns (cut_rows widths rows)) (cut_row widths) rows
-    (All-weaker (λ row. length row ≡ columns rows) (λ row. length (cut_row widths row) ≡ columns (cut_rows widths rows))
-    (λ row e. length-cut widths row ∙ e ∙ sym (columns-cut widths rows)) rows h)
+rectangular-cut widths rows h = rectangular-sized take widths rows h
 
 pub cell-cut : (widths : List (Option ℕ)) (rows : List (List (List ℕ))) (row column : ℕ) → row < length rows
     → cell_at (cut_rows widths rows) row column ≡ cut_text (get_or widths column None) (cell_at rows row column)
-cell-cut widths rows row column l =
-    ap (λ cells. get_or cells column []) (get_or-map (cut_row widths) rows row [] [] l) ∙ text-at widths (get_or rows row []) column
+cell-cut widths rows row column l = cell-sized take nil-cut widths rows row column l
 
 -- a printable text is one line
 pub printable-lines : (text : List ℕ) → IsPrintable text → length (lines_of text) ≡ 1

@@ -3,5 +3,7 @@ pub mod CutLentRows
 pub mod Empty
 pub mod Joined
 pub mod Reading
+pub mod SizedRows
 pub mod TextRows
 pub mod Views
+pub mod WrappedLentRows

@@ -85,7 +85,7 @@ impl<'r, 'a> PeekableRecords for CutLentRows<'r, 'a> {
 
 /// Returns the width of a column, if it has one.
 #[inline(always)]
-fn width_at(widths: &[Option<usize>], column: usize) -> Option<usize>
+pub(crate) fn width_at(widths: &[Option<usize>], column: usize) -> Option<usize>
     ensures { result ≡ slice_index_or widths.now column None }
 {
     widths.get(column).copied().unwrap_or(None)

@@ -6,6 +6,7 @@
 //! - `joined_records.rt`: `LentRows`, rows whose cells borrow one text, which `text_rows` finds in
 //!   a text; `JoinedRecords`, rows of texts that are appended to one buffer.
 //! - `cut_lent_rows.rt`: `CutLentRows`, whose cells are cut to their columns when they are read.
+//! - `wrapped_lent_rows.rt`: `WrappedLentRows`, whose cells are wrapped to their columns then.
 //! - `records_writer.rt`: `RecordsWriter`, which writes `JoinedRecords` text by text.
 //! - `flat_rows.rt`: `FlatRows`, rows whose cells are in one list.
 //!
@@ -30,6 +31,7 @@ pub mod reading;
 mod records_writer;
 mod row_ranges;
 mod truncate;
+mod wrapped_lent_rows;
 
 pub use buffer::{BufCells, BufRecords, BufRows};
 pub use cut_lent_rows::CutLentRows;
@@ -39,3 +41,4 @@ pub use joined_records::{JoinedRecords, LentRows, text_rows};
 pub use limits::{FirstCells, LaterRows, LimitColumns, LimitRows, NarrowRows, SkipRows};
 pub use records_writer::RecordsWriter;
 pub use truncate::{CutCell, CutCells, CutRows, TruncateContent};
+pub use wrapped_lent_rows::WrappedLentRows;

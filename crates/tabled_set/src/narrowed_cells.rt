@@ -3,18 +3,20 @@
 ghost use Rattle.std.specs.Prelude.{◌≡◌, ◌⊎◌, IfErr, IfOk, MatchOption, is_some, true, unwrap_or};
 ghost use Rattle.tabled_entity.specs.Changes.{shared};
 ghost use Rattle.tabled_records.specs.CutLentRows.{ArePrintable};
-ghost use Rattle.tabled_set.specs.CellChanges.{if_taken};
+ghost use Rattle.tabled_set.specs.CellChanges.{if_taken, wrapping};
 ghost use Rattle.tabled_set.specs.Common.{IsRectangular, Memory, Range};
 ghost use Rattle.tabled_set.specs.Narrowed.{AreShrunk, FitsAlready, NarrowingOutOfRange, Narrows};
 ghost use Rattle.tabled_set.specs.Narrowed.{StopsEarly, column_width};
+ghost use Rattle.tabled_set.specs.NarrowedCells.{cells_of_or};
 
 use crate::measurement::{Measurement, Width};
 use crate::narrowing::wanted_widths;
 use crate::resize::{CellFilter, Change, Resize, TextTransform};
 use crate::rewriting::changed_records;
+use crate::wrap::Wrapping;
 use tabled_base::{PeekableRecords, TableError};
 use tabled_config::SpannedConfig;
-use tabled_records::{CutLentRows, JoinedRecords, LentRows};
+use tabled_records::{CutLentRows, JoinedRecords, LentRows, WrappedLentRows};
 use tabled_size::{CompleteDimension, Peaker};
 
 /// The rows of a narrowed table.
@@ -30,6 +32,8 @@ use tabled_size::{CompleteDimension, Peaker};
 pub enum NarrowedRows<'r, 't> {
     /// Rows of which each cell is cut when it is read.
     Cut(CutLentRows<'r, 't>),
+    /// Rows of which each cell is wrapped when it is read.
+    Wrapped(WrappedLentRows<'r, 't>),
     /// Rows that were made.
     Made(JoinedRecords),
 }
@@ -114,4 +118,36 @@ pub(crate) fn narrowed_records<
     sizes.set_widths(found.widths);
     sizes.clear_height();
     Ok(Some(changed))
+}
+
+/// Returns the rows of a table, wrapped when they are read, or `None` if it isn't too wide. All
+/// cells have the same padding. The sizes are stored as by `narrow_table`.
+pub(crate) fn wrapped_rows<'r, 't, W: Measurement<Width> + Drop, P: Peaker + Drop>(
+    option: Resize<Wrapping, W, P>,
+    rows: &'r LentRows<'t>,
+    config: &SpannedConfig,
+    sizes: &mut CompleteDimension,
+) -> Result<Option<NarrowedRows<'r, 't>>, TableError>
+    requires { is_some (shared config.now.padding) ≡ true }
+    ensures rectangular { IsRectangular rows.now }
+    ensures ok { IfOk result (λ changed. Narrows P.shrinks option.priority
+        (wrapping option.transform.keep_words)
+        (W.measures option.size rows.now config.now) rows.now
+        config.now sizes.old (cells_of_or changed rows.now) sizes.new) }
+    ensures err { IfErr result (λ e. StopsEarly (W.measures option.size rows.now config.now) e
+        rows.now config.now sizes.old sizes.new) }
+    ensures only { IfErr result (λ e. (e ≡ Memory) ⊎ ((e ≡ Range)
+        × NarrowingOutOfRange (W.out_of_range option.size rows.now config.now)
+        (W.measures option.size rows.now config.now) rows.now config.now sizes.old)) }
+{
+    let words = option.transform.keep_words;
+    let priority = option.priority;
+    let Some(found) = wanted_widths(&option.size, priority, rows, config, sizes)? else {
+        return Ok(None);
+    };
+    rows.are_texts();
+    let wrapped = WrappedLentRows::new(sizes.allocator(), rows, found.content, words)?;
+    sizes.set_widths(found.widths);
+    sizes.clear_height();
+    Ok(Some(NarrowedRows::Wrapped(wrapped)))
 }

@@ -1,18 +1,12 @@
-use Rattle.tabled_records.proofs.Names.{None, ap, arith, cell_at, columns, get_or, length, length-map, lines_of, subst, sym, text_columns}
-use Rattle.tabled_records.proofs.Names.{◌<◌, ◌∙◌}
-use Rattle.tabled_records.proofs.CutLent.{cell-cut, columns-cut, printable-lines, printable-text}
-use Rattle.tabled_records.specs.CutLentRows.{cut_row, cut_text}
+use Rattle.tabled_records.proofs.Names.{None, ap, cell_at, get_or, length, lines_of, subst, sym, take, text_columns, ◌∙◌}
+use Rattle.tabled_records.proofs.CutLent.{cell-cut, printable-lines, printable-text}
+use Rattle.tabled_records.proofs.SizedRows.{inside-sized}
+use Rattle.tabled_records.specs.CutLentRows.{cut_text}
 use Rattle.tabled_records.specs.Joined.{IsPrintable}
 use Rattle.tabled_records.proofs.cut_lent_rows.CutLentRowsPeekableRecords.get_measured.Goals as goal
 
--- the cell is one of the rows that are cut
 pub get_measured-columns-requires : goal.get_measured-columns-requires
-get_measured-columns-requires c =
-    let r = c.self.inside in
-    record {
-      row_in = omega (arith, c.requires.row_in, ap length c.self.view_is, length-map r.rows.now (cut_row r.widths.items));
-      column_in = omega (arith, c.requires.column_in, ap columns c.self.view_is, columns-cut r.widths.items r.rows.now);
-    }
+get_measured-columns-requires c = inside-sized take c.self.inside.widths.items c.self.inside.rows.now c.self.view_is c.requires
 
 pub cut-columns-requires-clause-printable : goal.cut-columns-requires-clause-printable
 cut-columns-requires-clause-printable c = subst IsPrintable (sym c.get_measured-columns.ensures.text) (c.self.invariant c.args.at.row c.args.at.column)
@@ -23,7 +17,7 @@ returns-clause-text c =
     let row = c.args.at.row in
     let column = c.args.at.column in
     let width = c.width_at.ensures ∙ ap (λ widths. get_or widths column None) c.deref.ensures.value in
-    let inside : row < length r.rows.now = omega (arith, c.requires.row_in, ap length c.self.view_is, length-map r.rows.now (cut_row r.widths.items)) in
+    let inside = (inside-sized take r.widths.items r.rows.now c.self.view_is c.requires).row_in in
     c.cut-columns.ensures.text ∙ ap (λ w. cut_text w c.get_measured-columns.result.0.now) width
     ∙ ap (cut_text (get_or r.widths.items column None)) c.get_measured-columns.ensures.text
     ∙ sym (cell-cut r.widths.items r.rows.now row column inside)

@@ -1,0 +1,10 @@
+use Rattle.tabled_records.proofs.Names.{IsUtf8, cell_at, subst}
+use Rattle.std.proofs.Common.{List, ℕ}
+use Rattle.tabled_records.proofs.Cutting.{rows-utf8}
+use Rattle.tabled_records.proofs.joined_records.LentRows.are_texts.Goals as goal
+
+pub returns : goal.returns
+returns c =
+    let r = c.self.inside in
+    subst (λ (cells : List (List (List ℕ))). (row column : ℕ) → IsUtf8 (cell_at cells row column)) c.self.view_is
+    (rows-utf8 1 r.text.now r.cells r.rows c.is_text.ensures c.self.invariant.kept.joined)
