@@ -109,9 +109,10 @@ pub mod builder {
 ///     .with(Width::wrap(14).priority(Priority::max(true)))?;
 /// ```
 pub mod settings {
-    pub use tabled_base::{CellOption, TableOption};
+    pub use tabled_base::{CellOption, Settings, TableOption};
     pub use tabled_config::Style;
-    pub use tabled_set::{Height, Margin, Padding, PaddingExpand, Width};
+    pub use tabled_set::{Alignment, Height, Margin, Padding, PaddingExpand, Width};
+    pub use tabled_table::{Modify, ModifyBy};
 
     /// Numbers of columns or lines that are measured in the table.
     ///

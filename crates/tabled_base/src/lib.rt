@@ -9,7 +9,7 @@
 //!   read once.
 //! - `position.rt`: `Position`, a row and a column, and `Entity`, the cells that a setting covers.
 //! - `objects.rt`, `segment.rt`: selections of rows, columns and cells.
-//! - `options.rt`: `TableOption` and `CellOption`.
+//! - `options.rt`: `TableOption` and `CellOption`; `settings.rt`: two options in turn.
 //! - `error.rt`: `TableError`.
 #![tactic(auto)]
 
@@ -21,6 +21,7 @@ mod options;
 mod position;
 mod records;
 mod segment;
+mod settings;
 mod text;
 mod vec_records;
 
@@ -32,5 +33,6 @@ pub use options::{CellOption, TableOption};
 pub use position::{Entity, Position};
 pub use records::{CellText, ExactRecords, IntoRecords, PeekableRecords, Records, RecordsMut};
 pub use segment::Segment;
+pub use settings::Settings;
 pub use text::{SHORT_TEXT, Text};
 pub use vec_records::VecRecords;

@@ -1,7 +1,8 @@
-//! Six ready-made border styles (`Style`).
+//! Ready-made border styles (`Style`).
 ghost use Rattle.std.specs.Prelude.{◌≡◌};
-ghost use Rattle.tabled_config.specs.Styles.{ascii, extended, framed, line, markdown, modern};
-ghost use Rattle.tabled_config.specs.Styles.{no_style, psql, style_line};
+ghost use Rattle.tabled_config.specs.Styles.{ascii, ascii_rounded, blank, boxed, extended, framed};
+ghost use Rattle.tabled_config.specs.Styles.{line, markdown, modern, modern_rounded, no_style, psql};
+ghost use Rattle.tabled_config.specs.Styles.{re_structured_text, rounded, sharp, style_line};
 
 use crate::borders::{Borders, HorizontalLine};
 
@@ -50,6 +51,22 @@ fn frame(top: HorizontalLine, inner: HorizontalLine, bottom: HorizontalLine, bar
     }
 }
 
+// A frame with a line below the first row and none between others.
+fn boxed(top: HorizontalLine, below: HorizontalLine, bottom: HorizontalLine, bar: char) -> Style
+    ensures { result ≡ boxed top below bottom bar }
+{
+    let none = HorizontalLine {
+        main: None,
+        left: None,
+        intersection: None,
+        right: None,
+    };
+    Style {
+        borders: frame(top, none, bottom, bar).borders,
+        below_first: Some(below),
+    }
+}
+
 impl Style {
     /// Lines of `-` and `|`, joined by `+`.
     pub fn ascii() -> Style
@@ -67,6 +84,51 @@ impl Style {
         let inner = line('├', '─', '┼', '┤');
         let bottom = line('└', '─', '┴', '┘');
         frame(top, inner, bottom, '│')
+    }
+
+    /// Thin lines of box characters: a frame, and one line below the first row.
+    pub fn sharp() -> Style
+        ensures { result ≡ sharp }
+    {
+        let top = line('┌', '─', '┬', '┐');
+        let below = line('├', '─', '┼', '┤');
+        let bottom = line('└', '─', '┴', '┘');
+        boxed(top, below, bottom, '│')
+    }
+
+    /// A frame with round corners, and one line below the first row.
+    pub fn rounded() -> Style
+        ensures { result ≡ rounded }
+    {
+        let top = line('╭', '─', '┬', '╮');
+        let below = line('├', '─', '┼', '┤');
+        let bottom = line('╰', '─', '┴', '╯');
+        boxed(top, below, bottom, '│')
+    }
+
+    /// A frame with round corners, and lines between all rows.
+    pub fn modern_rounded() -> Style
+        ensures { result ≡ modern_rounded }
+    {
+        let top = line('╭', '─', '┬', '╮');
+        let inner = line('├', '─', '┼', '┤');
+        let bottom = line('╰', '─', '┴', '╯');
+        frame(top, inner, bottom, '│')
+    }
+
+    /// A frame of `-` and `|` with `.` and `'` at its corners, and bars between columns.
+    pub fn ascii_rounded() -> Style
+        ensures { result ≡ ascii_rounded }
+    {
+        let none = HorizontalLine {
+            main: None,
+            left: None,
+            intersection: None,
+            right: None,
+        };
+        let top = line('.', '-', '-', '.');
+        let bottom = line('\'', '-', '-', '\'');
+        frame(top, none, bottom, '|')
     }
 
     /// Double lines of box characters.
@@ -109,6 +171,41 @@ impl Style {
                 intersection: Some('+'),
                 right: None,
             }),
+        }
+    }
+
+    /// Lines of `=` above and below the table and below the first row, with spaces between columns.
+    pub fn re_structured_text() -> Style
+        ensures { result ≡ re_structured_text }
+    {
+        Style {
+            borders: Borders {
+                top: Some('='),
+                top_intersection: Some(' '),
+                bottom: Some('='),
+                bottom_intersection: Some(' '),
+                vertical: Some(' '),
+                ..Borders::empty()
+            },
+            below_first: Some(HorizontalLine {
+                main: Some('='),
+                left: None,
+                intersection: Some(' '),
+                right: None,
+            }),
+        }
+    }
+
+    /// Spaces between columns.
+    pub fn blank() -> Style
+        ensures { result ≡ blank }
+    {
+        Style {
+            borders: Borders {
+                vertical: Some(' '),
+                ..Borders::empty()
+            },
+            below_first: None,
         }
     }
 

@@ -14,7 +14,7 @@
 //!   `TableHeightLimit`
 //! - `sizes`: `WidthList` and `HeightList`; a table's sizes with their total, and lists that a
 //!   priority has shrunk or grown
-//! - `spaces`: `Margin` and `Padding`
+//! - `spaces`: `Margin` and `Padding`; `alignment`: `Alignment`
 //! - `laws`: facts about truncated texts
 //!
 //! Changing cells and tables:
@@ -24,6 +24,7 @@
 //! - `narrowed_cells`: the cells of a narrowed table, for records that are only borrowed
 #![tactic(auto)]
 
+mod alignment;
 mod heights;
 pub mod laws;
 mod measurement;
@@ -38,6 +39,7 @@ mod truncate;
 mod walk;
 mod wrap;
 
+pub use alignment::Alignment;
 pub use heights::{CellHeightIncrease, CellHeightLimit, TableHeightIncrease, TableHeightLimit};
 pub use measurement::{Height, Max, Measurement, Min, Percent, Width};
 pub use min_width::{Justify, MinWidth};

@@ -3,7 +3,8 @@
 //! A `Table` stores all of its cells:
 //! - `table`: the table, its parts, its totals and its text, and the settings of a new one
 //! - `making`: makes tables of values and of rows, in batches of rows.
-//! - `applying`: options for the whole table and for some of its cells
+//! - `applying`: options for the whole table and for some of its cells; `modify`: the latter as an
+//!   option of the table
 //! - `printing`: printing with a minimum width and an alignment, and `Display`
 //!
 //! An `IterTable` is printed row by row while a source gives its rows. It stores only the rows that
@@ -25,9 +26,11 @@ mod applying;
 mod iter_table;
 pub mod laws;
 mod making;
+mod modify;
 mod printing;
 mod table;
 
 pub use iter_table::IterTable;
 pub use making::LayoutIterator;
+pub use modify::{Modify, ModifyBy};
 pub use table::{Table, new_config};
