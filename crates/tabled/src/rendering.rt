@@ -59,12 +59,9 @@ fn narrow<'r, 't>(
         } => {
             let wrap = Wrap::new(target).keep_words(words);
             let wrap = wrap.priority(OrderPriority::new(order));
-            let wrapped = wrap.narrowed(rows, config, sizes)?;
+            let wrapped = wrap.narrowed_rows(rows, config, sizes)?;
             sizes.clear_height();
-            let Some(cells) = wrapped else {
-                return Ok(None);
-            };
-            Ok(Some(NarrowedRows::Made(cells)))
+            Ok(wrapped)
         }
         Plan::Shortened { target, order } => {
             let truncate = Truncate::new(target).priority(OrderPriority::new(order));
@@ -90,6 +87,7 @@ fn print_measured<S: TextSink>(
     let mut sizes = CompleteDimension::new(alloc);
     match narrow(plan, rows, config, &mut sizes)? {
         Some(NarrowedRows::Cut(cells)) => print_standing(sink, &cells, config, &sizes),
+        Some(NarrowedRows::Wrapped(cells)) => print_standing(sink, &cells, config, &sizes),
         Some(NarrowedRows::Made(cells)) => print_standing(sink, &cells, config, &sizes),
         None => print_standing(sink, rows, config, &sizes),
     }

@@ -1,11 +1,13 @@
 pub mod ChangedCells
 pub mod Collecting
+pub mod Contents
 pub mod CopiedRows
 pub mod Giving
 pub mod LengthenedRows
 pub mod Lengthening
 pub mod LentGiving
 pub mod Names
+pub mod PassedLines
 pub mod PickedCells
 pub mod Refusals
 pub mod Rests

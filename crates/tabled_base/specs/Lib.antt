@@ -1,4 +1,5 @@
 pub mod Cells
+pub mod Content
 pub mod Error
 pub mod Given
 pub mod Laws

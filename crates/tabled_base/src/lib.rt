@@ -14,6 +14,7 @@
 #![tactic(auto)]
 
 mod builder;
+mod content;
 mod error;
 mod objects;
 mod options;
@@ -24,6 +25,7 @@ mod text;
 mod vec_records;
 
 pub use builder::Builder;
+pub use content::{Content, ContentRecords};
 pub use error::TableError;
 pub use objects::{Cell, Columns, Object, Rows};
 pub use options::{CellOption, TableOption};

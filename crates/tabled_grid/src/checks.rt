@@ -16,7 +16,7 @@ ghost use Rattle.tabled_grid.specs.Printed.{IsInRange, IsFailure};
 
 use crate::column_styles::placement_buffer;
 use crate::grid::Grid;
-use tabled_base::{PeekableRecords, Position, TableError};
+use tabled_base::{ContentRecords, Position, TableError};
 use tabled_config::{Indent, Sides, SpannedConfig};
 use tabled_entity::RowValues;
 use tabled_line::Placement;
@@ -24,7 +24,7 @@ use tabled_size::{
     CompleteDimension, Dimension, check_heights, check_widths, filled_height, filled_width,
 };
 
-fn is_held<R: PeekableRecords, D: Dimension>(
+fn is_held<R: ContentRecords, D: Dimension>(
     grid: &Grid<'_, R, D>,
     row: usize,
     column: usize,
@@ -37,13 +37,13 @@ fn is_held<R: PeekableRecords, D: Dimension>(
     ensures { IsTrue result ↔ IsHeld grid.now row column }
 {
     let width = grid.width(column);
-    let used = grid.records.get_width(Position { row, column });
+    let used = grid.records.content_columns(Position { row, column });
     padding.left.size <= width
         && padding.right.size <= width - padding.left.size
         && used <= width - padding.left.size - padding.right.size
 }
 
-fn fits_placement<R: PeekableRecords, D: Dimension>(
+fn fits_placement<R: ContentRecords, D: Dimension>(
     grid: &Grid<'_, R, D>,
     row: usize,
     column: usize,
@@ -57,11 +57,11 @@ fn fits_placement<R: PeekableRecords, D: Dimension>(
         (slice_index grid.now.widths column) }
     ensures { IsTrue result ↔ IsHeld grid.now row column }
 {
-    grid.records.get_width(Position { row, column }) <= placement.content_width
+    grid.records.content_columns(Position { row, column }) <= placement.content_width
 }
 
 /// Returns the first column of a row that is too narrow for its cell, by cached placements.
-fn narrow_by_placements<R: PeekableRecords, D: Dimension>(
+fn narrow_by_placements<R: ContentRecords, D: Dimension>(
     grid: &Grid<'_, R, D>,
     row: usize,
     placements: &[Placement],
@@ -81,7 +81,7 @@ fn narrow_by_placements<R: PeekableRecords, D: Dimension>(
 }
 
 /// Returns the first column of a row that is too narrow for its cell, where all have one padding.
-fn narrow_by_padding<R: PeekableRecords, D: Dimension>(
+fn narrow_by_padding<R: ContentRecords, D: Dimension>(
     grid: &Grid<'_, R, D>,
     row: usize,
     padding: Sides<Indent>,
@@ -100,7 +100,7 @@ fn narrow_by_padding<R: PeekableRecords, D: Dimension>(
 }
 
 /// Returns the first column of a row that is too narrow for its cell, with each padding looked up.
-fn narrow_by_lookup<R: PeekableRecords, D: Dimension>(
+fn narrow_by_lookup<R: ContentRecords, D: Dimension>(
     grid: &Grid<'_, R, D>,
     row: usize,
     paddings: RowValues<'_, Sides<Indent>>,
@@ -119,7 +119,7 @@ fn narrow_by_lookup<R: PeekableRecords, D: Dimension>(
     None
 }
 
-fn narrow_in<R: PeekableRecords, D: Dimension>(grid: &Grid<'_, R, D>, row: usize) -> Option<usize>
+fn narrow_in<R: ContentRecords, D: Dimension>(grid: &Grid<'_, R, D>, row: usize) -> Option<usize>
     requires sized { columns grid.now.cells ≤ length grid.now.widths }
     requires row_in { row < length grid.now.cells }
     ensures { MatchOption result (IsHeldIn grid.now row) (IsNarrowIn grid.now row) }
@@ -135,7 +135,7 @@ fn narrow_in<R: PeekableRecords, D: Dimension>(grid: &Grid<'_, R, D>, row: usize
 
 /// Checks that the widths, of which there is one for each column, hold all cells. `Narrow`: the
 /// first cell that doesn't fit, row by row.
-pub(crate) fn check_narrow<R: PeekableRecords, D: Dimension>(
+pub(crate) fn check_narrow<R: ContentRecords, D: Dimension>(
     grid: &Grid<'_, R, D>,
 ) -> Result<(), TableError>
     requires sized { columns grid.now.cells ≤ length grid.now.widths }
@@ -151,7 +151,7 @@ pub(crate) fn check_narrow<R: PeekableRecords, D: Dimension>(
 }
 
 /// Checks that there are enough sizes. `ShortWidths`, `ShortHeights`: there are too few.
-pub(crate) fn check_sizes<R: PeekableRecords, D: Dimension>(
+pub(crate) fn check_sizes<R: ContentRecords, D: Dimension>(
     grid: &Grid<'_, R, D>,
 ) -> Result<(), TableError>
     ensures ok { OnOk result (IsSized grid.now) }
@@ -162,7 +162,7 @@ pub(crate) fn check_sizes<R: PeekableRecords, D: Dimension>(
 }
 
 /// Returns the total width. `Range`: the total width or height passes `usize::MAX`.
-pub(crate) fn check_totals<R: PeekableRecords, D: Dimension>(
+pub(crate) fn check_totals<R: ContentRecords, D: Dimension>(
     grid: &Grid<'_, R, D>,
 ) -> Result<usize, TableError>
     requires sized { IsSized grid.now }
@@ -186,7 +186,7 @@ pub(crate) fn check_totals<R: PeekableRecords, D: Dimension>(
 ///
 /// Not inlined: the stack that the grid takes would be cleared for each table.
 #[inline(never)]
-pub(crate) fn check_stored<R: PeekableRecords>(
+pub(crate) fn check_stored<R: ContentRecords>(
     records: &R,
     config: &SpannedConfig,
     stored: &CompleteDimension,

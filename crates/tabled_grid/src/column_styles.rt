@@ -8,7 +8,7 @@ ghost use Rattle.tabled_line.specs.Placements.{ArePlacements};
 ghost use Rattle.tabled_size.specs.Reached.{reached};
 
 use std::alloc::Global;
-use tabled_base::PeekableRecords;
+use tabled_base::ContentRecords;
 use tabled_config::{AlignmentHorizontal, CellStyle, SpannedConfig};
 use tabled_line::{Placement, UniformPlacement};
 use tabled_size::{Dimension, check_widths};
@@ -28,7 +28,7 @@ pub(crate) const NO_PLACEMENT: Placement = Placement {
 
 /// Returns how many placements a table caches: one for each column, or none if there are more than
 /// `most`. Without settings for columns, most rows have one style that is looked up directly.
-pub(crate) fn count_kept<R: PeekableRecords>(
+pub(crate) fn count_kept<R: ContentRecords>(
     records: &R,
     config: &SpannedConfig,
     most: usize,
@@ -44,7 +44,7 @@ pub(crate) fn count_kept<R: PeekableRecords>(
 }
 
 /// Returns a buffer for the cached placements, which is empty if the allocation failed.
-pub(crate) fn placement_buffer<R: PeekableRecords>(
+pub(crate) fn placement_buffer<R: ContentRecords>(
     alloc: Global,
     records: &R,
     config: &SpannedConfig,

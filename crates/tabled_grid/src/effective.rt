@@ -16,7 +16,7 @@ use crate::column_styles::placement_buffer;
 use crate::grid::Grid;
 use crate::print::{print_checked, print_grid};
 use std::alloc::Global;
-use tabled_base::{PeekableRecords, TableError};
+use tabled_base::{ContentRecords, TableError};
 use tabled_config::SpannedConfig;
 use tabled_line::TextSink;
 use tabled_size::{CompleteDimension, Estimate, estimate_sizes, is_empty};
@@ -33,7 +33,7 @@ fn are_enough(sizes: &[usize], needed: &[usize]) -> bool
 /// Completes stored widths with estimated heights. One pass over the cells also gives the needed
 /// widths, which check the stored ones. `None` if a cell doesn't fit, and wherever an error is
 /// possible.
-fn with_heights<R: PeekableRecords>(
+fn with_heights<R: ContentRecords>(
     records: &R,
     config: &SpannedConfig,
     stored: &CompleteDimension,
@@ -59,7 +59,7 @@ fn with_heights<R: PeekableRecords>(
 
 /// Returns the stored sizes, checked and completed with estimates. Errors: `Memory`, or those of
 /// `check_stored` and `estimate`.
-fn complete<R: PeekableRecords>(
+fn complete<R: ContentRecords>(
     records: &R,
     config: &SpannedConfig,
     stored: &CompleteDimension,
@@ -81,7 +81,7 @@ fn complete<R: PeekableRecords>(
 /// Prints records with sizes that aren't all stored. These take stack that `print_grid` doesn't need,
 /// so this is a separate function.
 #[inline(never)]
-fn print_completed<R: PeekableRecords, S: TextSink>(
+fn print_completed<R: ContentRecords, S: TextSink>(
     sink: &mut S,
     records: &R,
     config: &SpannedConfig,
@@ -109,7 +109,7 @@ fn print_completed<R: PeekableRecords, S: TextSink>(
 ///
 /// If sizes are missing, `Memory` can come before anything is written: an allocation for them
 /// failed. Later errors are those of the sink.
-pub fn print_standing<R: PeekableRecords, S: TextSink>(
+pub fn print_standing<R: ContentRecords, S: TextSink>(
     sink: &mut S,
     records: &R,
     config: &SpannedConfig,
@@ -133,7 +133,7 @@ pub fn print_standing<R: PeekableRecords, S: TextSink>(
 ///
 /// `Memory`: an allocation failed. `Range`: the total width or height passes `usize::MAX`; nothing
 /// is written. `Writer`: a write failed.
-pub fn print_estimated<R: PeekableRecords, S: TextSink>(
+pub fn print_estimated<R: ContentRecords, S: TextSink>(
     alloc: Global,
     sink: &mut S,
     records: &R,

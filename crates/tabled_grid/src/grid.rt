@@ -16,17 +16,17 @@ ghost use Rattle.tabled_size.specs.Sheet.{Sheet};
 use crate::column_styles::ColumnStyles;
 use std::alloc::Global;
 use std::marker::Model;
-use tabled_base::{PeekableRecords, Position};
+use tabled_base::{Content, ContentRecords, Position};
 use tabled_config::{CellStyle, Frame, HorizontalLine, RowStyles, SpannedConfig};
 use tabled_line::{
-    ColumnSeparator, Content, KnownPlacements, Placement, Row, TableColumns, UniformPlacement,
+    ColumnSeparator, KnownPlacements, Placement, Row, TableColumns, UniformPlacement,
 };
 use tabled_size::Dimension;
 
 /// Records, settings and sizes, with what is looked up once for all rows. Contracts see them as a
 /// `Sheet`.
 #[derive(Drop)]
-pub(crate) struct Grid<'a, R: PeekableRecords, D: Dimension> {
+pub(crate) struct Grid<'a, R: ContentRecords, D: Dimension> {
     pub records: &'a R,
     pub config: &'a SpannedConfig,
     /// The width of each column and the height of each row, padding included.
@@ -44,7 +44,7 @@ pub(crate) struct Grid<'a, R: PeekableRecords, D: Dimension> {
     by_column: Option<ColumnStyles<'a>>,
 }
 
-impl<'a, R: PeekableRecords, D: Dimension> Model for Grid<'a, R, D> {
+impl<'a, R: ContentRecords, D: Dimension> Model for Grid<'a, R, D> {
     ghost Value = { Sheet };
 
     ghost view = { λ g. sheet_by (R.cells g.records.now) g.config.now (D.width_at g.dimension.now)
@@ -60,7 +60,7 @@ impl<'a, R: PeekableRecords, D: Dimension> Model for Grid<'a, R, D> {
         → style_at g.config.now row column ≡ style) };
 }
 
-impl<'a, R: PeekableRecords, D: Dimension> Grid<'a, R, D> {
+impl<'a, R: ContentRecords, D: Dimension> Grid<'a, R, D> {
     /// Borrows records, settings and sizes, and looks up what all rows share. `buffer` is for
     /// cached placements, one for each column; nothing is cached for columns in one of another size.
     pub fn new(
@@ -138,13 +138,13 @@ impl<'a, R: PeekableRecords, D: Dimension> Grid<'a, R, D> {
 
 /// The columns of a grid whose sizes are complete.
 #[derive(Drop)]
-pub(crate) struct GridColumns<'a, R: PeekableRecords, D: Dimension> {
+pub(crate) struct GridColumns<'a, R: ContentRecords, D: Dimension> {
     /// The grid.
     pub grid: &'a Grid<'a, R, D>,
     ghost sized: { IsSized grid.now },
 }
 
-impl<'a, R: PeekableRecords, D: Dimension> TableColumns for GridColumns<'a, R, D> {
+impl<'a, R: ContentRecords, D: Dimension> TableColumns for GridColumns<'a, R, D> {
     ghost sheet = { λ c. columns_of c.grid.now };
 
     fn count_columns(&self) -> usize {
@@ -164,7 +164,7 @@ impl<'a, R: PeekableRecords, D: Dimension> TableColumns for GridColumns<'a, R, D
 
 /// A row of a grid whose sizes are complete.
 #[derive(Drop)]
-pub(crate) struct GridRow<'a, R: PeekableRecords, D: Dimension> {
+pub(crate) struct GridRow<'a, R: ContentRecords, D: Dimension> {
     /// The grid.
     pub grid: &'a Grid<'a, R, D>,
     /// The index of the row.
@@ -173,7 +173,7 @@ pub(crate) struct GridRow<'a, R: PeekableRecords, D: Dimension> {
     ghost inside: { row < length grid.now.cells },
 }
 
-impl<'a, R: PeekableRecords, D: Dimension> Row<'a> for GridRow<'a, R, D> {
+impl<'a, R: ContentRecords, D: Dimension> Row<'a> for GridRow<'a, R, D> {
     ghost sheet = { λ r. row_of r.grid.now r.row };
 
     fn count_columns(&self) -> usize {
@@ -222,16 +222,10 @@ impl<'a, R: PeekableRecords, D: Dimension> Row<'a> for GridRow<'a, R, D> {
     #[inline(always)]
     fn content(&self, column: usize) -> Content<'a> {
         let grid = self.grid;
-        let at = Position {
+        grid.records.content(Position {
             row: self.row,
             column,
-        };
-        let (text, columns, lines) = grid.records.get_measured(at);
-        Content {
-            text,
-            columns,
-            lines,
-        }
+        })
     }
 
     fn count_drawn(&self) -> usize {

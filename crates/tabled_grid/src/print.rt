@@ -9,7 +9,7 @@ use crate::checks::{check_narrow, check_sizes, check_totals};
 use crate::column_styles::{NO_PLACEMENT, count_kept};
 use crate::grid::{Grid, GridColumns, GridRow};
 use std::alloc::Global;
-use tabled_base::{PeekableRecords, TableError};
+use tabled_base::{ContentRecords, TableError};
 use tabled_config::SpannedConfig;
 use tabled_line::{Cursor, LinePrinter, Row, TextSink};
 use tabled_size::{Dimension, is_empty};
@@ -28,7 +28,7 @@ const FEW_PLACEMENTS: usize = 128;
 
 /// Writes the lines of a table, joined by line feeds. Margins are `whole` columns wide. The cursors
 /// are for the first columns, in any state.
-pub(crate) fn write_picture<'a, R: PeekableRecords, D: Dimension, S: TextSink>(
+pub(crate) fn write_picture<'a, R: ContentRecords, D: Dimension, S: TextSink>(
     sink: &mut S,
     grid: &'a Grid<'a, R, D>,
     cursors: &mut [Cursor<'a>],
@@ -51,7 +51,7 @@ pub(crate) fn write_picture<'a, R: PeekableRecords, D: Dimension, S: TextSink>(
 /// Writes a picture with cursors for some columns. Each call clears their stack, so this is a
 /// separate function.
 #[inline(never)]
-fn write_with_some_cursors<'a, R: PeekableRecords, D: Dimension, S: TextSink>(
+fn write_with_some_cursors<'a, R: ContentRecords, D: Dimension, S: TextSink>(
     sink: &mut S,
     grid: &'a Grid<'a, R, D>,
     whole: usize,
@@ -62,9 +62,9 @@ fn write_with_some_cursors<'a, R: PeekableRecords, D: Dimension, S: TextSink>(
     write_picture(sink, grid, &mut [Cursor::nowhere(); SOME_CURSORS], whole)
 }
 
-/// Writes a picture with cursors for many columns, which take 72 KiB of stack.
+/// Writes a picture with cursors for many columns, which take 88 KiB of stack.
 #[inline(never)]
-fn write_with_many_cursors<'a, R: PeekableRecords, D: Dimension, S: TextSink>(
+fn write_with_many_cursors<'a, R: ContentRecords, D: Dimension, S: TextSink>(
     sink: &mut S,
     grid: &'a Grid<'a, R, D>,
     whole: usize,
@@ -76,7 +76,7 @@ fn write_with_many_cursors<'a, R: PeekableRecords, D: Dimension, S: TextSink>(
 }
 
 /// Whether a row has several lines.
-fn has_tall_row<'a, R: PeekableRecords, D: Dimension>(grid: &'a Grid<'a, R, D>) -> bool
+fn has_tall_row<'a, R: ContentRecords, D: Dimension>(grid: &'a Grid<'a, R, D>) -> bool
     requires { IsSized grid.now }
 {
     'rows: for row in 0..grid.records.count_rows() {
@@ -90,7 +90,7 @@ fn has_tall_row<'a, R: PeekableRecords, D: Dimension>(grid: &'a Grid<'a, R, D>) 
 /// Prints a table whose sizes hold its cells. With an allocator, more than `FEW_CURSORS` cursors are
 /// allocated, if a row needs them. `Range`: a total passes `usize::MAX`; nothing is written.
 #[tactic(auto, unfolding(crate::specs::Picture::picture))]
-pub(crate) fn print_checked<'a, R: PeekableRecords, D: Dimension, S: TextSink>(
+pub(crate) fn print_checked<'a, R: ContentRecords, D: Dimension, S: TextSink>(
     memory: Option<Global>,
     sink: &mut S,
     grid: &'a Grid<'a, R, D>,
@@ -126,7 +126,7 @@ pub(crate) fn print_checked<'a, R: PeekableRecords, D: Dimension, S: TextSink>(
 /// Later errors are those of the sink.
 #[inline(never)]
 #[tactic(auto, unfolding(crate::specs::Picture::picture))]
-pub fn print_grid<R: PeekableRecords, D: Dimension, S: TextSink>(
+pub fn print_grid<R: ContentRecords, D: Dimension, S: TextSink>(
     sink: &mut S,
     records: &R,
     config: &SpannedConfig,

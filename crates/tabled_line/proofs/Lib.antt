@@ -11,7 +11,6 @@ pub mod SeparatorTexts
 pub mod Joined
 pub mod Leading
 pub mod LeadingFeeds
-pub mod Moving
 pub mod Owing
 pub mod Placing
 pub mod Plains

@@ -13,7 +13,7 @@ use Rattle.tabled_config.specs.declared.alignment.AlignmentVertical.TheVariants 
 use Rattle.tabled_line.specs.Placements.{IsSpaced}
 use Rattle.tabled_line.specs.Cursors.{IsTextLine}
 use Rattle.tabled_line.specs.RowLines.{IsCellText}
-use Rattle.tabled_line.specs.declared.cursor.TextLine.{TextLine}
+use Rattle.tabled_line.specs.declared.cell_lines.TextLine.{TextLine}
 use Rattle.tabled_line.proofs.Blocks.{block-below, block-text}
 use Rattle.tabled_line.proofs.Fills.{fill-add}
 

@@ -2,18 +2,19 @@
 use Rattle.std.specs.Prelude.{◌≡◌, ◌+◌, ◌-◌, ◌<◌, ◌≤◌, ℕ, List, None, Some, IfSome, drop, length, slice_get}
 use Rattle.std.specs.List.{slice_index_or}
 use Rattle.std.specs.Option.{option_map}
-use Rattle.tabled_text.specs.Lines.{lines_in}
+use Rattle.tabled_text.specs.LineEnds.{ended_lines}
+use Rattle.tabled_text.specs.declared.line_ends.LineEnds.TheVariants.{Feeds}
 use Rattle.tabled_text.specs.Measure.{line_columns, lines_of, text_columns}
 use Rattle.tabled_line.specs.Block.{fill_above}
 use Rattle.tabled_line.specs.Row.{RowSheet}
 use Rattle.tabled_line.specs.declared.cursor.Cursor.{Cursor}
-use Rattle.tabled_line.specs.declared.cursor.TextLine.{TextLine}
+use Rattle.tabled_line.specs.declared.cell_lines.TextLine.{TextLine}
 
 -- before line `index` of a row, in which `above` lines come before the text: how many of these and
 -- which lines of the text are left
 pub record IsAhead (text : List ℕ) (above index : ℕ) (cursor : Cursor) : Type 0 where
   pub above_is : cursor.above ≡ above - index
-  pub rest_is : lines_in cursor.rest ≡ drop (index - above) (lines_of text)
+  pub rest_is : ended_lines cursor.ends cursor.rest ≡ drop (index - above) (lines_of text)
   pub widest_is : cursor.widest ≡ text_columns text
 
 -- in line `index` of a row, which has this line of the text unless it is above the text
@@ -30,7 +31,7 @@ pub record IsTextLine (text : List ℕ) (index : ℕ) (line : TextLine) : Type 0
 
 -- a cursor that isn't in a text yet
 abbrev pub nowhere : Cursor
-nowhere = record { above = 0; line = None; rest = None; widest = 0 }
+nowhere = record { above = 0; line = None; rest = None; ends = Feeds; widest = 0; ends_are = tt }
 
 -- the cursor of a column
 abbrev pub cursor_of : List Cursor → ℕ → Cursor

@@ -5,10 +5,10 @@ use Rattle.tabled_config.specs.declared.spanned.CellStyle.{CellStyle}
 use Rattle.tabled_line.specs.Cursors.{AreAt, IsTextLine}
 use Rattle.tabled_line.specs.Fill.{fill}
 use Rattle.tabled_line.specs.Row.{RowSheet, block_line}
-use Rattle.tabled_line.specs.declared.cursor.CellLine.{CellLine}
-use Rattle.tabled_line.specs.declared.cursor.CellLine.TheVariants.{Blank, Text, Unknown}
-use Rattle.tabled_line.specs.declared.cursor.TextLine.{TextLine}
-use Rattle.tabled_line.specs.declared.cursor.RowLine.{RowLine}
+use Rattle.tabled_line.specs.declared.cell_lines.CellLine.{CellLine}
+use Rattle.tabled_line.specs.declared.cell_lines.CellLine.TheVariants.{Blank, Text, Unknown}
+use Rattle.tabled_line.specs.declared.cell_lines.TextLine.{TextLine}
+use Rattle.tabled_line.specs.declared.cell_lines.RowLine.{RowLine}
 
 -- a text begins in the first line of its cell, spaces are below it, and its lines are aligned alike
 pub record IsTop (style : CellStyle) : Type 0 where

@@ -1,63 +1,18 @@
-//! The text of a cell with its measures, and the lines of the block of a cell.
+//! The lines of the block of a cell.
 ghost use Rattle.std.specs.List.{slice_index_or};
-ghost use Rattle.std.specs.Prelude.{List, [], length, ℕ, ◌-◌, ◌<◌, ◌^◌, ◌∷◌, ◌≡◌, ◌≤◌};
+ghost use Rattle.std.specs.Prelude.{List, [], ℕ, ◌-◌, ◌<◌, ◌^◌, ◌≡◌, ◌≤◌};
+ghost use Rattle.tabled_base.specs.Content.{content_text};
 ghost use Rattle.tabled_line.specs.Block.{above_text, before_text, block, cell_line};
 ghost use Rattle.tabled_line.specs.Block.{columns_before, fill_above, free_lines, inner_width};
 ghost use Rattle.tabled_line.specs.Cursors.{IsAt};
 ghost use Rattle.tabled_line.specs.Sent.{Sent, Writes};
-ghost use Rattle.tabled_text.specs.Lines.{lines_in};
-ghost use Rattle.tabled_text.specs.Measure.{line_columns, lines_of, text_columns};
+ghost use Rattle.tabled_text.specs.Measure.{line_columns};
 
 use crate::cursor::Cursor;
 use crate::padding::{write_fill, write_padded_text};
 use crate::text_sink::TextSink;
-use tabled_base::TableError;
+use tabled_base::{Content, TableError};
 use tabled_config::{AlignmentHorizontal, AlignmentVertical, CellStyle};
-use tabled_text::{line_width, run_end, split_line, text_measures};
-
-/// Returns the first line of a text, its width in columns, and the text after it, if it has more
-/// lines. A line of printable ASCII is read once.
-pub(crate) fn next_line(text: &str) -> (&str, usize, Option<&str>)
-    ensures lines { lines_of text.now ≡ result.0.now ∷ lines_in result.2 }
-    ensures columns { result.1 ≡ line_columns result.0.now }
-{
-    let bytes = text.as_bytes();
-    let run = run_end(bytes, 0, b' ', b'~');
-    if run == bytes.len() {
-        return (text, run, None);
-    }
-    if bytes[run] == b'\n' {
-        let (line, _) = text.split_at(run);
-        let (_, rest) = text.split_at(run + 1);
-        return (line, run, Some(rest));
-    }
-    let (line, rest) = split_line(text);
-    (line, line_width(line), rest)
-}
-
-/// A text, its width in columns, and its number of lines.
-#[derive(Clone, Copy)]
-pub struct Content<'a> {
-    pub text: &'a str,
-    pub columns: usize,
-    pub lines: usize,
-    ghost columns_are: { columns ≡ text_columns text.now },
-    ghost lines_are: { lines ≡ length (lines_of text.now) },
-}
-
-impl<'a> Content<'a> {
-    /// Measures a text.
-    pub fn new(text: &'a str) -> Content<'a>
-        ensures { result.text.now ≡ text.now }
-    {
-        let (columns, lines) = text_measures(text);
-        Content {
-            text,
-            columns,
-            lines,
-        }
-    }
-}
 
 /// Returns how many of the free columns come before the text.
 pub fn before_text(alignment: AlignmentHorizontal, free: usize) -> usize
@@ -103,7 +58,7 @@ impl<'a> CellBlock<'a> {
     fn columns_before(&self, columns: usize) -> usize
         ensures { (line : List ℕ) → columns ≡ line_columns line
             → result ≡ columns_before self.now.style (inner_width self.now.style self.now.width)
-            self.now.content.text.now line }
+            (content_text self.now.content) line }
     {
         let used = if self.style.line_alignment {
             columns
@@ -126,7 +81,7 @@ impl<'a> CellBlock<'a> {
     ) -> Result<(), TableError>
         requires { columns ≡ line_columns line.now }
         ensures { Writes (S.sent sink.old) result (S.sent sink.new)
-            (cell_line self.now.style self.now.width self.now.content.text.now line.now) }
+            (cell_line self.now.style self.now.width (content_text self.now.content) line.now) }
     {
         let before = self.columns_before(columns);
         let behind = self
@@ -139,7 +94,7 @@ impl<'a> CellBlock<'a> {
     /// Returns how many lines the alignment adds above the text.
     pub fn lines_above(&self) -> usize
         ensures value { result ≡ above_text self.now.style.vertical
-            (free_lines self.now.style self.now.height self.now.content.text.now) }
+            (free_lines self.now.style self.now.height (content_text self.now.content)) }
         ensures within { result ≤ self.now.height - self.now.style.padding.top.size }
     {
         let padding = self.style.padding;
@@ -157,7 +112,7 @@ impl<'a> CellBlock<'a> {
 
     /// Returns how many lines of the block come before the text.
     pub(crate) fn text_start(&self) -> usize
-        ensures { result ≡ fill_above self.now.style self.now.height self.now.content.text.now }
+        ensures { result ≡ fill_above self.now.style self.now.height (content_text self.now.content) }
     {
         // In range, since alignment adds at most the height less the padding.
         self.style.padding.top.size + self.lines_above()
@@ -171,11 +126,11 @@ impl<'a> CellBlock<'a> {
         index: usize,
     ) -> Result<(), TableError>
         requires index { index < self.now.height }
-        requires cursor { IsAt self.now.content.text.now
-            (fill_above self.now.style self.now.height self.now.content.text.now) index cursor.now }
+        requires cursor { IsAt (content_text self.now.content)
+            (fill_above self.now.style self.now.height (content_text self.now.content)) index cursor.now }
         ensures { Writes (S.sent sink.old) result (S.sent sink.new)
             (slice_index_or (block self.now.style self.now.width self.now.height
-            self.now.content.text.now) index []) }
+            (content_text self.now.content)) index []) }
     {
         let above = self.text_start();
         if index < above {

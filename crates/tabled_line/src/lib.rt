@@ -16,11 +16,12 @@
 //! - `new_config`: the settings of a new table that is printed while its rows are read.
 //!
 //! The text of a cell:
-//! - `cell_block`: the text of a cell with its measures, and the lines of its block.
-//! - `cursor`: a line of a row, and the lines of the texts in it, which cursors keep.
+//! - `cell_block`: the lines of the block of a cell.
+//! - `cursor`: the lines of a text in the lines of a row, which a cursor keeps.
 //!
 //! Rows:
 //! - `row`: the trait of a row, and writing one of its lines.
+//! - `cell_lines`: a line of a row: what its cells have in it, and the cursors in their texts.
 //! - `placement`: where texts are in their columns.
 //! - `row_template`: a blank row that the texts of each line are put into.
 //! - `spaced_line`: lines written text by text, with separators between them.
@@ -33,6 +34,7 @@
 
 mod borders;
 mod cell_block;
+mod cell_lines;
 mod column_separator;
 mod cursor;
 pub mod laws;
@@ -46,7 +48,7 @@ mod spaced_line;
 mod text_sink;
 
 pub use borders::{TableColumns, count_drawn, write_bar, write_left_edge, write_right_edge};
-pub use cell_block::{CellBlock, Content, before_text};
+pub use cell_block::{CellBlock, before_text};
 pub use column_separator::ColumnSeparator;
 pub use cursor::Cursor;
 pub use line_printer::{LinePrinter, write_break};

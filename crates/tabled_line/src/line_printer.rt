@@ -10,7 +10,8 @@ ghost use Rattle.tabled_line.specs.RowLines.{IsRowLine};
 ghost use Rattle.tabled_line.specs.Sent.{Sent, Writes};
 
 use crate::borders::{TableColumns, write_rule_line};
-use crate::cursor::{Cursor, RowLine, advance_cursors, are_top, begin_cursors};
+use crate::cell_lines::{RowLine, advance_cursors, are_top, begin_cursors};
+use crate::cursor::Cursor;
 use crate::padding::write_fill;
 use crate::row::{Row, write_row_line};
 use crate::row_template::RowTemplate;

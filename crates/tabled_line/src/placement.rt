@@ -8,7 +8,7 @@ ghost use Rattle.tabled_line.specs.Row.{ColumnSheet};
 ghost use Rattle.tabled_line.specs.RowLines.{IsRowLine};
 
 use crate::cell_block::before_text;
-use crate::cursor::{CellLine, RowLine};
+use crate::cell_lines::{CellLine, RowLine};
 use crate::row::Row;
 use tabled_config::{AlignmentHorizontal, CellStyle, Indent, RowStyles, SetStyles, Sides};
 use tabled_entity::RowValues;

@@ -1,5 +1,6 @@
 //! The trait of rows, and writing one line of a row.
 ghost use Rattle.std.specs.Prelude.{◌≡◌, ◌<◌, ◌≤◌, ℕ, []};
+ghost use Rattle.tabled_base.specs.Content.{content_text};
 ghost use Rattle.tabled_config.specs.RowStyles.{style_in};
 ghost use Rattle.tabled_line.specs.Placements.{AreKnown};
 ghost use Rattle.tabled_line.specs.Row.{RowSheet, cell_piece, row_cells, row_line};
@@ -7,13 +8,13 @@ ghost use Rattle.tabled_line.specs.RowLines.{IsRowLine};
 ghost use Rattle.tabled_line.specs.Sent.{Sent, Writes};
 
 use crate::borders::{write_bar, write_left_edge, write_right_edge};
-use crate::cell_block::{CellBlock, Content};
+use crate::cell_block::CellBlock;
+use crate::cell_lines::RowLine;
 use crate::column_separator::ColumnSeparator;
-use crate::cursor::RowLine;
 use crate::placement::KnownPlacements;
 use crate::spaced_line::write_spaced_row;
 use crate::text_sink::TextSink;
-use tabled_base::TableError;
+use tabled_base::{Content, TableError};
 use tabled_config::{Frame, RowStyles};
 
 /// A row of cells to print: the cells, and the frame around and between them.
@@ -54,7 +55,7 @@ pub trait Row<'a> {
     /// Returns the text of a cell, with its measures.
     fn content(&self, column: usize) -> Content<'a>
         requires { column < (sheet self.now).columns.count }
-        ensures { result.text.now ≡ (sheet self.now).text column };
+        ensures { content_text result ≡ (sheet self.now).text column };
 
     /// Returns how many of the first cells are drawn: all lines of the others are empty, and the
     /// others are skipped. Returning the number of cells is always safe.

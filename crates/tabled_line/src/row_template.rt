@@ -8,7 +8,7 @@ ghost use Rattle.tabled_line.specs.Row.{piece};
 ghost use Rattle.tabled_line.specs.RowLines.{IsRowLine};
 
 use crate::borders::{TableColumns, write_left_edge, write_right_edge, write_rule_pieces};
-use crate::cursor::RowLine;
+use crate::cell_lines::RowLine;
 use crate::placement::{KnownPlacements, RowPlacements, place_text};
 use crate::row::Row;
 use crate::text_sink::TextSink;

@@ -9,8 +9,8 @@ ghost use Rattle.tabled_line.specs.RowLines.{IsRowLine};
 ghost use Rattle.tabled_line.specs.SendsBut.{WritesBut};
 ghost use Rattle.tabled_line.specs.Sent.{Sent, Writes};
 
+use crate::cell_lines::RowLine;
 use crate::column_separator::SeparatorText;
-use crate::cursor::RowLine;
 use crate::padding::write_spaces;
 use crate::placement::{KnownPlacements, RowPlacements, place_text};
 use crate::row::{Row, write_cell};

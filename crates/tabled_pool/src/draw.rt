@@ -1,7 +1,8 @@
 //! Writes one line of a drawing, run by run, and in it the lines of the blocks of texts.
 ghost use Rattle.std.specs.List.{range_with_len};
-ghost use Rattle.std.specs.Prelude.{IfSome, encode_utf8, flat_map, map, option_map, slice_get};
+ghost use Rattle.std.specs.Prelude.{encode_utf8, flat_map, map};
 ghost use Rattle.std.specs.Prelude.{true, ◌++◌, ◌+◌, ◌<◌, ◌≡◌, ◌≤◌};
+ghost use Rattle.tabled_base.specs.Content.{content_text};
 ghost use Rattle.tabled_line.specs.Block.{inner_width};
 ghost use Rattle.tabled_line.specs.Sent.{Sent, Writes};
 ghost use Rattle.tabled_pool.specs.Block.{leaf_line, text_line, without_sides};
@@ -10,35 +11,15 @@ ghost use Rattle.tabled_pool.specs.Colours.{marks_of, within_marks};
 ghost use Rattle.tabled_pool.specs.Drawn.{IsRun, drawn_line, part_text, place_text};
 ghost use Rattle.tabled_pool.specs.Plan.{around_of, plan_of};
 ghost use Rattle.tabled_pool.specs.declared.places.Kind.TheVariants.{Leaf};
-ghost use Rattle.tabled_text.specs.Measure.{line_columns, lines_of};
+ghost use Rattle.tabled_text.specs.Measure.{line_columns};
 
 use crate::color_marks::{Marks, draw_colored_fill, marks_at};
 use crate::line_runs::{Line, Run};
 use crate::places::{Drawing, Kind, Piece, Rectangle};
 use crate::plain::are_uncolored_sides;
-use tabled_base::TableError;
+use tabled_base::{Content, TableError};
 use tabled_config::{ANSIStr, CellStyle, Indent, Sides};
-use tabled_line::{CellBlock, Content, TextSink, write_char, write_fill};
-use tabled_text::line_width;
-
-fn nth_line(text: &str, index: usize) -> Option<&str>
-    ensures { option_map (λ line. line.now) result ≡ slice_get (lines_of text.now) index }
-{
-    text.split('\n').nth(index)
-}
-
-/// Returns the line of a text at `index`, and its width in columns.
-fn line_at<'a>(content: &Content<'a>, index: usize) -> Option<(&'a str, usize)>
-    ensures line { option_map (λ x. x.0.now) result
-        ≡ slice_get (lines_of content.now.text.now) index }
-    ensures columns { IfSome result (λ x. x.1 ≡ line_columns x.0.now) }
-{
-    if content.lines == 1 && index == 0 {
-        return Some((content.text, content.columns));
-    }
-    let line = nth_line(content.text, index)?;
-    Some((line, line_width(line)))
-}
+use tabled_line::{CellBlock, TextSink, write_char, write_fill};
 
 fn write_text_line<S: TextSink>(
     sink: &mut S,
@@ -50,7 +31,7 @@ fn write_text_line<S: TextSink>(
     requires { columns ≡ line_columns line.now }
     ensures { Writes (S.sent sink.old) result (S.sent sink.new)
         (text_line cell.now.style (marks_of colors.now) cell.now.width
-        cell.now.content.text.now line.now) }
+        (content_text cell.now.content) line.now) }
 {
     if are_uncolored_sides(colors) {
         return cell.write_text_line(sink, line, columns);
@@ -103,7 +84,7 @@ pub fn draw_block_line<S: TextSink>(
         return draw_colored_fill(sink, colors.top, top.fill, cell.width);
     }
     let row = padded - top.size;
-    let Some((line, columns)) = line_at(&cell.content, row) else {
+    let Some((line, columns)) = cell.content.line(row) else {
         let below = row - cell.content.lines;
         if below < bottom.size {
             return draw_colored_fill(sink, colors.bottom, bottom.fill, cell.width);

@@ -1,19 +1,21 @@
 -- What holds while a text is cut into cells and rows.
 use Rattle.tabled_records.proofs.Names.{All, All-append, All-cons, All-map, All-nil, AreKept, AreRanges, Bool, HasNo, IsCharBoundary, IsCharBoundary-after_ascii, IsUtf8}
-use Rattle.tabled_records.proofs.Names.{List, [], ap, append_assoc, arith, behind, cases_lt, drop, drop-append-le, false, get_or}
+use Rattle.tabled_records.proofs.Names.{List, [], ap, append_assoc, arith, behind, cases_lt, cell_at, drop, drop-append-le, false, get_or}
 use Rattle.tabled_records.proofs.Names.{get_or-drop, get_or-take, is_in_range, length, length-append, length-drop, length-take, map-append}
 use Rattle.tabled_records.proofs.Names.{lengthened, part, parts, refl, replicate, rows_in, slice_range, subst, sym, take, take-length, texts_from, true, ℕ, ◌++◌, ◌+◌, ◌-◌}
 use Rattle.tabled_records.proofs.Names.{◌<◌, ◌==◌, ◌∙◌, ◌∷◌, ◌≡◌, ◌≤◌}
 use Rattle.std.proofs.Common.{⊎_elim}
 use Rattle.std.proofs.lemmas.Bool.Decides.{nat_tests}
-use Rattle.std.proofs.lemmas.List.{drop_all, drop_more, get_or_past}
-use Rattle.std.proofs.lemmas.Str.{IsCharBoundary-start}
+use Rattle.std.proofs.lemmas.List.{drop_all, drop_more, get_or_default, get_or_past}
+use Rattle.tabled_text.specs.Measure.{lines_of}
+use Rattle.tabled_records.proofs.Joining.{told_empty}
+use Rattle.std.proofs.lemmas.Str.{IsCharBoundary-start, IsUtf8-between, IsUtf8-nil}
 use Rattle.std.proofs.lemmas.List.Folds.{drop_split}
 use Rattle.std.proofs.lemmas.List.Elements.{All-drop, All-from_get_or, All-replicate, All-take}
 use Rattle.std.proofs.lemmas.List.Sums.{list_all-from_AllPass}
 use Rattle.tabled_base.specs.Cells.{longest}
 use Rattle.tabled_records.specs.CutLentRows.{ArePrintable}
-use Rattle.tabled_records.specs.Joined.{IsLent, IsPrintable}
+use Rattle.tabled_records.specs.Joined.{AreJoined, IsLent, IsPrintable}
 use Rattle.tabled_records.proofs.Joining.{behind-next, kept-next, length-texts, texts-next}
 use Rattle.tabled_records.proofs.Rows.{part-last, parts-append, ranges-grown, ranges-next}
 use Rattle.tabled_records.proofs.RowsLeft.{prepended, prepended-more, prepended-none, rows-end, rows-feed, rows-tab, rows_of}
@@ -255,17 +257,46 @@ plain-next text cells columns start at all own s h this last plain =
 all-or : {X : Type 0} (P : X → Type 0) (xs : List X) (d : X) → P d → All P xs → (i : ℕ) → P (get_or xs i d)
 all-or P xs d none h i = ⊎_elim (λ l. h i d l) (λ past. subst P (sym (get_or_past xs i d past)) none) (cases_lt i (length xs))
 
--- the cells of rows are printable if all texts are
-pub rows-printable : (texts : List (List ℕ)) (ranges : List (ℕ × ℕ)) → All IsPrintable texts → ArePrintable (rows_in texts ranges)
-rows-printable texts ranges h row column =
+-- what holds of the empty text and of all texts holds of all cells
+rows-all : (P : List ℕ → Type 0) (texts : List (List ℕ)) (ranges : List (ℕ × ℕ)) → P [] → All P texts
+    → (row column : ℕ) → P (cell_at (rows_in texts ranges) row column)
+rows-all P texts ranges none h row column =
     let n = longest (parts texts ranges) in
-    let each : All (All IsPrintable) (rows_in texts ranges) =
-    All-map (All IsPrintable) (lengthened n) (parts texts ranges)
-    (All-map (λ row. All IsPrintable (lengthened n row)) (part texts) ranges
+    let each : All (All P) (rows_in texts ranges) =
+    All-map (All P) (lengthened n) (parts texts ranges)
+    (All-map (λ row. All P (lengthened n row)) (part texts) ranges
     (λ k d l.
     let range = get_or ranges k d in
     let own = part texts range in
-    All-append IsPrintable own (replicate (n - length own) [])
-    (All-take IsPrintable range.1 (drop range.0 texts) (All-drop IsPrintable range.0 texts h))
-    (All-replicate IsPrintable (n - length own) [] refl))) in
-    all-or IsPrintable (get_or (rows_in texts ranges) row []) [] refl (all-or (All IsPrintable) (rows_in texts ranges) [] (All-nil IsPrintable) each row) column
+    All-append P own (replicate (n - length own) [])
+    (All-take P range.1 (drop range.0 texts) (All-drop P range.0 texts h))
+    (All-replicate P (n - length own) [] none))) in
+    all-or P (get_or (rows_in texts ranges) row []) [] none (all-or (All P) (rows_in texts ranges) [] (All-nil P) each row) column
+
+-- the cells of rows are printable if all texts are
+pub rows-printable : (texts : List (List ℕ)) (ranges : List (ℕ × ℕ)) → All IsPrintable texts → ArePrintable (rows_in texts ranges)
+rows-printable texts ranges h = rows-all IsPrintable texts ranges refl h
+
+-- ---- cells that are texts
+
+-- the parts of a text are texts
+texts-utf8 : (gap : ℕ) (whole : List ℕ) (start : ℕ) (places : List (ℕ × ℕ)) → IsUtf8 whole → AreJoined gap whole start places
+    → All IsUtf8 (texts_from gap whole start places)
+texts-utf8 gap whole start [] u h = All-nil IsUtf8
+texts-utf8 gap whole start (place ∷ places) u h =
+    let own = h.0 in
+    All-cons IsUtf8 (slice_range whole start place.0) (texts_from gap whole (place.0 + gap) places)
+    (IsUtf8-between whole start place.0 u own.ordered own.begins own.ends) (texts-utf8 gap whole (place.0 + gap) places u h.1)
+
+-- and so are the cells that they make up
+pub rows-utf8 : (gap : ℕ) (whole : List ℕ) (places ranges : List (ℕ × ℕ)) → IsUtf8 whole → AreJoined gap whole 0 places
+    → (row column : ℕ) → IsUtf8 (cell_at (rows_in (texts_from gap whole 0 places) ranges) row column)
+rows-utf8 gap whole places ranges u h = rows-all IsUtf8 (texts_from gap whole 0 places) ranges IsUtf8-nil (texts-utf8 gap whole 0 places u h)
+
+-- texts of one line each make up cells of one line
+pub rows-lines : (gap : ℕ) (whole : List ℕ) (places ranges : List (ℕ × ℕ)) → AreKept gap whole places []
+    → (row column : ℕ) → length (lines_of (cell_at (rows_in (texts_from gap whole 0 places) ranges) row column)) ≡ 1
+rows-lines gap whole places ranges h =
+    let texts = texts_from gap whole 0 places in
+    rows-all (λ text. length (lines_of text) ≡ 1) texts ranges (sym (told_empty refl).high)
+    (λ k d l. ap (λ text. length (lines_of text)) (get_or_default texts k d [] l) ∙ sym (h.told k l) ∙ get_or_past [] k 1 (omega arith))

@@ -8,6 +8,9 @@ pub mod Rows
 pub mod RowsLeft
 pub mod RowsRead
 pub mod Runs
+pub mod SizedRows
 pub mod Splitting
 pub mod TextCells
+pub mod ToldTexts
 pub mod ViewRuns
+pub mod WrappedRows

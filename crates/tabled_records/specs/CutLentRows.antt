@@ -1,22 +1,35 @@
--- Rows of texts in which each text is cut to the width of its column, in bytes.
-use Rattle.std.specs.Prelude.{ℕ, List, [], ◌∷◌, Option, Some, None, map, take}
+-- Rows of texts in which each text is cut to the width of its column, in columns.
+use Rattle.std.specs.Prelude.{◌≡◌, ◌<◌, ℕ, List, Option, Some, None, length, nat_lt, if◌then◌else◌}
 use Rattle.tabled_base.specs.Cells.{cell_at}
 use Rattle.tabled_records.specs.Joined.{IsPrintable}
+use Rattle.tabled_records.specs.NarrowedTexts.{AreKnown}
+use Rattle.tabled_records.specs.SizedRows.{sized_rows, sized_text}
+use Rattle.tabled_records.specs.declared.narrowed_texts.NarrowedTexts.{NarrowedTexts}
+use Rattle.tabled_text.specs.Cut.{IsCutAt, cut_text}
+use Rattle.tabled_text.specs.Measure.{text_columns}
 
--- the first n bytes of a text, or all of it if its column has no width
-abbrev pub cut_text : Option ℕ → List ℕ → List ℕ
-cut_text None text = text
-cut_text (Some n) text = take n text
+-- a text that is cut to n columns if it is wider
+abbrev pub cuts : ℕ → List ℕ → List ℕ
+cuts n text = if nat_lt n (text_columns text) then cut_text n text else text
 
--- the texts of a row, each cut to the width of its column. Those after the last width aren't cut
-abbrev pub cut_row : List (Option ℕ) → List (List ℕ) → List (List ℕ)
-cut_row [] row = row
-cut_row (width ∷ widths) [] = []
-cut_row (width ∷ widths) (text ∷ row) = cut_text width text ∷ cut_row widths row
+-- or the text itself if its column has no width
+abbrev pub cut_cell : Option ℕ → List ℕ → List ℕ
+cut_cell width text = sized_text cuts width text
 
+-- the texts of rows, each cut to the width of its column. Those after the last width aren't cut
 abbrev pub cut_rows : List (Option ℕ) → List (List (List ℕ)) → List (List (List ℕ))
-cut_rows widths rows = map (cut_row widths) rows
+cut_rows widths rows = sized_rows cuts widths rows
 
 -- each cell is printable ASCII
 abbrev pub ArePrintable : List (List (List ℕ)) → Type 0
 ArePrintable rows = (row column : ℕ) → IsPrintable (cell_at rows row column)
+
+-- a number of bytes tells a text that is cut where it stands. Of one that isn't wider nothing has to
+-- be told
+abbrev pub tells_cut : ℕ → List ℕ → ℕ × ℕ → Type 0
+tells_cut n text told = n < text_columns text → IsCutAt n text told.0 0
+
+-- what is known of all cells: without a list they are printable ASCII
+abbrev pub IsCutKnown : List (Option ℕ) → List (List (List ℕ)) → Option NarrowedTexts → Type 0
+IsCutKnown widths rows None = ArePrintable rows
+IsCutKnown widths rows (Some texts) = (length texts.ranges ≡ length rows) × AreKnown cuts tells_cut widths rows texts

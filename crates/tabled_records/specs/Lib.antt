@@ -2,6 +2,9 @@ pub mod Buffered
 pub mod CutLentRows
 pub mod Empty
 pub mod Joined
+pub mod NarrowedTexts
 pub mod Reading
+pub mod SizedRows
 pub mod TextRows
 pub mod Views
+pub mod WrappedLentRows

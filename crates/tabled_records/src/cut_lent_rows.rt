@@ -1,46 +1,106 @@
 //! `CutLentRows`: rows whose cells are cut to the widths of their columns when they are read.
-ghost use Rattle.std.specs.Prelude.{None, slice_index_or, ◌≡◌};
-ghost use Rattle.tabled_records.specs.CutLentRows.{ArePrintable, cut_rows, cut_text};
+ghost use Rattle.std.specs.Prelude.{IfErr, IfOk, IfSome, OnErr, OnOk, length, string_bytes, ◌<◌};
+ghost use Rattle.std.specs.Prelude.{◌≡◌};
+ghost use Rattle.tabled_base.specs.declared.error.TableError.TheVariants.{Memory};
+ghost use Rattle.tabled_records.specs.CutLentRows.{cut_rows, cuts, tells_cut};
 ghost use Rattle.tabled_records.specs.Joined.{IsPrintable};
-ghost use Rattle.tabled_text.specs.Measure.{text_columns};
+ghost use Rattle.tabled_text.specs.Cut.{cut_text};
+ghost use Rattle.tabled_text.specs.Measure.{lines_of, text_columns};
 
 use crate::joined_records::LentRows;
+use crate::narrowed_texts::{Narrowed, NarrowedTexts, Narrowing, narrowed_texts, width_at};
+use std::alloc::{AllocError, Global};
 use std::marker::Model;
-use tabled_base::{ExactRecords, PeekableRecords, Position};
+use tabled_base::{ExactRecords, PeekableRecords, Position, TableError};
+use tabled_text::{append_cut, cut_letters, text_width};
 
-/// Rows of printable ASCII that borrow a text. Each cell is cut to the width of its column when it
-/// is read, so that nothing is copied.
+/// Cuts each line that is wider than n columns.
+#[derive(Clone, Copy, Drop)]
+struct Cutting;
+
+impl Narrowing for Cutting {
+    ghost makes = { λ _. cuts };
+
+    ghost tells = { λ _. tells_cut };
+
+    fn narrow(
+        &self,
+        out: &mut String,
+        line: &str,
+        columns: usize,
+        n: usize,
+    ) -> Result<Narrowed, AllocError> {
+        if columns <= n {
+            return Ok(Narrowed::Told(0, 1));
+        }
+        match cut_letters(line, n) {
+            Some((bytes, false)) => Ok(Narrowed::Told(bytes, 1)),
+            Some((bytes, true)) => {
+                out.clear();
+                out.push_str(&line[..bytes])?;
+                out.push('\u{FFFD}')?;
+                Ok(Narrowed::Made(n, 1))
+            }
+            None => {
+                out.clear();
+                append_cut(out, line, n)?;
+                Ok(Narrowed::Made(text_width(out.as_str()), 1))
+            }
+        }
+    }
+}
+
+/// Rows that borrow a text. Each cell that is wider than its column is cut to it when it is read, as
+/// `cut_str` does: its text stands where it stood, and only one that ends with U+FFFD, or with other
+/// characters than letters, is made beforehand.
 ///
 /// ```rust
 /// let rows = text_rows(alloc, "Ada\t1815\nGrace\t1906\n")?;
 /// let widths = vec![in alloc; Some(2), None]?;
-/// let cut = CutLentRows::new(&rows, widths); // the cells of the first row are `Ad` and `1815`
+/// let cut = CutLentRows::new(alloc, &rows, widths)?; // the first row's cells are `Ad` and `1815`
 /// ```
 #[derive(Debug, Drop)]
 pub struct CutLentRows<'r, 'a> {
     rows: &'r LentRows<'a>,
     // A column without a width isn't cut.
     widths: Vec<Option<usize>>,
+    // `None`: all cells are printable ASCII.
+    texts: Option<NarrowedTexts>,
 }
 
 impl<'r, 'a> Model for CutLentRows<'r, 'a> {
     ghost use Rattle.std.specs.Prelude.{List, ℕ};
-    ghost use Rattle.tabled_records.specs.CutLentRows.{ArePrintable, cut_rows};
+    ghost use Rattle.tabled_records.specs.CutLentRows.{IsCutKnown, cut_rows};
 
     ghost Value = { List (List (List ℕ)) };
 
     ghost view = { λ r. cut_rows r.widths.items r.rows.now };
 
-    ghost invariant = { λ r. ArePrintable r.rows.now };
+    ghost invariant = { λ r. IsCutKnown r.widths.items r.rows.now r.texts };
 }
 
 impl<'r, 'a> CutLentRows<'r, 'a> {
-    /// Cuts the cells of each column that has a width to that many columns.
-    pub fn new(rows: &'r LentRows<'a>, widths: Vec<Option<usize>>) -> CutLentRows<'r, 'a>
-        requires { ArePrintable rows.now }
-        ensures { result ≡ cut_rows widths.items rows.now }
+    /// Cuts the cells of each column that has a width to that many columns. Error: `Memory`, unless
+    /// there is no row.
+    pub fn new(
+        alloc: Global,
+        rows: &'r LentRows<'a>,
+        widths: Vec<Option<usize>>,
+    ) -> Result<CutLentRows<'r, 'a>, TableError>
+        ensures ok { IfOk result (λ cut. cut ≡ cut_rows widths.items rows.now) }
+        ensures some { OnErr result (0 < length rows.now) }
+        ensures only { IfErr result (λ e. e ≡ Memory) }
     {
-        CutLentRows { rows, widths }
+        let texts = if rows.is_printable() {
+            None
+        } else {
+            Some(narrowed_texts(alloc, Cutting, rows, &widths)?)
+        };
+        Ok(CutLentRows {
+            rows,
+            widths,
+            texts,
+        })
     }
 }
 
@@ -69,41 +129,36 @@ impl<'r, 'a> PeekableRecords for CutLentRows<'r, 'a> {
         self.get_measured(at).1
     }
 
-    #[inline(always)]
-    fn count_lines(&self, at: Position) -> usize {
-        self.get_measured(at).2
-    }
-
     // No cell has a line feed.
     #[inline(always)]
+    fn count_lines(&self, _: Position) -> usize {
+        self.rows.are_texts();
+        1
+    }
+
+    #[inline(always)]
     fn get_measured(&self, at: Position) -> (&str, usize, usize) {
-        let (text, columns, _) = self.rows.get_measured(at);
-        let (text, columns) = cut(text, columns, width_at(&self.widths, at.column));
-        (text, columns, 1)
+        self.rows.are_texts();
+        let (text, columns) = self.rows.line(at);
+        let Some(n) = width_at(&self.widths, at.column) else {
+            return (text, columns, 1);
+        };
+        if columns <= n {
+            return (text, columns, 1);
+        }
+        let Some(texts) = &self.texts else {
+            return (&text[..n], n, 1);
+        };
+        if n == 0 {
+            return ("", 0, 1);
+        }
+        let Some((first, kept)) = texts.told(at) else {
+            unreachable!()
+        };
+        if kept == 0 {
+            let (text, columns) = texts.made.text(first);
+            return (text, columns, 1);
+        }
+        (&text[..first], n, 1)
     }
-}
-
-/// Returns the width of a column, if it has one.
-#[inline(always)]
-fn width_at(widths: &[Option<usize>], column: usize) -> Option<usize>
-    ensures { result ≡ slice_index_or widths.now column None }
-{
-    widths.get(column).copied().unwrap_or(None)
-}
-
-/// Cuts printable ASCII to a width, and returns it with its columns.
-#[inline(always)]
-fn cut(text: &str, columns: usize, width: Option<usize>) -> (&str, usize)
-    requires printable { IsPrintable text.now }
-    requires measured { columns ≡ text_columns text.now }
-    ensures text { result.0.now ≡ cut_text width text.now }
-    ensures columns { result.1 ≡ text_columns (cut_text width text.now) }
-{
-    let Some(width) = width else {
-        return (text, columns);
-    };
-    if columns <= width {
-        return (text, columns);
-    }
-    (&text[..width], width)
 }

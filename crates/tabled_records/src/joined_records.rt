@@ -4,8 +4,9 @@ ghost use Rattle.std.specs.Iterator.{IsFiniteIterable};
 ghost use Rattle.std.specs.List.{slice_index_or, slice_range};
 ghost use Rattle.std.specs.Prelude.{IfErr, IfOk, List, OnErr, OnOk, [], length, map};
 ghost use Rattle.std.specs.Prelude.{true, ℕ, ◌++◌, ◌+◌, ◌<◌, ◌∷◌, ◌≡◌, ◌≤◌};
-ghost use Rattle.std.specs.Str.{IsCharBoundary};
-ghost use Rattle.tabled_base.specs.Cells.{IsInside, cell_at, lengthened, with_record};
+ghost use Rattle.std.specs.Str.{IsCharBoundary, IsUtf8};
+ghost use Rattle.tabled_base.specs.Cells.{IsInside, cell_at, columns, lengthened, with_record};
+ghost use Rattle.tabled_base.specs.Content.{content_text};
 ghost use Rattle.tabled_base.specs.Given.{Given};
 ghost use Rattle.tabled_base.specs.declared.error.TableError.TheVariants.{Memory};
 ghost use Rattle.tabled_records.specs.TextRows.{cells_of, most_cells, text_rows};
@@ -14,11 +15,17 @@ ghost use Rattle.tabled_records.specs.CutLentRows.{ArePrintable};
 ghost use Rattle.tabled_records.specs.Joined.{AreLentRows, AreMeasures, AreRanges, HasNo, IsLent};
 ghost use Rattle.tabled_records.specs.Joined.{IsPrintable, rows_in, texts_from};
 
-use crate::row_ranges::{Pairs, RowRanges};
+use crate::row_ranges::{Pairs, RowRanges, text_at};
 use std::alloc::{AllocError, Global};
 use std::marker::Model;
-use tabled_base::{CellText, ExactRecords, PeekableRecords, Position, TableError};
+use tabled_base::{CellText, Content, ExactRecords, PeekableRecords, Position, TableError};
 use tabled_text::{columns_between, run_end, text_measures};
+
+/// Does nothing. Its contract says that a text is UTF-8.
+#[inline(always)]
+fn is_text(text: &str)
+    ensures { IsUtf8 text.now }
+{}
 
 /// Rows whose cells borrow one text. Rows shorter than the longest end with empty cells.
 #[derive(Debug, Drop)]
@@ -47,6 +54,38 @@ impl<'a> LentRows<'a> {
         ensures { result ≡ true → ArePrintable self.now }
     {
         self.printable
+    }
+
+    /// Does nothing. Its contract says that all cells are lines of UTF-8.
+    #[inline(always)]
+    pub fn are_texts(&self)
+        ensures utf8 { (row column : ℕ) → IsUtf8 (cell_at self.now row column) }
+        ensures lines { (row column : ℕ) → length (lines_of (cell_at self.now row column)) ≡ 1 }
+    {
+        is_text(self.text);
+    }
+
+    /// Returns the number of cells of a row, without the empty ones that only fill it up.
+    pub(crate) fn count_cells(&self, row: usize) -> usize
+        requires { row < length self.now }
+        ensures within { result ≤ columns self.now }
+        ensures rest { (column : ℕ) → result ≤ column → cell_at self.now row column ≡ [] }
+    {
+        self.rows.at(row).1
+    }
+
+    /// Returns the text of a cell, which is one line, and its columns.
+    #[inline(always)]
+    pub(crate) fn line(&self, at: Position) -> (&'a str, usize)
+        requires { IsInside self.now at.row at.column }
+        ensures text { result.0.now ≡ cell_at self.now at.row at.column }
+        ensures columns { result.1 ≡ text_columns result.0.now }
+        ensures one { length (lines_of result.0.now) ≡ 1 }
+    {
+        match self.rows.cell(self.text, &self.cells, 1, at) {
+            Some((text, columns, _)) => (text, columns),
+            None => ("", 0),
+        }
     }
 }
 
@@ -83,10 +122,8 @@ impl<'a> PeekableRecords for LentRows<'a> {
     // No cell has a line feed.
     #[inline(always)]
     fn get_measured(&self, at: Position) -> (&str, usize, usize) {
-        match self.rows.cell(self.text, &self.cells, 1, at) {
-            Some((text, columns, _)) => (text, columns, 1),
-            None => ("", 0, 1),
-        }
+        let (text, columns) = self.line(at);
+        (text, columns, 1)
     }
 }
 
@@ -251,6 +288,25 @@ impl JoinedTexts {
         ensures { result ≡ length self.now }
     {
         self.ends.len()
+    }
+
+    /// Returns the text at an index, and its columns.
+    #[inline(always)]
+    pub fn text(&self, place: usize) -> (&str, usize)
+        requires { place < length self.now }
+        ensures text { result.0.now ≡ slice_index_or self.now place [] }
+        ensures columns { result.1 ≡ text_columns result.0.now }
+    {
+        text_at(self.whole.as_str(), &self.ends, 0, place)
+    }
+
+    /// Returns the text at an index.
+    pub fn content(&self, place: usize) -> Content<'_>
+        requires { place < length self.now }
+        ensures { content_text result ≡ slice_index_or self.now place [] }
+    {
+        let (text, columns) = self.text(place);
+        Content::measured(text, columns, lines_at(&self.lines, place))
     }
 
     /// Returns the text of a cell, its columns and its lines. A cell that only fills up its row is

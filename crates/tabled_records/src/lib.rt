@@ -5,7 +5,10 @@
 //!   that takes half the memory while the numbers are small.
 //! - `joined_records.rt`: `LentRows`, rows whose cells borrow one text, which `text_rows` finds in
 //!   a text; `JoinedRecords`, rows of texts that are appended to one buffer.
+//! - `narrowed_texts.rt`: `NarrowedTexts`, what is known of texts that are narrowed when they are
+//!   read.
 //! - `cut_lent_rows.rt`: `CutLentRows`, whose cells are cut to their columns when they are read.
+//! - `wrapped_lent_rows.rt`: `WrappedLentRows`, whose cells are wrapped to their columns then.
 //! - `records_writer.rt`: `RecordsWriter`, which writes `JoinedRecords` text by text.
 //! - `flat_rows.rt`: `FlatRows`, rows whose cells are in one list.
 //!
@@ -26,10 +29,12 @@ pub mod flat_rows;
 mod iter_records;
 mod joined_records;
 mod limits;
+mod narrowed_texts;
 pub mod reading;
 mod records_writer;
 mod row_ranges;
 mod truncate;
+mod wrapped_lent_rows;
 
 pub use buffer::{BufCells, BufRecords, BufRows};
 pub use cut_lent_rows::CutLentRows;
@@ -39,3 +44,4 @@ pub use joined_records::{JoinedRecords, LentRows, text_rows};
 pub use limits::{FirstCells, LaterRows, LimitColumns, LimitRows, NarrowRows, SkipRows};
 pub use records_writer::RecordsWriter;
 pub use truncate::{CutCell, CutCells, CutRows, TruncateContent};
+pub use wrapped_lent_rows::WrappedLentRows;

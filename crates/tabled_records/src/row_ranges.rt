@@ -6,6 +6,7 @@ ghost use Rattle.tabled_base.specs.declared.error.TableError.TheVariants.{Memory
 ghost use Rattle.tabled_base.specs.Cells.{IsInside, cell_at};
 ghost use Rattle.tabled_records.specs.Joined.{AreJoined, AreRanges, IsCell, begin, longest_range};
 ghost use Rattle.tabled_records.specs.Joined.{rows_in, texts_from};
+ghost use Rattle.tabled_text.specs.Measure.{text_columns};
 
 use std::alloc::{AllocError, Global};
 use std::marker::Model;
@@ -129,6 +130,24 @@ fn bounds_of(ends: &Pairs, gap: usize, place: usize) -> (usize, (usize, usize))
     (ends.at(before).0 + gap, ends.at(place))
 }
 
+/// Returns the text at an index, of texts that are parts of `whole`, `gap` bytes apart, with its
+/// columns.
+#[inline(always)]
+pub(crate) fn text_at<'a>(
+    whole: &'a str,
+    ends: &Pairs,
+    gap: usize,
+    place: usize,
+) -> (&'a str, usize)
+    requires joined { AreJoined gap whole.now 0 ends.now }
+    requires inside { place < length ends.now }
+    ensures text { result.0.now ≡ slice_index_or (texts_from gap whole.now 0 ends.now) place [] }
+    ensures columns { result.1 ≡ text_columns result.0.now }
+{
+    let (first, (end, columns)) = bounds_of(ends, gap, place);
+    (&whole[first..end], columns)
+}
+
 impl RowRanges {
     /// Makes an empty list.
     pub fn new(alloc: Global) -> RowRanges
@@ -201,7 +220,7 @@ impl RowRanges {
         // The number of texts is a `usize`, and so each index is in range.
         let _count = ends.len();
         let place = start + at.column;
-        let (first, (end, columns)) = bounds_of(ends, gap, place);
-        Some((&whole[first..end], columns, place))
+        let (text, columns) = text_at(whole, ends, gap, place);
+        Some((text, columns, place))
     }
 }

@@ -1,11 +1,12 @@
 -- The rows of a table that is narrowed.
 use Rattle.std.specs.Prelude.{ℕ, List, Option, None, Some}
 use Rattle.tabled_set.specs.declared.narrowed_cells.NarrowedRows.{NarrowedRows}
-use Rattle.tabled_set.specs.declared.narrowed_cells.NarrowedRows.TheVariants.{Cut, Made}
+use Rattle.tabled_set.specs.declared.narrowed_cells.NarrowedRows.TheVariants.{Cut, Made, Wrapped}
 
 -- the cells of narrowed rows
 abbrev pub cells_of : NarrowedRows → List (List (List ℕ))
 cells_of (Cut rows) = rows
+cells_of (Wrapped rows) = rows
 cells_of (Made rows) = rows
 
 -- or those of the table if it isn't narrowed

@@ -13,14 +13,14 @@ ghost use Rattle.tabled_set.specs.NarrowedCells.{cells_of_or};
 ghost use Rattle.tabled_set.specs.Promised.{AfterClearing, TruncatesAsPromised};
 
 use crate::measurement::{Measurement, Width};
-use crate::narrowed_cells::{NarrowedRows, narrow_when_read, narrowed_records, shrink_columns};
+use crate::narrowed_cells::{NarrowedRows, cut_rows, narrowed_records};
 use crate::narrowing::narrow_table;
 use crate::resize::{Beginning, CellFilter, Resize, TextTransform};
 use std::alloc::{AllocError, Global};
 use std::borrow::CowStr;
 use tabled_base::{Entity, RecordsMut, SHORT_TEXT, TableError, TableOption};
 use tabled_config::{ColoredConfig, SpannedConfig};
-use tabled_records::{CutLentRows, LentRows};
+use tabled_records::LentRows;
 use tabled_size::{CompleteDimension, Peaker, PriorityNone};
 use tabled_text::{append_cut, copies, count_lines, cut_length, cut_str, line_width, lines};
 
@@ -299,12 +299,8 @@ impl<'a, W: Measurement<Width> + Drop, P: Peaker + Drop> Truncate<'a, W, P> {
             (W.measures self.entry.size rows.now cfg.now) rows.now cfg.now dims.old)) }
     {
         let by = self.transform;
-        if by.suffix.is_empty() && !by.multiline && narrow_when_read(rows, cfg) {
-            let priority = self.priority;
-            let Some(widths) = shrink_columns(&self.size, priority, rows, cfg, dims)? else {
-                return Ok(None);
-            };
-            return Ok(Some(NarrowedRows::Cut(CutLentRows::new(rows, widths))));
+        if by.suffix.is_empty() && !by.multiline && cfg.shared_padding().is_some() {
+            return cut_rows(self, rows, cfg, dims);
         }
         let Some(made) = narrowed_records(self, CellFilter::Wider, rows, cfg, dims)? else {
             return Ok(None);

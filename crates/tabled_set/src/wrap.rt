@@ -5,18 +5,19 @@ ghost use Rattle.tabled_set.specs.Common.{effective, is_empty, Memory, Range, Ro
 ghost use Rattle.tabled_set.specs.CellChanges.{never_in_place, wrapping, Every, Wider};
 ghost use Rattle.tabled_set.specs.Narrowed.{Narrows, NarrowingOutOfRange, StopsEarly};
 ghost use Rattle.tabled_set.specs.Narrowed.{StopsNarrowing};
+ghost use Rattle.tabled_set.specs.NarrowedCells.{cells_of_or};
 ghost use Rattle.tabled_set.specs.Promised.{AfterClearing, WrapsAsPromised};
 ghost use Rattle.tabled_text.specs.Breaking.{EachUnitFits, HasFewestLines, IsLeastBreaking};
 ghost use Rattle.tabled_text.specs.Wrapping.{IsWrapped};
 
 use crate::measurement::{Measurement, Width};
-use crate::narrowed_cells::narrowed_records;
+use crate::narrowed_cells::{NarrowedRows, narrowed_records, wrapped_rows};
 use crate::narrowing::narrow_table;
 use crate::resize::{Beginning, CellFilter, Resize, TextTransform};
 use std::alloc::{AllocError, Global};
 use tabled_base::{Entity, PeekableRecords, RecordsMut, TableError, TableOption};
 use tabled_config::{ColoredConfig, SpannedConfig};
-use tabled_records::JoinedRecords;
+use tabled_records::{JoinedRecords, LentRows};
 use tabled_size::{CompleteDimension, Peaker, PriorityNone};
 use tabled_text::{fits_bytes, wrap_into, wrap_text};
 
@@ -108,6 +109,39 @@ impl<W: Measurement<Width> + Drop, P: Peaker + Drop> Wrap<W, P> {
             (R.cells records.now) cfg.now dims.old)) }
     {
         narrowed_records(self, CellFilter::Every, records, cfg, dims)
+    }
+
+    /// Returns the rows of a table as the table option changes them, or `None` if the table isn't
+    /// too wide. The sizes are stored, and errors come, as by the table option, but no row changes.
+    /// Cells are wrapped when they are read, if all of them have the same padding.
+    pub fn narrowed_rows<'r, 't>(
+        self,
+        rows: &'r LentRows<'t>,
+        cfg: &SpannedConfig,
+        dims: &mut CompleteDimension,
+    ) -> Result<Option<NarrowedRows<'r, 't>>, TableError>
+        ensures ok { IfOk result (λ changed. Narrows P.shrinks self.priority
+            (wrapping self.transform.keep_words)
+            (W.measures self.size rows.now cfg.now) rows.now
+            cfg.now dims.old (cells_of_or changed rows.now) dims.new) }
+        ensures promised { let t = effective rows.now cfg.now dims.old in
+            IfOk result (λ changed. AfterClearing (Some (Row 0)) dims.new (λ left.
+            WrapsAsPromised P.shrinks self.priority self.transform.keep_words
+            (W.measures self.size rows.now cfg.now) t
+            (effective (cells_of_or changed rows.now) cfg.now left))) }
+        ensures err { IfErr result (λ e. StopsEarly (W.measures self.size rows.now cfg.now) e
+            rows.now cfg.now dims.old dims.new) }
+        ensures only { IfErr result (λ e. (e ≡ Memory) ⊎ ((e ≡ Range)
+            × NarrowingOutOfRange (W.out_of_range self.size rows.now cfg.now)
+            (W.measures self.size rows.now cfg.now) rows.now cfg.now dims.old)) }
+    {
+        if cfg.shared_padding().is_some() {
+            return wrapped_rows(self, rows, cfg, dims);
+        }
+        let Some(made) = narrowed_records(self, CellFilter::Every, rows, cfg, dims)? else {
+            return Ok(None);
+        };
+        Ok(Some(NarrowedRows::Made(made)))
     }
 }
 

@@ -15,11 +15,11 @@ use crate::added_padding::{KnownAdded, RowPadding};
 use crate::complete_dimension::CompleteDimension;
 use crate::dimension::Estimate;
 use std::alloc::Global;
-use tabled_base::{PeekableRecords, Position, TableError};
+use tabled_base::{ContentRecords, Position, TableError};
 use tabled_config::{ColoredConfig, SpannedConfig};
 use tabled_entity::RowValues;
 
-pub(crate) fn column_width<R: PeekableRecords>(
+pub(crate) fn column_width<R: ContentRecords>(
     records: &R,
     config: &SpannedConfig,
     column: usize,
@@ -33,7 +33,7 @@ pub(crate) fn column_width<R: PeekableRecords>(
         let at = Position { row, column };
         let padding = config.get_padding(at);
         let sides = padding.left.size.checked_add(padding.right.size)?;
-        let width = records.get_width(at).checked_add(sides)?;
+        let width = records.content_columns(at).checked_add(sides)?;
         most = most.max(width);
     }
     Some(most)
@@ -41,7 +41,7 @@ pub(crate) fn column_width<R: PeekableRecords>(
 
 /// Estimates the width of each column. Errors: `Memory`, or `Range` if a cell needs more than
 /// `usize::MAX` columns.
-pub fn estimate_widths<R: PeekableRecords>(
+pub fn estimate_widths<R: ContentRecords>(
     alloc: Global,
     records: &R,
     config: &SpannedConfig,
@@ -60,7 +60,7 @@ pub fn estimate_widths<R: PeekableRecords>(
     Ok(widths)
 }
 
-pub(crate) fn row_height<R: PeekableRecords>(
+pub(crate) fn row_height<R: ContentRecords>(
     records: &R,
     config: &SpannedConfig,
     row: usize,
@@ -75,7 +75,7 @@ pub(crate) fn row_height<R: PeekableRecords>(
         let at = Position { row, column };
         let padding = *paddings.at(column);
         let sides = padding.top.size.checked_add(padding.bottom.size)?;
-        let height = records.count_lines(at).checked_add(sides)?;
+        let height = records.content_lines(at).checked_add(sides)?;
         most = most.max(height);
     }
     Some(most)
@@ -83,7 +83,7 @@ pub(crate) fn row_height<R: PeekableRecords>(
 
 /// Estimates the height of each row. Errors: `Memory`, or `Range` if a cell needs more than
 /// `usize::MAX` lines.
-pub fn estimate_heights<R: PeekableRecords>(
+pub fn estimate_heights<R: ContentRecords>(
     alloc: Global,
     records: &R,
     config: &SpannedConfig,
@@ -105,7 +105,7 @@ pub fn estimate_heights<R: PeekableRecords>(
 /// Raises the widths to what the cells of a row need, and returns the height that they need, given
 /// what padding adds. `None` if a size exceeds `usize::MAX`.
 #[inline]
-fn measure_row<R: PeekableRecords, A: RowPadding + Drop>(
+fn measure_row<R: ContentRecords, A: RowPadding + Drop>(
     records: &R,
     config: &SpannedConfig,
     row: usize,
@@ -122,9 +122,9 @@ fn measure_row<R: PeekableRecords, A: RowPadding + Drop>(
     let mut most: usize = 0;
     'columns: for column in 0..records.count_columns() {
         let extent = added.at(column)?;
-        let (_, columns, lines) = records.get_measured(Position { row, column });
-        let width = columns.checked_add(extent.columns)?;
-        let height = lines.checked_add(extent.lines)?;
+        let cell = records.content(Position { row, column });
+        let width = cell.columns.checked_add(extent.columns)?;
+        let height = cell.lines.checked_add(extent.lines)?;
         widths[column] = widths[column].max(width);
         most = most.max(height);
     }
@@ -134,7 +134,7 @@ fn measure_row<R: PeekableRecords, A: RowPadding + Drop>(
 /// Measures a row as `measure_row` does, with what padding adds: known for several rows, the same
 /// in the row, or looked up.
 #[inline]
-fn measure_known<R: PeekableRecords>(
+fn measure_known<R: ContentRecords>(
     records: &R,
     config: &SpannedConfig,
     row: usize,
@@ -163,7 +163,7 @@ fn measure_known<R: PeekableRecords>(
 
 /// Estimates widths and heights in one pass over the rows. Errors: `Memory`, or `Range` if a cell
 /// needs more than `usize::MAX` columns or lines.
-pub fn estimate_sizes<R: PeekableRecords>(
+pub fn estimate_sizes<R: ContentRecords>(
     alloc: Global,
     records: &R,
     config: &SpannedConfig,
@@ -187,7 +187,7 @@ pub fn estimate_sizes<R: PeekableRecords>(
     Ok((widths, heights))
 }
 
-impl<R: PeekableRecords> Estimate<R, SpannedConfig> for CompleteDimension {
+impl<R: ContentRecords> Estimate<R, SpannedConfig> for CompleteDimension {
     ghost estimates = { λ old records config new. IsFilledIn old (R.cells records) config new };
 
     ghost out_of_range = { λ old records config. HasNoEstimate old (R.cells records) config };
@@ -214,7 +214,7 @@ impl<R: PeekableRecords> Estimate<R, SpannedConfig> for CompleteDimension {
     }
 }
 
-impl<R: PeekableRecords> Estimate<R, ColoredConfig> for CompleteDimension {
+impl<R: ContentRecords> Estimate<R, ColoredConfig> for CompleteDimension {
     ghost estimates = { λ old records config new. IsFilledIn old
         (R.cells records) config.config new };
 

@@ -16,7 +16,7 @@ ghost use Rattle.tabled_size.specs.Totals.{framed_width, total_height, total_wid
 use crate::complete_dimension::CompleteDimension;
 use crate::dimension::Dimension;
 use crate::estimate::{column_width, estimate_heights, estimate_widths, row_height};
-use tabled_base::{ExactRecords, PeekableRecords, TableError};
+use tabled_base::{ContentRecords, ExactRecords, TableError};
 use tabled_config::SpannedConfig;
 
 /// Whether there are no rows or no columns.
@@ -152,7 +152,7 @@ fn reached_height<D: Dimension>(
 /// - `Memory`: an allocation failed. Never if widths are stored.
 /// - `ShortWidths`: the stored list is shorter than the table.
 /// - `Range`: the sum exceeds `usize::MAX`.
-pub fn total_width<R: PeekableRecords>(
+pub fn total_width<R: ContentRecords>(
     records: &R,
     config: &SpannedConfig,
     stored: &CompleteDimension,
@@ -186,7 +186,7 @@ pub fn total_width<R: PeekableRecords>(
 /// - `Memory`: an allocation failed. Never if heights are stored.
 /// - `ShortHeights`: the stored list is shorter than the table.
 /// - `Range`: the sum exceeds `usize::MAX`.
-pub fn total_height<R: PeekableRecords>(
+pub fn total_height<R: ContentRecords>(
     records: &R,
     config: &SpannedConfig,
     stored: &CompleteDimension,
@@ -215,7 +215,7 @@ pub fn total_height<R: PeekableRecords>(
 
 /// Returns the total width of a table with estimated widths, in columns. It is 0 without rows or
 /// columns. `None` if it exceeds `usize::MAX`.
-pub fn estimated_total_width<R: PeekableRecords>(
+pub fn estimated_total_width<R: ContentRecords>(
     records: &R,
     config: &SpannedConfig,
 ) -> Option<usize>
@@ -234,7 +234,7 @@ pub fn estimated_total_width<R: PeekableRecords>(
 
 /// Returns the total height of a table with estimated heights, in lines. It is 0 without rows or
 /// columns. `None` if it exceeds `usize::MAX`.
-pub fn estimated_total_height<R: PeekableRecords>(
+pub fn estimated_total_height<R: ContentRecords>(
     records: &R,
     config: &SpannedConfig,
 ) -> Option<usize>

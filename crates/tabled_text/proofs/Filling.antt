@@ -1,7 +1,7 @@
 -- The walk that adds unit to unit, as a function: it gives the fullest breaking. And the bytes that one more unit adds.
 use Rattle.tabled_text.proofs.Names.{All, All-cons, All-head, All-nil, All-tail, AllZip, AreFullest, Bool, Fits, IsFullest, IsFullestText}
 use Rattle.tabled_text.proofs.Names.{IsGrouping, IsUtf8, IsUtf8-nil, IsWrapped, List, MatchBool, TextUnit, [], ap, append-nil, append_all}
-use Rattle.tabled_text.proofs.Names.{append_assoc, append_text, append_used, arith, begin_text, cases_Bool, char_count, chars-nil}
+use Rattle.tabled_text.proofs.Names.{append_assoc, append_text, append_used, arith, begin_text, char_count, chars-nil}
 use Rattle.tabled_text.proofs.Names.{chars_from_encodes, columns_of, cond, encode_ascii, encode_utf8, encode_utf8_all, encodes-append}
 use Rattle.tabled_text.proofs.Names.{encodes-chars, eq-eqb, eqb-false, eqb-true, false, flat_map, inl, inr, le-leb, leb-false, leb-true}
 use Rattle.tabled_text.proofs.Names.{length, length-append, lines_of, lit<, lt-leb, map, nat_le, nat_tests, ne_eqb, needed, nil_from_length}
@@ -299,24 +299,6 @@ IsWrapped-none n words text out z e = record {
   utf8 = subst IsUtf8 (sym e) IsUtf8-nil;
   wrapped = subst (λ b. MatchBool b (out ≡ []) (IsFullestText n words (chars text) (chars out))) (sym (eq-eqb n 0 z)) e;
 }
-
--- nothing is written of the empty text
-pending-empty : (n : ℕ) (words : Bool) → pending n words false ([] ∷ []) ≡ []
-pending-empty n true = refl
-pending-empty n false = refl
-
-IsWrapped-empty : (n : ℕ) (words : Bool) (text out : List ℕ) → (n ≡ 0 → ⊥) → text ≡ [] → out ≡ [] → IsWrapped n words text out
-IsWrapped-empty n words text out pos t e =
-    let same : chars text ≡ [] = ap chars t ∙ chars-nil in
-    let written : encode_utf8_all (pending n words false (lines_of (chars text))) ≡ [] =
-    ap (λ cs. encode_utf8_all (pending n words false (lines_of cs))) same ∙ ap encode_utf8_all (pending-empty n words) in
-    IsWrapped-written n words text out pos (subst IsUtf8 (sym e) IsUtf8-nil) (e ∙ sym written)
-
--- nor for no columns
-pub IsWrapped-nothing : (n : ℕ) (words : Bool) (text out : List ℕ) → (n ≡ 0) ⊎ (text ≡ []) → out ≡ [] → IsWrapped n words text out
-IsWrapped-nothing n words text out none e = ⊎_elim (λ z. IsWrapped-none n words text out z e)
-    (λ t. ⊎_elim (λ z. IsWrapped-none n words text out (eqb-true n 0 z) e)
-    (λ pos. IsWrapped-empty n words text out (eqb-false n 0 pos) t e) (cases_Bool (n == 0))) none
 
 -- a wrapped text is empty for no columns, and else the text of the fullest breaking
 pub wrapped-cases : (n : ℕ) (words : Bool) (text answer : List ℕ) → IsWrapped n words text answer

@@ -192,7 +192,7 @@ letters-counted text n u h =
     subst (AreCounted (chars text)) (ap (sum_by byte_columns) same ∙ sym h.columns)
     (counted-encoded (chars text) (ap (list_all is_letter_byte) same ∙ h.all))
 
-simple-no_feed : (c : ℕ) → is_simple c ≡ true → is_no_feed c ≡ true
+pub simple-no_feed : (c : ℕ) → is_simple c ≡ true → is_no_feed c ≡ true
 simple-no_feed c h = grind (arith, nat_tests)
 
 -- letters alone are a line

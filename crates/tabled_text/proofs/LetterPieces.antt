@@ -45,6 +45,10 @@ letters-walked n columns {text} {front} {rest} parts utf8 h le =
 
 -- ---- pieces
 
+-- a character needs a column
+pub needed-some : (n c : ℕ) → 0 < n → 1 ≤ needed n (unit_of_char c)
+needed-some n c pos = cond-cases (λ k. 1 ≤ k) (nat_le (char_count c) n) (char_count c) 1 (λ _. count-some c) (λ _. omega arith)
+
 -- characters that fit are a line, if the next one does not fit
 filled : (n : ℕ) (front cs : List ℕ) (c : ℕ) → 0 < n → count_of front ≤ n → n < count_of front + needed n (unit_of_char c)
     → append_all n 0 (map unit_of_char (front ++ c ∷ cs)) ≡ front ++ 10 ∷ append_all n 0 (map unit_of_char (c ∷ cs))
@@ -72,7 +76,7 @@ record IsFirstPiece (n : ℕ) (text piece rest : List ℕ) : Type 0 where
   written : written_line n false text ≡ piece ++ 10 ∷ written_line n false rest
 
 module _ (n columns : ℕ) (text piece rest : List ℕ) (h : list_all is_letter_byte text ≡ true) (p : IsPiece n text piece columns rest)
-    (big : 1 < n) (most : (c : ℕ) (cs : List ℕ) → chars rest ≡ c ∷ cs → n < columns + char_count c) where
+    (pos : 0 < n) (wide : n ≤ 1 → 0 < columns) (most : (c : ℕ) (cs : List ℕ) → chars rest ≡ c ∷ cs → n < columns + char_count c) where
   both : (list_all is_letter_byte piece ≡ true) × (list_all is_letter_byte rest ≡ true)
   both = all-halves is_letter_byte piece rest (ap (list_all is_letter_byte) (sym p.parts) ∙ h)
 
@@ -86,15 +90,18 @@ module _ (n columns : ℕ) (text piece rest : List ℕ) (h : list_all is_letter_
   first-piece (c ∷ cs) e ne =
       let counted = p.counted in
       let fits = p.fits in
-      let wide = most c cs e in
+      let far = most c cs e in
       let bytes : rest ≡ encode_utf8 c ++ encode_utf8_all cs = sym (encodes-chars rest p.rest_utf8) ∙ ap encode_utf8_all e in
       let own = letter-encoded c
       (all-halves is_letter_byte (encode_utf8 c) (encode_utf8_all cs) (ap (list_all is_letter_byte) (sym bytes) ∙ both.1)).0 in
       let few : char_count c ≤ 2 = let columns_are = own.columns in let narrow = own.few in omega arith in
-      let need = needed-narrow n (unit_of_char c) (omega arith) in
+      let need : n < columns + needed n (unit_of_char c) = elim (cases_lt n (char_count c)) [
+        | inl over ↦ let some = wide (omega arith) in omega (arith, needed-some n c pos)
+        | inr le ↦ omega (arith, needed-narrow n (unit_of_char c) le)
+      ] in
       let whole : append_all n 0 (map unit_of_char (chars text)) ≡ chars piece ++ 10 ∷ append_all n 0 (map unit_of_char (chars rest)) =
       ap (λ l. append_all n 0 (map unit_of_char l)) (ap chars p.parts ∙ chars-append piece rest p.utf8 ∙ ap (λ l. chars piece ++ l) e)
-      ∙ filled n (chars piece) cs c (omega arith) (omega arith) (omega (arith, need))
+      ∙ filled n (chars piece) cs c pos (omega arith) (omega arith)
       ∙ ap (λ l. chars piece ++ 10 ∷ append_all n 0 (map unit_of_char l)) (sym e) in
       record {
         some = elim (cases_lt 0 (length piece)) [
@@ -102,7 +109,10 @@ module _ (n columns : ℕ) (text piece rest : List ℕ) (h : list_all is_letter_
           | inr none ↦
               let nothing : count_of (chars piece) ≡ 0 = ap (λ l. count_of (chars l)) (nil_from_length piece (omega arith))
               ∙ ap count_of chars-nil in
-              absurd (omega arith)
+              elim (cases_lt 1 n) [
+                | inl big ↦ absurd (omega arith)
+                | inr small ↦ absurd (let some = wide small in omega arith)
+              ]
         ];
         written = line-more n text piece rest (chars piece) whole (encodes-chars piece p.utf8);
       }
@@ -124,7 +134,7 @@ module _ (n columns : ℕ) (text piece rest : List ℕ) (h : list_all is_letter_
 
 -- ---- lines of one column, each of which has one letter or U+FFFD in its place
 
-single : (c : ℕ) → (append_text 1 0 (unit_of_char c) ≡ shown 1 0 (unit_of_char c)) × (append_used 1 0 (unit_of_char c) ≡ 0 + char_count c)
+pub single : (c : ℕ) → (append_text 1 0 (unit_of_char c) ≡ shown 1 0 (unit_of_char c)) × (append_used 1 0 (unit_of_char c) ≡ 0 + char_count c)
 single c =
     let few = needed-le-line 1 (unit_of_char c) (lit< tt) in
     append_text-fits 1 0 (unit_of_char c) (le-leb (0 + needed 1 (unit_of_char c)) 1 (omega arith))
@@ -134,8 +144,7 @@ single-more : (c d : ℕ) (us : List TextUnit)
 single-more c d us =
     let rest = unit_of_char d ∷ us in
     let used = (single c).1 in
-    let need : 1 ≤ needed 1 (unit_of_char d) =
-    cond-cases (λ k. 1 ≤ k) (nat_le (char_count d) 1) (char_count d) 1 (λ _. count-some d) (λ _. omega arith) in
+    let need = needed-some 1 d (lit< tt) in
     ap (λ l. l ++ append_all 1 (append_used 1 0 (unit_of_char c)) rest) (single c).0
     ∙ ap (λ l. shown 1 0 (unit_of_char c) ++ l)
     (append_all-breaks 1 (append_used 1 0 (unit_of_char c)) (unit_of_char d) us (lit< tt) (omega (arith, used, count-some c, need)))

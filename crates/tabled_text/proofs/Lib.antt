@@ -1,8 +1,10 @@
 pub mod Basics
 pub mod Bridge
+pub mod ByteLines
 pub mod CountBound
 pub mod CutLemmas
 pub mod CutOnce
+pub mod CutText
 pub mod CutWhole
 pub mod Ends
 pub mod ExactLines
@@ -13,6 +15,8 @@ pub mod FittingLaws
 pub mod Joining
 pub mod LetterBytes
 pub mod LetterLemmas
+pub mod LetterLines
+pub mod LetterMeasures
 pub mod LetterPieces
 pub mod LineLaws
 pub mod Names
@@ -30,3 +34,4 @@ pub mod Within
 pub mod WordBreaks
 pub mod WrapKept
 pub mod WrapRoom
+pub mod WrappedText

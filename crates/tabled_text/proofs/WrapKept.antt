@@ -104,7 +104,7 @@ written-short n words line u le =
     sym (ap encode_utf8_all (line-short n words (chars line) (omega (arith, count_of-bytes line u))) ∙ encodes-chars line u)
 
 -- what is written of a text whose lines count at most n
-pending-short : (n : ℕ) (words : Bool) (cs : List ℕ) → All (λ l. count_of l ≤ n) (lines_of cs) → pending n words false (lines_of cs) ≡ cs
+pub pending-short : (n : ℕ) (words : Bool) (cs : List ℕ) → All (λ l. count_of l ≤ n) (lines_of cs) → pending n words false (lines_of cs) ≡ cs
 pending-short n words cs all =
     let b = begins (lines_of cs) (some_line cs) in
     ap (pending n words false) b.parts ∙ lines-short n words b.first b.rest (subst (All (λ l. count_of l ≤ n)) b.parts all)

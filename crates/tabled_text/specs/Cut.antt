@@ -1,8 +1,8 @@
 -- Cutting a text to n columns, defined by comparing all beginnings of the text. Beginnings are
 -- lists of characters; texts and answers are lists of bytes.
-use Rattle.std.specs.Prelude.{◌≡◌, ℕ, ◌-◌, ◌<◌, ◌≤◌, ◌==◌, List, [], ◌∷◌, ◌++◌, chars, length, take, drop, replicate, All, if◌then◌else◌}
-use Rattle.std.specs.Str.{IsUtf8}
-use Rattle.tabled_text.specs.Measure.{lines_of, count_of}
+use Rattle.std.specs.Prelude.{◌≡◌, ℕ, ◌+◌, ◌-◌, ◌<◌, ◌≤◌, ◌==◌, List, [], ◌∷◌, ◌++◌, chars, encode_utf8_all, length, nat_lt, take, drop, replicate, All, if◌then◌else◌}
+use Rattle.std.specs.Str.{IsCharBoundary, IsUtf8}
+use Rattle.tabled_text.specs.Measure.{char_count, count_of, lines_of, text_columns}
 
 abbrev pub last_of : List (List ℕ) → List ℕ
 last_of [] = []
@@ -68,3 +68,24 @@ pub record IsParted (n : ℕ) (text front : List ℕ) (missing : ℕ) (after : L
   pub longest : IsLongestReached n text front rest
   pub columns : missing ≡ missing_columns n front rest
   pub dropped : after ≡ following missing rest
+
+-- ---- the cut text as a function of the text
+
+-- what is left of characters behind the first `used` columns of a line: nothing as soon as a line
+-- has n columns, and U+FFFD in the columns left where a character would pass them
+abbrev pub cut_behind : ℕ → ℕ → List ℕ → List ℕ
+cut_behind n used [] = []
+cut_behind n used (c ∷ cs) =
+    if used == n then [] else
+    if c == 10 then c ∷ cut_behind n 0 cs else
+    if nat_lt n (used + char_count c) then replicate (n - used) 0xFFFD else
+    c ∷ cut_behind n (used + char_count c) cs
+
+abbrev pub cut_text : ℕ → List ℕ → List ℕ
+cut_text n text = encode_utf8_all (cut_behind n 0 (chars text))
+
+-- what is left of a text is its first bytes and so many U+FFFD, and takes n columns
+pub record IsCutAt (n : ℕ) (text : List ℕ) (bytes fills : ℕ) : Type 0 where
+  pub boundary : IsCharBoundary text bytes
+  pub same : cut_text n text ≡ take bytes text ++ encode_utf8_all (replicate fills 0xFFFD)
+  pub columns_are : n ≡ text_columns (cut_text n text)

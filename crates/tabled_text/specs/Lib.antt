@@ -4,6 +4,7 @@ pub mod Exact
 pub mod Fitting
 pub mod FramedLines
 pub mod Letters
+pub mod LineEnds
 pub mod Lines
 pub mod Longest
 pub mod Measure

@@ -1,12 +1,12 @@
 //! Cuts texts to n columns.
 ghost use Rattle.std.specs.Prelude.{◌≡◌, ◌++◌, ◌<◌, chars, length, replicate, take};
 ghost use Rattle.std.specs.Prelude.{encode_utf8_all, IfNone, IfOk, IfSome, IsUtf8, OnErr, OnOk};
-ghost use Rattle.std.specs.Prelude.{string_bytes};
+ghost use Rattle.std.specs.Prelude.{string_bytes, if◌then◌else◌};
 ghost use Rattle.std.specs.Str.{IsCharBoundary};
 ghost use Rattle.std.specs.Cow.{cow_str_bytes, IsOwnedStr};
-ghost use Rattle.tabled_text.specs.Cut.{AddsCut, IsCut, IsSplit, IsParted, NeedsFill};
+ghost use Rattle.tabled_text.specs.Cut.{AddsCut, IsCut, IsCutAt, IsSplit, IsParted, NeedsFill};
 
-use crate::character::split_count;
+use crate::character::{split_count, split_letter};
 use crate::letters::split_letters;
 use crate::runs::is_run;
 use crate::sink::append_copies;
@@ -119,6 +119,26 @@ pub fn cut_length(text: &str, n: usize) -> Option<usize>
     let (front, missing, _) = part(text, n);
     if missing == 0 {
         Some(front.len())
+    } else {
+        None
+    }
+}
+
+/// Returns the length in bytes of what `cut_str` leaves of a text that begins with more than n columns
+/// of letters, as `is_letter_text` knows them, or with n; and whether U+FFFD fills a last column.
+pub fn cut_letters(text: &str, n: usize) -> Option<(usize, bool)>
+    ensures { IfSome result (λ cut. IsCutAt n text.now cut.0 (if cut.1 then 1 else 0)) }
+{
+    let (_, mut columns, mut rest) = split_letters(text, n);
+    'letters: while let Some((count, after)) = split_letter(rest) {
+        if count > n - columns {
+            return Some((text.len() - rest.len(), columns < n));
+        }
+        columns += count;
+        rest = after;
+    }
+    if columns == n {
+        Some((text.len() - rest.len(), false))
     } else {
         None
     }

@@ -157,9 +157,24 @@ fn letter_blocks(bytes: &[u8], n: usize) -> (usize, usize)
     (at, columns)
 }
 
-/// Splits off letters at the front of a text that take at most n columns together. Returns their
-/// text, their columns and the rest, which may begin with more letters.
+/// Splits off letters at the front of a text that take at most n columns together, if it has a block
+/// of bytes. Returns their text, their columns and the rest, which may begin with more letters.
+#[inline(always)]
 pub(crate) fn split_letters(text: &str, n: usize) -> (&str, usize, &str)
+    ensures parts { text.now ≡ result.0.now ++ result.2.now }
+    ensures front { IsUtf8 result.0.now }
+    ensures rest { IsUtf8 result.2.now }
+    ensures letters { AreLetters result.0.now result.1 }
+    ensures fits { result.1 ≤ n }
+{
+    if text.len() < BLOCK {
+        return ("", 0, text);
+    }
+    split_blocks(text, n)
+}
+
+/// Splits off blocks of letters, and the rest of the last letter.
+fn split_blocks(text: &str, n: usize) -> (&str, usize, &str)
     ensures parts { text.now ≡ result.0.now ++ result.2.now }
     ensures front { IsUtf8 result.0.now }
     ensures rest { IsUtf8 result.2.now }

@@ -31,6 +31,7 @@ mod fewest_lines;
 pub mod general_laws;
 pub mod laws;
 mod letters;
+mod line_ends;
 mod measure;
 mod runs;
 mod sink;
@@ -39,9 +40,10 @@ mod wrap;
 pub use character::{
     is_additive, is_additive_column, is_plain, is_plain_column, is_separator_column,
 };
-pub use cut::{append_cut, cut_length, cut_str, split_str};
+pub use cut::{append_cut, cut_length, cut_letters, cut_str, split_str};
 pub use fewest_lines::is_fullest;
 pub use letters::is_letter_text;
+pub use line_ends::{LineEnds, first_line, measures_by_bytes, measures_in_place, wrapped_text_is};
 pub use measure::{
     TextLines, columns_between, count_lines, line_width, lines, split_line, tail_measures,
     text_measures, text_width,

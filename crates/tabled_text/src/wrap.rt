@@ -10,6 +10,7 @@ ghost use Rattle.tabled_text.specs.Letters.{is_letter_byte};
 ghost use Rattle.tabled_text.specs.Breaking.{unit_of_char, words_of, units, units_of_word};
 ghost use Rattle.tabled_text.specs.Breaking.{units_of_words, EachUnitFits, HasFewestLines};
 ghost use Rattle.tabled_text.specs.Breaking.{IsLeastBreaking};
+ghost use Rattle.tabled_text.specs.LineEnds.{wrapped_text};
 ghost use Rattle.tabled_text.specs.Wrapping.{IsWrapped};
 ghost use Rattle.tabled_text.specs.Walk.{BreaksAt, words_in, begin_at, begin_text, append_text};
 ghost use Rattle.tabled_text.specs.Walk.{append_used, append_all, used_after, pending};
@@ -226,7 +227,7 @@ fn append_printable<S: Sink>(
 /// Splits the first line off letters that are broken to n columns. Returns the line, its columns
 /// and the rest. The line of a letter that is wider than n columns is U+FFFD.
 #[inline(always)]
-fn split_letter_line(text: &str, n: usize) -> (&str, usize, &str)
+pub(crate) fn split_letter_line(text: &str, n: usize) -> (&str, usize, &str)
     requires some { 0 < n }
     requires letters { list_all is_letter_byte text.now ≡ true }
     ensures { IsLetterLine n text.now result.0.now result.1 result.2.now }
@@ -334,7 +335,7 @@ pub fn wrap_text(alloc: Global, text: &str, n: usize, words: bool) -> Result<Str
 }
 
 /// Whether a text is letters alone.
-fn is_letter_line(text: &str) -> bool
+pub(crate) fn is_letter_line(text: &str) -> bool
     ensures { result ≡ true → list_all is_letter_byte text.now ≡ true }
 {
     let bytes = text.as_bytes();
@@ -364,6 +365,7 @@ pub fn wrap_into(
     words: bool,
 ) -> Result<(usize, usize), AllocError>
     ensures wrapped { OnOk result (IsWrapped n words text.now (string_bytes out.new)) }
+    ensures text { OnOk result (string_bytes out.new ≡ wrapped_text n words text.now) }
     ensures columns { IfOk result (λ answer. answer.0 ≡ text_columns (string_bytes out.new)) }
     ensures lines { IfOk result (λ answer. answer.1 ≡ length (lines_of (string_bytes out.new))) }
     ensures memory { OnErr result ((0 < n) × (0 < length text.now)) }

@@ -5,9 +5,9 @@ ghost use Rattle.tabled_table.specs.Stream.Row.{layout_columns, layout_row, widt
 
 use crate::iter_table::layout::Layout;
 use crate::iter_table::settings::StreamSettings;
-use tabled_base::CellText;
+use tabled_base::{CellText, Content};
 use tabled_config::{Frame, RowStyles};
-use tabled_line::{ColumnSeparator, Content, KnownPlacements, Row, TableColumns};
+use tabled_line::{ColumnSeparator, KnownPlacements, Row, TableColumns};
 
 /// The columns of a stream, whose widths are in range, and what else stays the same while its lines
 /// are printed.
@@ -94,11 +94,7 @@ impl<'a, C: CellText> Row<'a> for CutRow<'a, C> {
         let Some(cell) = self.cells.get(column) else {
             return Content::new("");
         };
-        Content {
-            text: cell.text(),
-            columns: cell.width(),
-            lines: cell.count_lines(),
-        }
+        Content::measured(cell.text(), cell.width(), cell.count_lines())
     }
 
     fn count_drawn(&self) -> usize {

@@ -1,6 +1,6 @@
-use Rattle.tabled.proofs.Names.{AreCleared, Buffered, Cells, Cut, IsMade, Memory, None, Plan, Range, Row, Sheet, Shortened, Some, TableError}
+use Rattle.tabled.proofs.Names.{AreCleared, Buffered, Cut, IsMade, Memory, None, Plan, Range, Row, Sheet, Shortened, Some, TableError}
 use Rattle.tabled.proofs.Names.{Wrapped, [], ap, arith, effective, effective_estimated, estimated, false, measured, refl, rules, subst, sym}
-use Rattle.tabled.proofs.Names.{unwrap_or, ⊎_elim, ◌∙◌, ◌≡◌, ◌⊎◌}
+use Rattle.tabled.proofs.Names.{⊎_elim, ◌∙◌, ◌≡◌, ◌⊎◌}
 use Rattle.std.proofs.lemmas.Grind.{common_steps}
 use Rattle.tabled_set.specs.NarrowedCells.{cells_of_or}
 use Rattle.tabled.proofs.FittedTables.{passes, truncated, wrapped}
@@ -23,12 +23,12 @@ returns-in_err-truncated-in-Shortened-clause-range c =
     (out_of_range _ _ _ c.in_err-truncated-in-Shortened.ensures.only
     (λ over. (over.0, passes _ _ c.args.config.now c.args.sizes.now c.requires.no_widths c.requires.no_heights over)))
 
-pub returns-in-Some-clause-made : goal.returns-in-Some-clause-made
-returns-in-Some-clause-made c =
+pub returns-in_ok-wrapped-in-Wrapped-clause-made : goal.returns-in_ok-wrapped-in-Wrapped-clause-made
+returns-in_ok-wrapped-in-Wrapped-clause-made c =
     let cells = c.args.rows.now in
-    let after = unwrap_or c.in_ok-wrapped-in-Wrapped.wrapped cells in
+    let after = cells_of_or c.in_ok-wrapped-in-Wrapped.wrapped cells in
     let none = c.args.sizes.now in
-    let left = c.narrowed.new.dims in
+    let left = c.narrowed_rows.new.dims in
     let last = c.clear_height.new.self in
     let w = c.priority-wrap.result in
     let start : w.priority.round.kept ≡ 0 = first_of (search rules, grind (arith, common_steps)) in
@@ -38,33 +38,14 @@ returns-in-Some-clause-made c =
     let cleared : AreCleared (Some (Row 0)) left last = record { widths = c.clear_height.ensures.widths; heights = c.clear_height.ensures.heights } in
     let made = wrapped w.priority start w.size cells after config none left last c.requires.no_widths c.requires.no_heights
     c.requires.rectangular c.requires.texts w.transform.keep_words c.in_ok-wrapped-in-Wrapped.ensures.ok cleared (c.in_ok-wrapped-in-Wrapped.ensures.promised last cleared) in
-    subst (λ (k : Cells). IsMade (measured c.args.plan) (estimated cells config) (effective k config last)) (ap (λ found. unwrap_or found cells) c.in-Some.is)
-    (subst (λ (p : Plan). IsMade p (estimated cells config) (effective after config last)) (plan ∙ sym (ap measured c.in-Wrapped.is)) made)
-
-pub returns-in_default-clause-made : goal.returns-in_default-clause-made
-returns-in_default-clause-made c =
-    let cells = c.args.rows.now in
-    let after = unwrap_or c.in_ok-wrapped-in-Wrapped.wrapped cells in
-    let none = c.args.sizes.now in
-    let left = c.narrowed.new.dims in
-    let last = c.clear_height.new.self in
-    let w = c.priority-wrap.result in
-    let start : w.priority.round.kept ≡ 0 = first_of (search rules, grind (arith, common_steps)) in
-    let plan : Wrapped w.size w.transform.keep_words w.priority.order ≡ Wrapped c.in-Wrapped.target c.in-Wrapped.words c.in-Wrapped.order =
-    first_of (search rules, grind (arith, common_steps)) in
-    let config = c.args.config.now in
-    let cleared : AreCleared (Some (Row 0)) left last = record { widths = c.clear_height.ensures.widths; heights = c.clear_height.ensures.heights } in
-    let made = wrapped w.priority start w.size cells after config none left last c.requires.no_widths c.requires.no_heights
-    c.requires.rectangular c.requires.texts w.transform.keep_words c.in_ok-wrapped-in-Wrapped.ensures.ok cleared (c.in_ok-wrapped-in-Wrapped.ensures.promised last cleared) in
-    subst (λ (k : Cells). IsMade (measured c.args.plan) (estimated cells config) (effective k config last)) (ap (λ found. unwrap_or found cells) c.in_default.is)
-    (subst (λ (p : Plan). IsMade p (estimated cells config) (effective after config last)) (plan ∙ sym (ap measured c.in-Wrapped.is)) made)
+    subst (λ (p : Plan). IsMade p (estimated cells config) (effective after config last)) (plan ∙ sym (ap measured c.in-Wrapped.is)) made
 
 pub returns-in_ok-truncated-in-Shortened-clause-made : goal.returns-in_ok-truncated-in-Shortened-clause-made
 returns-in_ok-truncated-in-Shortened-clause-made c =
     let cells = c.args.rows.now in
     let after = cells_of_or c.in_ok-truncated-in-Shortened.truncated cells in
     let none = c.args.sizes.now in
-    let last = c.narrowed-in-Shortened.new.dims in
+    let last = c.narrowed.new.dims in
     let w = c.priority-truncate.result in
     let start : w.priority.round.kept ≡ 0 = first_of (search rules, grind (arith, common_steps)) in
     let suffix : w.transform.suffix.now ≡ [] = first_of (search rules, grind (arith, common_steps)) in

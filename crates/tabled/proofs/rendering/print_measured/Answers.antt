@@ -15,6 +15,17 @@ returns-in-Some-Cut g c =
     prints_made (measured c.args.plan) whole (not (is_stored sizes)) (effective c.in-Some-Cut.cells config sizes) (g.S.TextSink.sent c.args.sink.now)
     c.print_standing.result (g.S.TextSink.sent c.print_standing.new.sink) made c.print_standing.ensures
 
+pub returns-in-Some-Wrapped : goal.returns-in-Some-Wrapped
+returns-in-Some-Wrapped g c =
+    let cells = c.args.rows.now in
+    let sizes = c.narrow.new.sizes in
+    let config = c.args.config.now in
+    let whole = estimated cells config in
+    let made = subst (λ (o : Option NarrowedRows). IsMade (measured c.args.plan) whole (effective (cells_of_or o cells) config sizes))
+    (c.in-Some-Wrapped.is ∙ ap Some c.in-Some-Wrapped.field-0-is) c.in_ok-cells.ensures.made in
+    prints_made (measured c.args.plan) whole (not (is_stored sizes)) (effective c.in-Some-Wrapped.cells config sizes) (g.S.TextSink.sent c.args.sink.now)
+    c.print_standing-in-Some-Wrapped.result (g.S.TextSink.sent c.print_standing-in-Some-Wrapped.new.sink) made c.print_standing-in-Some-Wrapped.ensures
+
 pub returns-in-Some-Made : goal.returns-in-Some-Made
 returns-in-Some-Made g c =
     let cells = c.args.rows.now in

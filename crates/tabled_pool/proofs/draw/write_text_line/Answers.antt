@@ -1,4 +1,5 @@
 use Rattle.tabled_pool.proofs.Names.{append_assoc, coloured, finished, further, indent, marks_of, refl, stopped, stopped-first, sym}
+use Rattle.tabled_base.specs.Content.{content_text}
 use Rattle.tabled_pool.proofs.PlainBlocks.{bare-text_line}
 use Rattle.tabled_pool.specs.Colours.{mark_of}
 use Rattle.tabled_pool.proofs.draw.write_text_line.Goals as goal
@@ -21,5 +22,5 @@ returns g c =
 pub returns-then-are_uncolored_sides : goal.returns-then-are_uncolored_sides
 returns-then-are_uncolored_sides g c =
     let cell = c.args.cell.now in
-    rw (bare-text_line cell.style (marks_of c.args.colors.now) cell.width cell.content.text.now c.args.line.now
+    rw (bare-text_line cell.style (marks_of c.args.colors.now) cell.width (content_text cell.content) c.args.line.now
     (c.are_uncolored_sides.ensures.0 c.if-are_uncolored_sides.true)) c.write_text_line.ensures

@@ -3,6 +3,7 @@ use Rattle.tabled_size.proofs.Names.{needed_width, row_height, slice_index, ℕ,
 use Rattle.std.proofs.Common.{set}
 use Rattle.std.proofs.lemmas.Grind.{get_or-set_at}
 use Rattle.std.proofs.lemmas.List.{get_or-set_other}
+use Rattle.tabled_base.proofs.Contents.{content-columns, content-lines}
 use Rattle.tabled_size.proofs.Greatest.{greatest_below, greatest_more}
 use Rattle.tabled_size.proofs.Passing.{added_passes, if_none}
 use Rattle.tabled_size.proofs.estimate.measure_row.Goals as goal
@@ -32,9 +33,9 @@ columns-preserved g c =
     let inside : column < columns cells = omega (arith, c.columns-test.true, c.count_columns-column-end.ensures.columns) in
     let same = c.in_ok-extent.ensures.some ∙ c.requires.known.at column inside in
     let width : c.in_ok-width.width ≡ needed_width cells c.args.config.now c.args.row column =
-    omega (arith, c.in_ok-width.ensures.1, c.get_measured-columns.ensures.columns, ap (λ (e : Extent). e.columns) same) in
+    omega (arith, c.in_ok-width.ensures.1, content-columns c.content-cell.result _ c.content-cell.ensures, ap (λ (e : Extent). e.columns) same) in
     let height : c.in_ok-height.height ≡ needed_height cells c.args.config.now c.args.row column =
-    omega (arith, c.in_ok-height.ensures.1, c.get_measured-columns.ensures.lines, ap (λ (e : Extent). e.lines) same) in
+    omega (arith, c.in_ok-height.ensures.1, content-lines c.content-cell.result _ c.content-cell.ensures, ap (λ (e : Extent). e.lines) same) in
     let more = greatest_more (needed_height cells c.args.config.now c.args.row) column in
     record {
       raised = raised-more c.args.widths.now c.columns.widths (needed_width cells c.args.config.now c.args.row) column c.max.result
@@ -70,7 +71,7 @@ returns-in_err-width-clause-none g c =
     let inside : c.columns.column < columns cells = omega (arith, c.columns-test.true, c.count_columns-column-end.ensures.columns) in
     let same = c.in_ok-extent.ensures.some ∙ c.requires.known.at c.columns.column inside in
     let past : 2 ^ 64 ≤ needed_width cells c.args.config.now c.args.row c.columns.column =
-    omega (arith, c.in_err-width.ensures, c.get_measured-columns.ensures.columns, ap (λ (e : Extent). e.columns) same) in
+    omega (arith, c.in_err-width.ensures, content-columns c.content-cell.result _ c.content-cell.ensures, ap (λ (e : Extent). e.columns) same) in
     if_none c.from_residual-in_err-width.result
     (inl (record { row = c.args.row; column = c.columns.column; row_in = c.requires.row_in; column_in = inside; out_of_range = past }))
 
@@ -80,6 +81,6 @@ returns-in_err-height-clause-none g c =
     let inside : c.columns.column < columns cells = omega (arith, c.columns-test.true, c.count_columns-column-end.ensures.columns) in
     let same = c.in_ok-extent.ensures.some ∙ c.requires.known.at c.columns.column inside in
     let past : 2 ^ 64 ≤ needed_height cells c.args.config.now c.args.row c.columns.column =
-    omega (arith, c.in_err-height.ensures, c.get_measured-columns.ensures.lines, ap (λ (e : Extent). e.lines) same) in
+    omega (arith, c.in_err-height.ensures, content-lines c.content-cell.result _ c.content-cell.ensures, ap (λ (e : Extent). e.lines) same) in
     if_none c.from_residual-in_err-height.result
     (inr (record { row = c.args.row; column = c.columns.column; row_in = c.requires.row_in; column_in = inside; out_of_range = past }))

@@ -11,8 +11,8 @@ split_at-requires c =
 pub returns-then-n-gt1 : goal.returns-then-n-gt1
 returns-then-n-gt1 c =
     let piece = c.split_piece.result in
-    letter-piece c.args.n piece.1 c.args.text.now piece.0.now piece.2.now c.requires.letters c.split_piece.ensures.piece (omega arith)
-    c.split_piece.ensures.most
+    letter-piece c.args.n piece.1 c.args.text.now piece.0.now piece.2.now c.requires.letters c.split_piece.ensures.piece
+    c.requires.some (λ small. absurd (omega arith)) c.split_piece.ensures.most
 
 pub returns-in_default : goal.returns-in_default
 returns-in_default c = letter-none c.args.n c.args.text.now c.utf8.text c.in_default.ensures

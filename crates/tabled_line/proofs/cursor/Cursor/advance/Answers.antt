@@ -1,6 +1,6 @@
 use Rattle.tabled_line.proofs.Names.{[], ap, arith, drop, lines_of, sym, ◌+◌, ◌-◌, ◌∙◌, ◌≡◌}
-use Rattle.tabled_text.specs.Lines.{lines_in}
-use Rattle.tabled_line.proofs.Moving.{drop-next, drop-past, line-at, no-line-at}
+use Rattle.tabled_text.specs.LineEnds.{ended_lines}
+use Rattle.tabled_base.proofs.PassedLines.{drop-next, drop-past, line-at, no-line-at}
 use Rattle.tabled_line.proofs.cursor.Cursor.advance.Goals as goal
 
 pub returns-then-self-gt0 : goal.returns-then-self-gt0
@@ -21,11 +21,11 @@ pub returns-in_default : goal.returns-in_default
 returns-in_default c text above index h =
     let none = c.if-self-gt0.false in
     let next : index - above + 1 ≡ index + 1 - above = omega (arith, h.above_is, none) in
-    let past : [] ≡ drop (index - above) (lines_of text) = sym (ap lines_in c.in_default.is) ∙ h.rest_is in
+    let past : [] ≡ drop (index - above) (lines_of text) = sym (ap (ended_lines c.args.self.now.ends) c.in_default.is) ∙ h.rest_is in
     record {
       ahead = record {
         above_is = omega (arith, h.above_is, none);
-        rest_is = ap lines_in c.in_default.is ∙ drop-past (lines_of text) (index - above) past ∙ ap (λ k. drop k (lines_of text)) next;
+        rest_is = ap (ended_lines c.args.self.now.ends) c.in_default.is ∙ drop-past (lines_of text) (index - above) past ∙ ap (λ k. drop k (lines_of text)) next;
         widest_is = h.widest_is;
       };
       line_is = λ _. no-line-at (lines_of text) (index - above) past;
@@ -36,8 +36,8 @@ pub returns : goal.returns
 returns c text above index h =
     let none = c.if-self-gt0.false in
     let next : index - above + 1 ≡ index + 1 - above = omega (arith, h.above_is, none) in
-    let line = c.next_line-columns.result.0.now in
-    let left = sym c.next_line-columns.ensures.lines ∙ ap lines_in (sym c.in-Some.is) ∙ h.rest_is in
+    let line = c.first_line-columns.result.0.now in
+    let left = sym c.first_line-columns.ensures.lines ∙ ap (ended_lines c.args.self.now.ends) (sym c.in-Some.is) ∙ h.rest_is in
     record {
       ahead = record {
         above_is = omega (arith, h.above_is, none);
@@ -45,5 +45,5 @@ returns c text above index h =
         widest_is = h.widest_is;
       };
       line_is = λ _. line-at (lines_of text) (index - above) line _ left;
-      columns_are = c.next_line-columns.ensures.columns;
+      columns_are = c.first_line-columns.ensures.takes;
     }

@@ -7,7 +7,7 @@ returns g c =
     let row = c.args.self.now in
     let at = c.in-Some.ensures.lookup in
     let texts = map g.C.CellText.text row.cells.now in
-    c.text.ensures ∙ ap g.C.CellText.text at.1
+    c.measured.ensures ∙ c.text.ensures ∙ ap g.C.CellText.text at.1
     ∙ sym (filled-at texts (row.layout.now.count - length texts) c.args.column
     ∙ get_or-map g.C.CellText.text row.cells.now c.args.column c.in-Some.cell.now [] at.3.0)
 
