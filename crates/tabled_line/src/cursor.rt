@@ -41,6 +41,7 @@ impl<'a> Cursor<'a> {
     }
 
     /// Returns the cursor of a text in the first line of a row. `above` lines come before the text.
+    #[inline(always)]
     pub(crate) fn new(content: &Content<'a>, above: usize) -> Cursor<'a>
         ensures { IsAt (content_text content.now) above 0 result }
     {
@@ -70,14 +71,22 @@ impl<'a> Cursor<'a> {
         ensures { (text : List ℕ) (above index : ℕ) → IsAhead text above index self.old
             → IsAt text above index self.new }
     {
-        self.line = None;
         if self.above > 0 {
             self.above -= 1;
+            self.line = None;
             return;
         }
         let Some(text) = self.rest else {
+            self.line = None;
             return;
         };
+        if let LineEnds::Bytes(n) = self.ends {
+            // The common case has a way of its own, so that its parts stay in registers.
+            let (line, columns, rest) = first_line(text, LineEnds::Bytes(n));
+            self.line = Some((line, columns));
+            self.rest = rest;
+            return;
+        }
         let (line, columns, rest) = first_line(text, self.ends);
         self.line = Some((line, columns));
         self.rest = rest;
