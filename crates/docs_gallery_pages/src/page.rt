@@ -224,7 +224,7 @@ fn add_boxes(page: &mut String) -> Result<(), TableError> {
 fn add_streams(page: &mut String) -> Result<(), TableError> {
     draw!(page;
         streams::whole, streams::sniffed, streams::marked, streams::sized, streams::limited,
-        streams::aligned)
+        streams::aligned, streams::fallible)
 }
 
 fn add_compact(page: &mut String) -> Result<(), TableError> {

@@ -78,7 +78,13 @@ pub mod tables {
     pub use tabled_table::{IterTable, Table};
 }
 
-/// Where the batches of a range of rows begin.
+/// Rows that may fail, and where the batches of a range of rows begin.
+///
+/// ```rust
+/// let table = IterTable::new(TryRows::new(results.into_iter()));
+/// let (printed, read) = table.try_fmt(alloc, &mut text);
+/// printed?;
+/// ```
 ///
 /// ```rust
 /// for begin in LayoutIterator::new(0, 5, 2) {
@@ -86,6 +92,7 @@ pub mod tables {
 /// }
 /// ```
 pub mod iter {
+    pub use tabled_records::TryRows;
     pub use tabled_table::LayoutIterator;
 }
 

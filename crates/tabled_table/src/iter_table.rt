@@ -17,6 +17,7 @@ mod marked;
 mod row;
 mod settings;
 mod stream;
+mod try_rows;
 
 use crate::iter_table::first_rows::print_stream;
 use crate::iter_table::settings::StreamSettings;

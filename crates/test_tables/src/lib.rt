@@ -48,3 +48,5 @@ mod sized;
 mod texts;
 #[cfg(test)]
 mod word_wraps;
+#[cfg(test)]
+mod try_rows;
