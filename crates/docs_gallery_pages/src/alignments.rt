@@ -1,19 +1,27 @@
-//! Alignments. They are settings of the configuration, for the whole table, a row, a column or a cell; the latest that covers a cell
+//! Alignments. They are options for the whole table or a part of it, and settings of the configuration; the latest that covers a cell
 //! holds.
 
-use tabled::grid::config::{AlignmentHorizontal, AlignmentVertical, Entity};
+use tabled::grid::config::{AlignmentHorizontal, Entity};
+use tabled::settings::Alignment;
+use tabled::settings::object::{Columns, Rows};
 use tabled::{Table, TableError};
 
 /// Numbers at the right.
 pub fn right(table: &mut Table) -> Result<(), TableError> {
+    table.modify(Columns::one(1), Alignment::right())?;
+    Ok(())
+}
+
+/// The same as a setting of the configuration.
+pub fn right_setting(table: &mut Table) -> Result<(), TableError> {
     let config = table.get_config_mut().as_mut();
     config.set_alignment_horizontal(Entity::Column(1), AlignmentHorizontal::Right)
 }
 
 /// All in the middle; an odd space stands at the right.
 pub fn center(table: &mut Table) -> Result<(), TableError> {
-    let config = table.get_config_mut().as_mut();
-    config.set_alignment_horizontal(Entity::Global, AlignmentHorizontal::Center)
+    table.with(Alignment::center())?;
+    Ok(())
 }
 
 /// A column at the right, but for its first cell, which is set later.
@@ -38,12 +46,12 @@ pub fn lines(table: &mut Table) -> Result<(), TableError> {
 
 /// Half way down.
 pub fn middle(table: &mut Table) -> Result<(), TableError> {
-    let config = table.get_config_mut().as_mut();
-    config.set_alignment_vertical(Entity::Global, AlignmentVertical::Center)
+    table.with(Alignment::center_vertical())?;
+    Ok(())
 }
 
 /// At the bottom.
 pub fn bottom(table: &mut Table) -> Result<(), TableError> {
-    let config = table.get_config_mut().as_mut();
-    config.set_alignment_vertical(Entity::Row(0), AlignmentVertical::Bottom)
+    table.modify(Rows::first(), Alignment::bottom())?;
+    Ok(())
 }

@@ -4,11 +4,12 @@ ghost use Rattle.std.specs.Prelude.{◌∷◌, [], codes, ⊤};
 use std::alloc::Global;
 use std::borrow::CowStr;
 use tabled::builder::Builder;
-use tabled::grid::config::{AlignmentHorizontal, Borders, Entity, HorizontalLine, Position};
+use tabled::grid::config::{Borders, Position};
 use tabled::grid::records::{ExactRecords, PeekableRecords, RecordsMut};
 use tabled::grid::util::string::line_width;
+use tabled::settings::object::Columns;
 use tabled::settings::peaker::Priority;
-use tabled::settings::{Padding, Style, Width};
+use tabled::settings::{Alignment, Padding, Style, Width};
 use tabled::tables::ExtendedTable;
 use tabled::{IoSink, Table, TableError, Tabled};
 
@@ -111,7 +112,7 @@ pub fn dressed(table: &mut Table) -> Result<(), TableError> {
     Ok(())
 }
 
-/// Another style.
+/// The borders of a style, some of them replaced.
 pub fn rounded(table: &mut Table) -> Result<(), TableError> {
     let config = table.get_config_mut().as_mut();
     config.set_borders(Borders {
@@ -126,22 +127,10 @@ pub fn rounded(table: &mut Table) -> Result<(), TableError> {
 
 /// A frame, one horizontal line, below the header, and numbers at the right.
 pub fn one_line(table: &mut Table) -> Result<(), TableError> {
-    let config = table.get_config_mut().as_mut();
-    config.set_borders(Borders {
-        left_intersection: None,
-        horizontal: None,
-        intersection: None,
-        right_intersection: None,
-        ..Style::modern().get_borders()
-    });
-    let below_header = HorizontalLine {
-        main: Some('─'),
-        left: Some('├'),
-        intersection: Some('┼'),
-        right: Some('┤'),
-    };
-    config.insert_horizontal_line(1, below_header)?;
-    config.set_alignment_horizontal(Entity::Column(1), AlignmentHorizontal::Right)
+    table
+        .with(Style::sharp())?
+        .modify(Columns::one(1), Alignment::right())?;
+    Ok(())
 }
 
 /// A text that is changed by hand. What is stored of sizes is forgotten by `clear`.

@@ -1,7 +1,7 @@
 //! Parts of a table. What an option is to change is named by an object; these get a padding of marks.
 
-use tabled::settings::Padding;
 use tabled::settings::object::{Cell, Columns, Rows, Segment};
+use tabled::settings::{Alignment, Modify, Padding, Settings};
 use tabled::{Table, TableError};
 
 fn marks() -> Padding {
@@ -54,5 +54,24 @@ pub fn segment(table: &mut Table) -> Result<(), TableError> {
 /// What lies outside isn't named.
 pub fn outside(table: &mut Table) -> Result<(), TableError> {
     table.modify(Rows::one(7), marks())?;
+    Ok(())
+}
+
+/// Two parts, one behind the other.
+pub fn union(table: &mut Table) -> Result<(), TableError> {
+    table.modify(Cell::new(0, 0).and(Columns::last()), marks())?;
+    Ok(())
+}
+
+/// A part and its option, as an option of the table.
+pub fn modified(table: &mut Table) -> Result<(), TableError> {
+    table.with(Modify::new(Columns::last()).with(Alignment::right()))?;
+    Ok(())
+}
+
+/// Several options as one.
+pub fn settings(table: &mut Table) -> Result<(), TableError> {
+    let narrow = Settings::new(Padding::zero(), Alignment::right());
+    table.modify(Rows::first(), narrow)?;
     Ok(())
 }

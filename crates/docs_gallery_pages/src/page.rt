@@ -78,6 +78,7 @@ fn add(
 
 fn add_settings(page: &mut String, table: &mut Table) -> Result<(), TableError> {
     add_styles(page, table)?;
+    add_removals(page, table)?;
     add_alignments(page, table)?;
     add_center(page, table)?;
     add_block_alignments(page, table)?;
@@ -113,12 +114,21 @@ fn add_printers(page: &mut String) -> Result<(), TableError> {
 
 fn add_styles(page: &mut String, table: &mut Table) -> Result<(), TableError> {
     show!(page, table, Sample::Cities;
-        styles::ascii, styles::modern, styles::extended, styles::markdown, styles::psql,
-        styles::empty)
+        styles::ascii, styles::modern, styles::sharp, styles::rounded, styles::modern_rounded,
+        styles::extended, styles::markdown, styles::psql, styles::re_structured_text,
+        styles::ascii_rounded, styles::blank, styles::empty)
+}
+
+fn add_removals(page: &mut String, table: &mut Table) -> Result<(), TableError> {
+    show!(page, table, Sample::Cities;
+        styles::without_horizontal, styles::without_horizontals, styles::without_vertical,
+        styles::without_frame, styles::without_sides, styles::without_ends, styles::horizontals,
+        styles::own_line)
 }
 
 fn add_alignments(page: &mut String, table: &mut Table) -> Result<(), TableError> {
-    show!(page, table, Sample::Cities; alignments::right, alignments::latest)
+    show!(page, table, Sample::Cities;
+        alignments::right, alignments::right_setting, alignments::latest)
 }
 
 fn add_center(page: &mut String, table: &mut Table) -> Result<(), TableError> {
@@ -142,7 +152,8 @@ fn add_margins(page: &mut String, table: &mut Table) -> Result<(), TableError> {
 
 fn add_widths(page: &mut String, table: &mut Table) -> Result<(), TableError> {
     show!(page, table, Sample::Notes;
-        widths::wrapped, widths::widest, widths::words, widths::truncated)
+        widths::wrapped, widths::widest, widths::words, widths::spaces_dropped,
+        widths::truncated)
 }
 
 fn add_suffixes(page: &mut String, table: &mut Table) -> Result<(), TableError> {
@@ -193,25 +204,33 @@ fn add_objects(page: &mut String, table: &mut Table) -> Result<(), TableError> {
 }
 
 fn add_segments(page: &mut String, table: &mut Table) -> Result<(), TableError> {
-    show!(page, table, Sample::Cities; objects::whole, objects::segment, objects::outside)
+    show!(page, table, Sample::Cities;
+        objects::whole, objects::segment, objects::outside, objects::union, objects::modified,
+        objects::settings)
 }
 
 fn add_tables(page: &mut String) -> Result<(), TableError> {
     draw!(page;
-        printers::asked_for, printers::named, printers::key_values, printers::records,
-        printers::narrow_records)
+        printers::asked_for, printers::titled, printers::named, printers::key_values,
+        printers::records, printers::narrow_records)
 }
 
 fn add_boxes(page: &mut String) -> Result<(), TableError> {
-    draw!(page; printers::pool, printers::boxes, printers::boxes_last, printers::marked)
+    draw!(page;
+        printers::pool, printers::pool_centered, printers::boxes, printers::boxes_last,
+        printers::marked)
 }
 
 fn add_streams(page: &mut String) -> Result<(), TableError> {
-    draw!(page; streams::whole, streams::sniffed, streams::sized, streams::limited)
+    draw!(page;
+        streams::whole, streams::sniffed, streams::marked, streams::sized, streams::limited,
+        streams::aligned, streams::fallible)
 }
 
 fn add_compact(page: &mut String) -> Result<(), TableError> {
-    draw!(page; streams::fitting, streams::compact, streams::window, streams::overfull)
+    draw!(page;
+        streams::fitting, streams::fitting_right, streams::compact, streams::window,
+        streams::overfull)
 }
 
 fn add_rows(page: &mut String) -> Result<(), TableError> {

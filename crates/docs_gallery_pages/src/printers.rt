@@ -5,7 +5,7 @@ use std::alloc::Global;
 use tabled::grid::ansi::ANSIStr;
 use tabled::grid::config::{AlignmentHorizontal, CompactMultilineConfig, Sides};
 use tabled::grid::dimension::{DimensionPriority, PoolTableDimension};
-use tabled::settings::{Padding, Style};
+use tabled::settings::{Alignment, Padding, Settings, Style, Width};
 use tabled::tables::{ExtendedTable, PoolTable, TableValue};
 use tabled::{Table, TableError};
 
@@ -33,6 +33,24 @@ pub fn asked_for(alloc: Global) -> Result<String, TableError> {
     let mut text = String::new(alloc);
     let centered = Some(AlignmentHorizontal::Center);
     table.print_with(&mut text, Some(18), centered, '*')?;
+    Ok(text)
+}
+
+/// A title above a table: a table of one cell, wrapped and aligned to the total width of the other.
+pub fn titled(alloc: Global) -> Result<String, TableError> {
+    let table = Table::nohead(alloc, [("Paris", "France"), ("Rome", "Italy")])?;
+    let total = table.total_width()?;
+    let mut title = Table::nohead(alloc, ["Capitals of Europe"])?;
+    title
+        .with(Style::empty())?
+        .with(Padding::zero())?
+        .with(Width::wrap(total).keep_words(true))?;
+
+    let mut text = String::new(alloc);
+    let centered = Some(AlignmentHorizontal::Center);
+    title.print_with(&mut text, Some(total), centered, ' ')?;
+    text.push_str("\n")?;
+    table.write_to(&mut text)?;
     Ok(text)
 }
 
@@ -68,6 +86,16 @@ pub fn pool(alloc: Global) -> Result<String, TableError> {
     rows.push(vec![in alloc; "three capitals of Europe"]?)?;
     let mut table = PoolTable::new(alloc, rows)?;
     table.with(Style::modern())?;
+    table.to_text()
+}
+
+/// Texts in the middle of their boxes, under a style.
+pub fn pool_centered(alloc: Global) -> Result<String, TableError> {
+    let mut rows = Vec::new(alloc);
+    rows.push(vec![in alloc; "Paris", "Rome"]?)?;
+    rows.push(vec![in alloc; "two capitals of Europe"]?)?;
+    let mut table = PoolTable::new(alloc, rows)?;
+    table.with(Settings::new(Style::modern(), Alignment::center()))?;
     table.to_text()
 }
 

@@ -3,7 +3,8 @@
 
 use std::alloc::Global;
 use tabled::TableError;
-use tabled::settings::Style;
+use tabled::iter::TryRows;
+use tabled::settings::{Alignment, Settings, Style};
 use tabled::tables::{CompactTable, IterTable};
 
 const CITIES: [[&str; 2]; 3] = [
@@ -25,6 +26,13 @@ pub fn sniffed(alloc: Global) -> Result<String, TableError> {
     table.to_string(alloc)
 }
 
+/// A mark ends each cell that is cut.
+pub fn marked(alloc: Global) -> Result<String, TableError> {
+    let mut table = IterTable::new(CITIES);
+    table.sniff(1).cut_mark('…');
+    table.to_string(alloc)
+}
+
 /// A width for the texts of all columns, and a height for all rows.
 pub fn sized(alloc: Global) -> Result<String, TableError> {
     let mut table = IterTable::new(CITIES);
@@ -39,10 +47,36 @@ pub fn limited(alloc: Global) -> Result<String, TableError> {
     table.to_string(alloc)
 }
 
+/// Two options as one: a style, and all texts at the right.
+pub fn aligned(alloc: Global) -> Result<String, TableError> {
+    let mut table = IterTable::new(CITIES);
+    table.with(Settings::new(Style::modern(), Alignment::right()))?;
+    table.to_string(alloc)
+}
+
+/// Rows that may fail: those before the first error are printed, and the error is returned.
+pub fn fallible(alloc: Global) -> Result<String, TableError> {
+    let results = [Ok(CITIES[0]), Err("connection lost"), Ok(CITIES[2])];
+    let mut text = String::new(alloc);
+    let table = IterTable::new(TryRows::new(results.into_iter()));
+    let (printed, read) = table.try_fmt(alloc, &mut text);
+    printed?;
+    if let Err(error) = read {
+        write!(text, "\n{error}")?;
+    }
+    Ok(text)
+}
+
 /// An array is measured beforehand: each column is as wide as its widest cell.
 pub fn fitting(alloc: Global) -> Result<String, TableError> {
     let table = CompactTable::from(CITIES);
     table.with(Style::psql())?.to_string(alloc)
+}
+
+/// The same, with all texts at the right.
+pub fn fitting_right(alloc: Global) -> Result<String, TableError> {
+    let table = CompactTable::from(CITIES);
+    table.with(Alignment::right())?.to_string(alloc)
 }
 
 /// A width for each column.

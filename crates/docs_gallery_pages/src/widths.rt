@@ -26,6 +26,13 @@ pub fn words(table: &mut Table) -> Result<(), TableError> {
     Ok(())
 }
 
+/// A line feed takes the place of the space at which a line is broken.
+pub fn spaces_dropped(table: &mut Table) -> Result<(), TableError> {
+    let narrow = Width::wrap(20).drop_spaces();
+    table.with(narrow.priority(Priority::max(true)))?;
+    Ok(())
+}
+
 /// Cut.
 pub fn truncated(table: &mut Table) -> Result<(), TableError> {
     table.with(Width::truncate(24).priority(Priority::max(true)))?;

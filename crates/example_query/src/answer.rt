@@ -5,25 +5,23 @@ ghost use Rattle.std.specs.Iterator.{at_most};
 ghost use Rattle.std.specs.Vec.Iter.{into_iter_len};
 
 use crate::cells::{columns_of, text_of, truncated};
-use anyhow::{Error, Result};
+use anyhow::Result;
 use sqlite::{Alter, Connection, Row, Rows, Statement};
 use std::alloc::{AllocError, Global};
 use std::str::from_utf8;
 use std::vec::IntoIter;
 use tabled::grid::util::string::{line_width, lines};
 
-/// The names of an answer's columns and then its rows, as texts. It ends where a row can't be read,
-/// and the cause is kept.
+/// The names of an answer's columns and then its rows, as texts.
 #[derive(Drop)]
 pub struct Answer<'a, S: Alter> {
     alloc: Global,
     /// The names, and the rows that were read ahead.
-    first: IntoIter<Vec<String>>,
+    first: IntoIter<Result<Vec<String>>>,
     rows: Rows<'a, S>,
     /// The columns to which the texts of later rows are truncated, if they are.
     widths: Vec<usize>,
     left: u64,
-    failure: &'a mut Option<Error>,
 }
 
 impl<'a, S: Alter> Answer<'a, S> {
@@ -31,17 +29,15 @@ impl<'a, S: Alter> Answer<'a, S> {
         alloc: Global,
         connection: &'a mut Connection<S>,
         query: &str,
-        failure: &'a mut Option<Error>,
     ) -> Result<Answer<'a, S>> {
         let statement = connection.prepare(query)?;
-        Answer::of_statement(alloc, connection, &statement, failure)
+        Answer::of_statement(alloc, connection, &statement)
     }
 
     fn of_statement(
         alloc: Global,
         connection: &'a mut Connection<S>,
         statement: &Statement,
-        failure: &'a mut Option<Error>,
     ) -> Result<Answer<'a, S>> {
         let first = header_of(alloc, statement)?;
         Ok(Answer {
@@ -50,23 +46,22 @@ impl<'a, S: Alter> Answer<'a, S> {
             rows: statement.query(connection, &[])?,
             widths: Vec::new(alloc),
             left: u64::MAX,
-            failure,
         })
     }
 
     /// Reads rows ahead, of which the names are the first. Later rows are truncated to the columns
-    /// in which these are whole.
+    /// in which these are whole. An error is read as a row.
     pub fn read_ahead(&mut self, count: usize) -> Result<(), AllocError> {
         let mut first = self.next_rows(count)?;
         self.widths = widths_of(self.alloc, first.as_slice())?;
-        if let Some(names) = first.first_mut() {
+        if let Some(Ok(names)) = first.first_mut() {
             pad(names, self.widths.as_slice())?;
         }
         self.first = first.into_iter();
         Ok(())
     }
 
-    fn next_rows(&mut self, count: usize) -> Result<Vec<Vec<String>>, AllocError> {
+    fn next_rows(&mut self, count: usize) -> Result<Vec<Result<Vec<String>>>, AllocError> {
         let mut rows = Vec::new(self.alloc);
         for _row in 0..count {
             match self.next() {
@@ -79,11 +74,11 @@ impl<'a, S: Alter> Answer<'a, S> {
 }
 
 impl<S: Alter> Iterator for Answer<'_, S> {
-    type Item = Vec<String>;
+    type Item = Result<Vec<String>>;
 
     ghost remaining = { λ s. at_most (into_iter_len s.first + s.left) };
 
-    fn next(&mut self) -> Option<Vec<String>> {
+    fn next(&mut self) -> Option<Result<Vec<String>>> {
         if let Some(row) = self.first.next() {
             return Some(row);
         }
@@ -91,22 +86,15 @@ impl<S: Alter> Iterator for Answer<'_, S> {
             return None;
         }
         self.left -= 1;
-        match next_texts(self.alloc, &mut self.rows, self.widths.as_slice()) {
-            Ok(texts) => texts,
-            Err(error) => {
-                *self.failure = Some(error);
-                self.left = 0;
-                None
-            }
-        }
+        next_texts(self.alloc, &mut self.rows, self.widths.as_slice()).transpose()
     }
 }
 
 /// The names of a statement's columns, as the only row.
-fn header_of(alloc: Global, statement: &Statement) -> Result<Vec<Vec<String>>> {
+fn header_of(alloc: Global, statement: &Statement) -> Result<Vec<Result<Vec<String>>>> {
     let names = names_of(alloc, statement)?;
     let mut rows = Vec::new(alloc);
-    rows.push(names)?;
+    rows.push(Ok(names))?;
     Ok(rows)
 }
 
@@ -119,18 +107,26 @@ fn names_of(alloc: Global, statement: &Statement) -> Result<Vec<String>> {
 }
 
 /// The columns in which each text of a column is left whole, 1 at least.
-fn widths_of(alloc: Global, rows: &[Vec<String>]) -> Result<Vec<usize>, AllocError> {
+fn widths_of(alloc: Global, rows: &[Result<Vec<String>>]) -> Result<Vec<usize>, AllocError> {
     let mut widths: Vec<usize> = Vec::new(alloc);
     for row in rows {
-        for (column, text) in row.iter().enumerate() {
-            let width = columns_of(text).max(1);
-            match widths.get_mut(column) {
-                Some(widest) => *widest = width.max(*widest),
-                None => widths.push(width)?,
-            }
+        if let Ok(row) = row {
+            widen(&mut widths, row.as_slice())?;
         }
     }
     Ok(widths)
+}
+
+/// Raises the widths to those of the texts of a row.
+fn widen(widths: &mut Vec<usize>, row: &[String]) -> Result<(), AllocError> {
+    for (column, text) in row.iter().enumerate() {
+        let width = columns_of(text).max(1);
+        match widths.get_mut(column) {
+            Some(widest) => *widest = width.max(*widest),
+            None => widths.push(width)?,
+        }
+    }
+    Ok(())
 }
 
 /// Lengthens names by spaces to the widths, so that `IterTable` measures just these.

@@ -17,6 +17,7 @@ use std::alloc::Global;
 use std::io::{self, BufWriter, Write};
 use std::{env, fs};
 use tabled::builder::Builder;
+use tabled::iter::TryRows;
 use tabled::settings::Style;
 use tabled::tables::IterTable;
 use tabled::{IoSink, Table, TableError};
@@ -70,22 +71,7 @@ fn put_answer<S: Alter, W: Write>(
     ahead: Option<usize>,
     out: &mut W,
 ) -> Result<()> {
-    let mut failure = None;
-    let answer = Answer::new(alloc, connection, query, &mut failure)?;
-    put_rows(alloc, answer, ahead, out)?;
-    end_line(out)?;
-    match failure {
-        Some(error) => Err(error),
-        None => Ok(()),
-    }
-}
-
-fn put_rows<S: Alter, W: Write>(
-    alloc: Global,
-    mut answer: Answer<'_, S>,
-    ahead: Option<usize>,
-    out: &mut W,
-) -> Result<(), TableError> {
+    let mut answer = Answer::new(alloc, connection, query)?;
     match ahead {
         None => put_all(alloc, answer, out),
         Some(rows) => {
@@ -101,12 +87,11 @@ fn end_line<W: Write>(out: &mut W) -> io::Result<()> {
 }
 
 /// Prints all rows, once they are read.
-fn put_all<S: Alter, W: Write>(
-    alloc: Global,
-    answer: Answer<'_, S>,
-    out: &mut W,
-) -> Result<(), TableError> {
-    put_table(Table::from(Builder::from_iter(alloc, answer)?), out)
+fn put_all<S: Alter, W: Write>(alloc: Global, answer: Answer<'_, S>, out: &mut W) -> Result<()> {
+    let mut rows = TryRows::new(answer);
+    put_table(Table::from(Builder::from_iter(alloc, &mut rows)?), out)?;
+    end_line(out)?;
+    rows.finish()
 }
 
 fn put_table<W: Write>(mut table: Table, out: &mut W) -> Result<(), TableError> {
@@ -120,11 +105,12 @@ fn put_stream<S: Alter, W: Write>(
     answer: Answer<'_, S>,
     ahead: usize,
     out: &mut W,
-) -> Result<(), TableError> {
-    let mut table = IterTable::new(answer);
+) -> Result<()> {
+    let mut table = IterTable::new(TryRows::new(answer));
     table.sniff(ahead);
-    match table.apply(Style::modern()) {
-        Ok(()) => table.build(alloc, out),
-        Err(error) => Err(error),
-    }
+    table.apply(Style::modern())?;
+    let (printed, read) = table.try_build(alloc, out);
+    printed?;
+    end_line(out)?;
+    read
 }

@@ -47,14 +47,15 @@ pub mod laws {
     pub use tabled_line::laws::rows_of_any_text;
     pub use tabled_set::laws::truncated_texts;
     pub use tabled_table::laws::{
-        new_tables, streams_go_on, streams_hold, streams_like_tables, texts_can_be_cut,
+        marked_cells, new_tables, streams_go_on, streams_hold, streams_like_tables,
+        texts_can_be_cut,
     };
     pub use tabled_text::general_laws::{
         count_is_bound, exact_lines, lines_of_any_text, separators, texts_that_fit,
     };
     pub use tabled_text::laws::{
         breakings, cut_texts, joined_lines, plain_characters, plain_columns, plain_line_width,
-        plain_lines, text_bounds, texts_that_stay, wrapped_texts,
+        plain_lines, text_bounds, texts_that_stay, word_wrapped_texts, wrapped_texts,
     };
 }
 
@@ -77,7 +78,13 @@ pub mod tables {
     pub use tabled_table::{IterTable, Table};
 }
 
-/// Where the batches of a range of rows begin.
+/// Rows that may fail, and where the batches of a range of rows begin.
+///
+/// ```rust
+/// let table = IterTable::new(TryRows::new(results.into_iter()));
+/// let (printed, read) = table.try_fmt(alloc, &mut text);
+/// printed?;
+/// ```
 ///
 /// ```rust
 /// for begin in LayoutIterator::new(0, 5, 2) {
@@ -85,6 +92,7 @@ pub mod tables {
 /// }
 /// ```
 pub mod iter {
+    pub use tabled_records::TryRows;
     pub use tabled_table::LayoutIterator;
 }
 
@@ -109,9 +117,10 @@ pub mod builder {
 ///     .with(Width::wrap(14).priority(Priority::max(true)))?;
 /// ```
 pub mod settings {
-    pub use tabled_base::{CellOption, TableOption};
+    pub use tabled_base::{CellOption, Settings, StoredSizes, TableOption};
     pub use tabled_config::Style;
-    pub use tabled_set::{Height, Margin, Padding, PaddingExpand, Width};
+    pub use tabled_set::{Alignment, Height, Margin, Padding, PaddingExpand, Width};
+    pub use tabled_table::{Modify, ModifyBy};
 
     /// Numbers of columns or lines that are measured in the table.
     ///
@@ -123,14 +132,14 @@ pub mod settings {
         pub use tabled_set::{Max, Measurement, Min, Percent};
     }
 
-    /// Selections of cells: a row, a column, a cell, the whole table, or a range of rows and
-    /// columns.
+    /// Selections of cells: a row, a column, a cell, the whole table, a range of rows and columns,
+    /// or several of these.
     ///
     /// ```rust
     /// table.modify(Segment::new(1.., ..1), marks())?;
     /// ```
     pub mod object {
-        pub use tabled_base::{Cell, Columns, Object, Rows, Segment};
+        pub use tabled_base::{Cell, Columns, Object, Rows, Segment, Union};
     }
 
     /// Border styles, and the lines they are made of.
@@ -145,7 +154,7 @@ pub mod settings {
     /// config.insert_horizontal_line(1, double)
     /// ```
     pub mod style {
-        pub use tabled_config::{HorizontalLine, Style};
+        pub use tabled_config::{HorizontalLine, LinedStyle, Style};
     }
 
     /// Priorities: the order in which columns or rows shrink and grow; and checks of the result.
@@ -169,7 +178,8 @@ pub mod settings {
     /// ```
     pub mod width {
         pub use tabled_set::{
-            Justify, MinWidth, NarrowedRows, SuffixLimit, Truncate, Width, WidthList, Wrap,
+            Justify, MinWidth, NarrowedRows, SuffixLimit, Truncate, Width, WidthList, WordWrap,
+            Wrap,
         };
     }
 
@@ -324,7 +334,7 @@ pub mod grid {
             pub use tabled_text::{
                 TextLines, count_lines, cut_str, is_additive, is_additive_column, is_fullest,
                 is_plain, is_plain_column, is_separator_column, line_width, lines, split_str,
-                text_width, wrap_text,
+                text_width, wrap_text, wrap_words,
             };
         }
     }

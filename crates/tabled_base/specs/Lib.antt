@@ -6,4 +6,5 @@ pub mod Laws
 pub mod Picks
 pub mod PicksLaws
 pub mod RowsGiven
+pub mod Settings
 pub mod ShortOr

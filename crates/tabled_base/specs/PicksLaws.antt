@@ -1,5 +1,5 @@
 -- Every entity that a selection picks lies inside the records.
-use Rattle.std.proofs.Common.{◌≡◌, ℕ, ◌+◌, ◌-◌, ◌<◌, ◌≤◌, ◌&&◌, nat_lt, Bool, true, false, List, [], ◌∷◌, map, min, zero, suc, refl}
+use Rattle.std.proofs.Common.{◌≡◌, ℕ, ◌+◌, ◌-◌, ◌<◌, ◌≤◌, ◌&&◌, nat_lt, Bool, true, false, List, [], ◌∷◌, ◌++◌, map, min, zero, suc, refl}
 use Rattle.std.proofs.Common.{Option, Some, None, sym, subst, arith, ⊎_elim}
 use Rattle.std.specs.Prelude.{if◌then◌else◌}
 use Rattle.std.specs.List.{All, range_with_len}
@@ -9,6 +9,7 @@ use Rattle.std.proofs.lemmas.List.Elements.{All-append, All-cons, All-head, All-
 use Rattle.tabled_base.specs.Picks.{IsPart, block, picked, picked_cell, segment, stretch}
 use Rattle.tabled_base.specs.declared.objects.Place.{Place}
 use Rattle.tabled_base.specs.declared.objects.Place.TheVariants.{At, Last}
+use Rattle.tabled_base.specs.declared.position.Entity.{Entity}
 use Rattle.tabled_base.specs.declared.position.Entity.TheVariants.{Cell, Column, Global, Row}
 use Rattle.tabled_base.specs.declared.segment.Stretch.{Stretch}
 
@@ -61,3 +62,7 @@ segment-inside None rows columns = All-cons (IsPart rows columns) Global [] tt (
 segment-inside (Some kept) rows columns =
     block-inside (stretch kept.0 rows) (stretch kept.1 columns) rows columns (stretch-below kept.0 rows)
     (stretch-below kept.1 columns)
+
+pub both-inside : (rows columns : ℕ) (first second : List Entity) → All (IsPart rows columns) first → All (IsPart rows columns) second
+    → All (IsPart rows columns) (first ++ second)
+both-inside rows columns = All-append (IsPart rows columns)

@@ -8,8 +8,9 @@
 //! - `records.rt`: the traits of records and of their cells, and of the sources of rows that are
 //!   read once.
 //! - `position.rt`: `Position`, a row and a column, and `Entity`, the cells that a setting covers.
-//! - `objects.rt`, `segment.rt`: selections of rows, columns and cells.
-//! - `options.rt`: `TableOption` and `CellOption`.
+//! - `objects.rt`, `segment.rt`: selections of rows, columns and cells; `union.rt`: two of them.
+//! - `options.rt`: `TableOption` and `CellOption`, and the sizes that they see; `settings.rt`: two
+//!   options in turn.
 //! - `error.rt`: `TableError`.
 #![tactic(auto)]
 
@@ -21,16 +22,20 @@ mod options;
 mod position;
 mod records;
 mod segment;
+mod settings;
 mod text;
+mod union;
 mod vec_records;
 
 pub use builder::Builder;
 pub use content::{Content, ContentRecords};
 pub use error::TableError;
 pub use objects::{Cell, Columns, Object, Rows};
-pub use options::{CellOption, TableOption};
+pub use options::{CellOption, StoredSizes, TableOption};
 pub use position::{Entity, Position};
 pub use records::{CellText, ExactRecords, IntoRecords, PeekableRecords, Records, RecordsMut};
 pub use segment::Segment;
+pub use settings::Settings;
 pub use text::{SHORT_TEXT, Text};
+pub use union::Union;
 pub use vec_records::VecRecords;

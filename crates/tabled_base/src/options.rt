@@ -1,4 +1,4 @@
-//! `TableOption` and `CellOption`, which change tables and cells.
+//! `TableOption` and `CellOption`, which change tables and cells, and the sizes that a table stores.
 ghost use Rattle.std.specs.Prelude.{◌≡◌, ◌⊎◌, IfErr, OnOk, Option, Some};
 ghost use Rattle.tabled_base.specs.declared.error.TableError.{TableError};
 ghost use Rattle.tabled_base.specs.declared.error.TableError.TheVariants.{Memory, Range};
@@ -73,4 +73,15 @@ pub trait CellOption<R, C> {
     /// Returns the entity whose sizes must be measured again after the change, or `None`.
     fn hint_change(&self) -> Option<Entity>
         ensures { result ≡ hint self.now };
+}
+
+/// The sizes of a table, as its options see them.
+pub trait StoredSizes {
+    // Relates a hint and the sizes to those that are left when what it names is cleared.
+    ghost clears: { Option Entity → Self → Self → Type 0 };
+
+    /// Clears the stored sizes of an entity, which must be measured again. Sizes that were not
+    /// measured stay.
+    fn clear_for(&mut self, hint: Option<Entity>)
+        ensures { clears hint self.old self.new };
 }

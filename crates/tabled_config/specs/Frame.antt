@@ -65,6 +65,10 @@ inner_line b = record { main = b.horizontal; left = b.left_intersection; interse
 abbrev pub bottom_line : Borders ℕ → HorizontalLine
 bottom_line b = record { main = b.bottom; left = b.bottom_left; intersection = b.bottom_intersection; right = b.bottom_right }
 
+-- a line of one character, with spaces where it meets vertical lines
+abbrev pub line_of : ℕ → HorizontalLine
+line_of main = record { main = Some main; left = None; intersection = None; right = None }
+
 -- a horizontal line is drawn if any of its characters is set
 abbrev pub if_any : HorizontalLine → Option HorizontalLine
 if_any l = if is_some l.main || (is_some l.left || (is_some l.intersection || is_some l.right)) then Some l else None

@@ -7,4 +7,5 @@ pub mod Options
 pub mod RowStyles
 pub mod Settings
 pub mod Spanned
+pub mod StyleChanges
 pub mod Styles

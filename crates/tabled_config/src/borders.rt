@@ -7,13 +7,17 @@ ghost use Rattle.std.specs.Cmp.Lexicographic.{lists_equiv, lists_per, pointwise}
 ghost use Rattle.std.specs.Prelude.{IfOk, None, OnErr, OnOk, Some, [], if◌then◌else◌, nat_eq, ℕ};
 ghost use Rattle.std.specs.Prelude.{◌&&◌, ◌==◌, ◌≡◌};
 ghost use Rattle.tabled_config.specs.Frame.{border_at, frame_of, has_bar, has_inner, has_left};
-ghost use Rattle.tabled_config.specs.Frame.{has_right, if_any, no_borders, vertical_line};
+ghost use Rattle.tabled_config.specs.Frame.{has_right, if_any, inner_line, line_of, no_borders};
+ghost use Rattle.tabled_config.specs.Frame.{vertical_line};
 ghost use Rattle.tabled_config.specs.Junction.{junction};
+ghost use Rattle.tabled_config.specs.StyleChanges.{no_bottom, no_frame, no_horizontal, no_left};
+ghost use Rattle.tabled_config.specs.StyleChanges.{no_right, no_top, no_vertical};
 ghost use Rattle.tabled_config.specs.Lines.{line_set, with_line};
 ghost use Rattle.tabled_config.specs.contracts.borders.HorizontalLineEq.TheImpl.Laws.{laws-law as line_eq};
 ghost use Rattle.tabled_config.specs.contracts.borders.HorizontalLinePartialEq.TheImpl.Laws.{laws-law as line_per};
 
 use crate::sides::{Indent, Sides};
+use crate::style::Style;
 use std::alloc::{AllocError, Global};
 use std::collections::BTreeMap;
 use std::marker::Model;
@@ -67,6 +71,70 @@ pub struct HorizontalLine {
 }
 
 impl HorizontalLine {
+    /// Makes a line of one character. Where it meets vertical lines it has spaces, until they are
+    /// set.
+    ///
+    /// ```rust
+    /// let line = HorizontalLine::new('═').left('╞').intersection('╪').right('╡');
+    /// ```
+    pub fn new(main: char) -> HorizontalLine
+        ensures { result ≡ line_of main }
+    {
+        HorizontalLine {
+            main: Some(main),
+            left: None,
+            intersection: None,
+            right: None,
+        }
+    }
+
+    /// Returns the line that a style has between all rows.
+    pub fn inherit(style: Style) -> HorizontalLine
+        ensures { result ≡ inner_line style.borders }
+    {
+        style.get_borders().inner_line()
+    }
+
+    /// Sets the character across the columns.
+    pub fn horizontal(self, main: char) -> HorizontalLine
+        ensures { result ≡ record self { main = Some main } }
+    {
+        HorizontalLine {
+            main: Some(main),
+            ..self
+        }
+    }
+
+    /// Sets the character at the left vertical line.
+    pub fn left(self, left: char) -> HorizontalLine
+        ensures { result ≡ record self { left = Some left } }
+    {
+        HorizontalLine {
+            left: Some(left),
+            ..self
+        }
+    }
+
+    /// Sets the character at each vertical line between columns.
+    pub fn intersection(self, intersection: char) -> HorizontalLine
+        ensures { result ≡ record self { intersection = Some intersection } }
+    {
+        HorizontalLine {
+            intersection: Some(intersection),
+            ..self
+        }
+    }
+
+    /// Sets the character at the right vertical line.
+    pub fn right(self, right: char) -> HorizontalLine
+        ensures { result ≡ record self { right = Some right } }
+    {
+        HorizontalLine {
+            right: Some(right),
+            ..self
+        }
+    }
+
     /// Returns the line if any of its characters is set.
     fn if_any(self) -> Option<HorizontalLine>
         ensures { result ≡ if_any self }
@@ -156,6 +224,94 @@ impl Borders<char> {
             || self.bottom_intersection.is_some()
     }
 
+    /// Returns the borders without the lines between rows.
+    pub(crate) fn without_horizontal(self) -> Borders<char>
+        ensures { result ≡ no_horizontal self }
+    {
+        Borders {
+            horizontal: None,
+            left_intersection: None,
+            right_intersection: None,
+            intersection: None,
+            ..self
+        }
+    }
+
+    /// Returns the borders without the lines between columns.
+    pub(crate) fn without_vertical(self) -> Borders<char>
+        ensures { result ≡ no_vertical self }
+    {
+        Borders {
+            vertical: None,
+            top_intersection: None,
+            bottom_intersection: None,
+            intersection: None,
+            ..self
+        }
+    }
+
+    /// Returns the borders without the top line.
+    pub(crate) fn without_top(self) -> Borders<char>
+        ensures { result ≡ no_top self }
+    {
+        Borders {
+            top: None,
+            top_left: None,
+            top_right: None,
+            top_intersection: None,
+            ..self
+        }
+    }
+
+    /// Returns the borders without the bottom line.
+    pub(crate) fn without_bottom(self) -> Borders<char>
+        ensures { result ≡ no_bottom self }
+    {
+        Borders {
+            bottom: None,
+            bottom_left: None,
+            bottom_right: None,
+            bottom_intersection: None,
+            ..self
+        }
+    }
+
+    /// Returns the borders without the left line.
+    pub(crate) fn without_left(self) -> Borders<char>
+        ensures { result ≡ no_left self }
+    {
+        Borders {
+            left: None,
+            top_left: None,
+            bottom_left: None,
+            left_intersection: None,
+            ..self
+        }
+    }
+
+    /// Returns the borders without the right line.
+    pub(crate) fn without_right(self) -> Borders<char>
+        ensures { result ≡ no_right self }
+    {
+        Borders {
+            right: None,
+            top_right: None,
+            bottom_right: None,
+            right_intersection: None,
+            ..self
+        }
+    }
+
+    /// Returns the borders without the lines on the four sides.
+    pub(crate) fn without_frame(self) -> Borders<char>
+        ensures { result ≡ no_frame self }
+    {
+        self.without_top()
+            .without_bottom()
+            .without_left()
+            .without_right()
+    }
+
     /// Returns the horizontal line above row `index` of `rows` rows, or below the last row for
     /// `index == rows`. `None` if none of its characters is set.
     pub fn line_at(&self, rows: usize, index: usize) -> Option<HorizontalLine>
@@ -176,14 +332,21 @@ impl Borders<char> {
                 right: self.bottom_right,
             }
         } else {
-            HorizontalLine {
-                main: self.horizontal,
-                left: self.left_intersection,
-                intersection: self.intersection,
-                right: self.right_intersection,
-            }
+            self.inner_line()
         };
         line.if_any()
+    }
+
+    /// Returns the characters of the lines between rows.
+    fn inner_line(&self) -> HorizontalLine
+        ensures { result ≡ inner_line self.now }
+    {
+        HorizontalLine {
+            main: self.horizontal,
+            left: self.left_intersection,
+            intersection: self.intersection,
+            right: self.right_intersection,
+        }
     }
 }
 

@@ -12,7 +12,8 @@
 //! - `alignment`: the alignment of a text in its cell, and the flags for trimming and aligning its
 //!   lines.
 //! - `colored`: the configuration of a `Table`, and the strings before and after a coloured part.
-//! - `style`: six ready-made border styles.
+//! - `style`: ready-made border styles, and what is removed from them; `lined_style`: a style with
+//!   lines by index.
 //!
 //! Configurations:
 //! - `compact`: one setting for all cells, of one line or of several.
@@ -26,6 +27,7 @@ mod alignment;
 mod borders;
 mod colored;
 mod compact;
+mod lined_style;
 mod options;
 mod sides;
 mod spanned;
@@ -35,6 +37,7 @@ pub use alignment::{AlignmentHorizontal, AlignmentVertical, Formatting};
 pub use borders::{Borders, Frame, HorizontalLine, VerticalLine};
 pub use colored::{ANSIStr, ColoredConfig};
 pub use compact::{CompactConfig, CompactMultilineConfig};
+pub use lined_style::LinedStyle;
 pub use sides::{Indent, Sides};
 pub use spanned::{CellStyle, RowStyles, SetStyles, SpannedConfig};
 pub use style::Style;

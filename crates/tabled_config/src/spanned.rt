@@ -1,8 +1,9 @@
 //! The configuration of a table, with settings for rows, columns and cells (`SpannedConfig`).
 ghost use Rattle.std.specs.Prelude.{◌≡◌, ◌==◌, ℕ, if◌then◌else◌, IfErr, IfOk, IsSome, None, OnErr};
-ghost use Rattle.std.specs.Prelude.{OnOk, Some, []};
+ghost use Rattle.std.specs.Prelude.{OnOk, Some, [], length, ◌<◌};
 ghost use Rattle.tabled_base.specs.declared.error.TableError.TheVariants.{Memory};
 ghost use Rattle.tabled_config.specs.Lines.{line_set, with_line};
+ghost use Rattle.tabled_config.specs.StyleChanges.{with_lines};
 
 mod entity_settings;
 mod row_styles;
@@ -199,6 +200,27 @@ impl SpannedConfig {
         }
         self.borders = style.get_borders();
         self.lines = lines;
+        Ok(())
+    }
+
+    /// Sets borders, and replaces all lines set by index. Of several lines with one index the latest
+    /// counts. Fails only with `Memory`, and then changes nothing. Without lines it can't fail.
+    pub(crate) fn set_lines(
+        &mut self,
+        borders: Borders<char>,
+        lines: &[(usize, HorizontalLine)],
+    ) -> Result<(), TableError>
+        ensures ok { OnOk result (self.new ≡ with_lines self.old borders lines.now) }
+        ensures err { OnErr result (self.new ≡ self.old) }
+        ensures line { OnErr result (0 < length lines.now) }
+        ensures only { IfErr result (λ e. e ≡ Memory) }
+    {
+        let mut all = HorizontalLines::new(self.allocator());
+        'lines: for (row, line) in lines {
+            all.insert(*row, *line)?;
+        }
+        self.borders = borders;
+        self.lines = all;
         Ok(())
     }
 

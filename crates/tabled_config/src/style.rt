@@ -1,9 +1,14 @@
-//! Six ready-made border styles (`Style`).
+//! Border styles: ready-made ones, and what is taken out of them (`Style`).
 ghost use Rattle.std.specs.Prelude.{◌≡◌};
-ghost use Rattle.tabled_config.specs.Styles.{ascii, extended, framed, line, markdown, modern};
-ghost use Rattle.tabled_config.specs.Styles.{no_style, psql, style_line};
+ghost use Rattle.tabled_config.specs.Styles.{ascii, ascii_rounded, blank, boxed, extended, framed};
+ghost use Rattle.tabled_config.specs.Styles.{line, markdown, modern, modern_rounded, no_style, psql};
+ghost use Rattle.tabled_config.specs.Styles.{re_structured_text, rounded, sharp, style_line};
+ghost use Rattle.tabled_config.specs.StyleChanges.{without_bottom, without_frame, without_horizontal};
+ghost use Rattle.tabled_config.specs.StyleChanges.{without_horizontals, without_left, without_right};
+ghost use Rattle.tabled_config.specs.StyleChanges.{without_top, without_vertical};
 
 use crate::borders::{Borders, HorizontalLine};
+use crate::lined_style::LinedStyle;
 
 /// A border style: the borders, and optionally a horizontal line below the first row.
 #[derive(Debug, Drop)]
@@ -50,6 +55,22 @@ fn frame(top: HorizontalLine, inner: HorizontalLine, bottom: HorizontalLine, bar
     }
 }
 
+// A frame with a line below the first row and none between others.
+fn boxed(top: HorizontalLine, below: HorizontalLine, bottom: HorizontalLine, bar: char) -> Style
+    ensures { result ≡ boxed top below bottom bar }
+{
+    let none = HorizontalLine {
+        main: None,
+        left: None,
+        intersection: None,
+        right: None,
+    };
+    Style {
+        borders: frame(top, none, bottom, bar).borders,
+        below_first: Some(below),
+    }
+}
+
 impl Style {
     /// Lines of `-` and `|`, joined by `+`.
     pub fn ascii() -> Style
@@ -67,6 +88,51 @@ impl Style {
         let inner = line('├', '─', '┼', '┤');
         let bottom = line('└', '─', '┴', '┘');
         frame(top, inner, bottom, '│')
+    }
+
+    /// Thin lines of box characters: a frame, and one line below the first row.
+    pub fn sharp() -> Style
+        ensures { result ≡ sharp }
+    {
+        let top = line('┌', '─', '┬', '┐');
+        let below = line('├', '─', '┼', '┤');
+        let bottom = line('└', '─', '┴', '┘');
+        boxed(top, below, bottom, '│')
+    }
+
+    /// A frame with round corners, and one line below the first row.
+    pub fn rounded() -> Style
+        ensures { result ≡ rounded }
+    {
+        let top = line('╭', '─', '┬', '╮');
+        let below = line('├', '─', '┼', '┤');
+        let bottom = line('╰', '─', '┴', '╯');
+        boxed(top, below, bottom, '│')
+    }
+
+    /// A frame with round corners, and lines between all rows.
+    pub fn modern_rounded() -> Style
+        ensures { result ≡ modern_rounded }
+    {
+        let top = line('╭', '─', '┬', '╮');
+        let inner = line('├', '─', '┼', '┤');
+        let bottom = line('╰', '─', '┴', '╯');
+        frame(top, inner, bottom, '│')
+    }
+
+    /// A frame of `-` and `|` with `.` and `'` at its corners, and bars between columns.
+    pub fn ascii_rounded() -> Style
+        ensures { result ≡ ascii_rounded }
+    {
+        let none = HorizontalLine {
+            main: None,
+            left: None,
+            intersection: None,
+            right: None,
+        };
+        let top = line('.', '-', '-', '.');
+        let bottom = line('\'', '-', '-', '\'');
+        frame(top, none, bottom, '|')
     }
 
     /// Double lines of box characters.
@@ -112,6 +178,41 @@ impl Style {
         }
     }
 
+    /// Lines of `=` above and below the table and below the first row, with spaces between columns.
+    pub fn re_structured_text() -> Style
+        ensures { result ≡ re_structured_text }
+    {
+        Style {
+            borders: Borders {
+                top: Some('='),
+                top_intersection: Some(' '),
+                bottom: Some('='),
+                bottom_intersection: Some(' '),
+                vertical: Some(' '),
+                ..Borders::empty()
+            },
+            below_first: Some(HorizontalLine {
+                main: Some('='),
+                left: None,
+                intersection: Some(' '),
+                right: None,
+            }),
+        }
+    }
+
+    /// Spaces between columns.
+    pub fn blank() -> Style
+        ensures { result ≡ blank }
+    {
+        Style {
+            borders: Borders {
+                vertical: Some(' '),
+                ..Borders::empty()
+            },
+            below_first: None,
+        }
+    }
+
     /// No lines.
     pub fn empty() -> Style
         ensures { result ≡ no_style }
@@ -120,6 +221,90 @@ impl Style {
             borders: Borders::empty(),
             below_first: None,
         }
+    }
+
+    /// Removes the lines between all rows. That below the first row of another style stays.
+    ///
+    /// ```rust
+    /// table.with(Style::modern().remove_horizontal())?;
+    /// ```
+    pub fn remove_horizontal(self) -> Style
+        ensures { result ≡ without_horizontal self }
+    {
+        let borders = self.borders.without_horizontal();
+        Style { borders, ..self }
+    }
+
+    /// Removes the line below the first row that `sharp`, `rounded`, `markdown`, `psql` and
+    /// `re_structured_text` have.
+    pub fn remove_horizontals(self) -> Style
+        ensures { result ≡ without_horizontals self }
+    {
+        Style {
+            below_first: None,
+            ..self
+        }
+    }
+
+    /// Removes the lines between columns.
+    pub fn remove_vertical(self) -> Style
+        ensures { result ≡ without_vertical self }
+    {
+        let borders = self.borders.without_vertical();
+        Style { borders, ..self }
+    }
+
+    /// Removes the line above the first row.
+    pub fn remove_top(self) -> Style
+        ensures { result ≡ without_top self }
+    {
+        let borders = self.borders.without_top();
+        Style { borders, ..self }
+    }
+
+    /// Removes the line below the last row.
+    pub fn remove_bottom(self) -> Style
+        ensures { result ≡ without_bottom self }
+    {
+        let borders = self.borders.without_bottom();
+        Style { borders, ..self }
+    }
+
+    /// Removes the line before the first column.
+    pub fn remove_left(self) -> Style
+        ensures { result ≡ without_left self }
+    {
+        let borders = self.borders.without_left();
+        Style { borders, ..self }
+    }
+
+    /// Removes the line behind the last column.
+    pub fn remove_right(self) -> Style
+        ensures { result ≡ without_right self }
+    {
+        let borders = self.borders.without_right();
+        Style { borders, ..self }
+    }
+
+    /// Removes the lines on all four sides.
+    pub fn remove_frame(self) -> Style
+        ensures { result ≡ without_frame self }
+    {
+        let borders = self.borders.without_frame();
+        Style { borders, ..self }
+    }
+
+    /// Sets lines above rows, by the index of the row from 0, in place of that below the first row.
+    /// The number of rows is the index of the line below the last one.
+    ///
+    /// ```rust
+    /// let line = HorizontalLine::inherit(Style::modern());
+    /// table.with(Style::modern().remove_horizontal().horizontals([(1, line)]))?;
+    /// ```
+    pub fn horizontals<const N: usize>(self, lines: [(usize, HorizontalLine); N]) -> LinedStyle<N>
+        ensures { result ≡ record { borders = self.borders; lines = lines.entry } }
+    {
+        LinedStyle::new(self.borders, lines)
     }
 
     /// Returns the borders.

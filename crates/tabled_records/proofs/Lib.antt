@@ -12,5 +12,6 @@ pub mod SizedRows
 pub mod Splitting
 pub mod TextCells
 pub mod ToldTexts
+pub mod TriedRows
 pub mod ViewRuns
 pub mod WrappedRows

@@ -4,6 +4,7 @@ pub mod Empty
 pub mod Joined
 pub mod NarrowedTexts
 pub mod Reading
+pub mod RowsBeforeError
 pub mod SizedRows
 pub mod TextRows
 pub mod Views

@@ -15,6 +15,7 @@
 //! Records that make their cells on demand:
 //! - `empty.rt`: `EmptyRecords`, whose cells are all empty.
 //! - `iter_records.rt`: `IterRecords`, the records of an iterator.
+//! - `try_rows.rt`: `TryRows`, the rows of an iterator of results before its first error.
 //!
 //! Views that are read row by row:
 //! - `limits.rt`: `LimitRows`, `SkipRows` and `LimitColumns`, a part of the rows or cells.
@@ -34,6 +35,7 @@ pub mod reading;
 mod records_writer;
 mod row_ranges;
 mod truncate;
+mod try_rows;
 mod wrapped_lent_rows;
 
 pub use buffer::{BufCells, BufRecords, BufRows};
@@ -44,4 +46,5 @@ pub use joined_records::{JoinedRecords, LentRows, text_rows};
 pub use limits::{FirstCells, LaterRows, LimitColumns, LimitRows, NarrowRows, SkipRows};
 pub use records_writer::RecordsWriter;
 pub use truncate::{CutCell, CutCells, CutRows, TruncateContent};
+pub use try_rows::TryRows;
 pub use wrapped_lent_rows::WrappedLentRows;

@@ -22,10 +22,11 @@ use Rattle.tabled_text.proofs.FewestLines.{fewest-wrapped}
 use Rattle.tabled_text.proofs.OwnBreaking.{old_text}
 use Rattle.tabled_text.proofs.StayLemmas.{IsAdditive-stays, StaysWithin-wrapped}
 use Rattle.tabled_text.proofs.FittingLaws.{fits-wrapped}
+use Rattle.tabled_text.proofs.WordLaws.{fewest-words, fits-words, old_words, stays-word_wrapped}
 use Rattle.tabled_size.specs.Entries.{clears_heights, clears_widths, unless_cleared}
 use Rattle.tabled_set.specs.BestNarrowing.{HasLeastWidth, IsBestCut, inner_width}
-use Rattle.tabled_set.specs.CellChanges.{wrapping}
-use Rattle.tabled_set.specs.Promised.{IsWiderThan, TruncatesAsPromised, WrapsAsPromised}
+use Rattle.tabled_set.specs.CellChanges.{word_wrapping, wrapping}
+use Rattle.tabled_set.specs.Promised.{IsWiderThan, TruncatesAsPromised, WordWrapsAsPromised, WrapsAsPromised}
 use Rattle.tabled_set.proofs.TruncatedTexts.{longest_lines, longest_truncated, StaysWithin-truncated, fits-if_wider}
 use Rattle.tabled_set.specs.Narrowed.{IsNarrowed}
 use Rattle.tabled_set.specs.Priorities.{TakesFrom, TakesGreatest}
@@ -260,6 +261,26 @@ module _ {P : Type 0} (shrinks : Shrinks P) (s : P) (n : ℕ)
             record {
               fewest = λ row column inside. fewest-wrapped (content_size row column) words (cell_at cells row column) (cell_at new row column) (changed row column inside);
               whole = λ row column inside some fits. old_text (content_size row column) words (cell_at cells row column) (cell_at new row column) some fits (changed row column inside);
+            };
+        least = λ greatest wide.
+            least_of shrinks s change n cells config sizes new stored last (Some (Row 0)) refl narrows cleared (takes_of greatest) wide greatest;
+      }
+
+  pub word_wraps : Narrows shrinks s word_wrapping n cells config sizes new stored → AreCleared (Some (Row 0)) stored last
+      → WordWrapsAsPromised shrinks s n (effective cells config sizes) (effective new config last)
+  word_wraps narrows cleared =
+      let change = word_wrapping in
+      let content_size = inner_width (effective new config last) in
+      record {
+        exact = λ takes wide texts.
+            exact_of shrinks s change n cells config sizes new stored last (Some (Row 0)) refl narrows cleared takes wide
+            (λ size before after utf8 w. fits-words size before after w)
+            (λ size before after plain w. IsAdditive-stays (stays-word_wrapped size before after plain w)) rectangular texts;
+        best = λ takes wide.
+            let changed = cell_kept shrinks s change n cells config sizes new stored last (Some (Row 0)) refl narrows cleared takes wide in
+            record {
+              fewest = λ row column inside. fewest-words (content_size row column) (cell_at cells row column) (cell_at new row column) (changed row column inside);
+              whole = λ row column inside some fits. old_words (content_size row column) (cell_at cells row column) (cell_at new row column) some fits (changed row column inside);
             };
         least = λ greatest wide.
             least_of shrinks s change n cells config sizes new stored last (Some (Row 0)) refl narrows cleared (takes_of greatest) wide greatest;

@@ -6,6 +6,7 @@ use Rattle.tabled_set.specs.Minimums.{minimums, side_padding}
 use Rattle.tabled_priority.specs.Least.{HasLeastGreatest}
 use Rattle.tabled_text.specs.Breaking.{EachUnitFits, HasFewestLines}
 use Rattle.tabled_text.specs.OldText.{HasOldText}
+use Rattle.tabled_text.specs.WordWrap.{HasFewestWordLines, HasOldWords}
 
 -- the content width of a cell
 abbrev pub inner_width : Sheet → ℕ → ℕ → ℕ
@@ -23,6 +24,16 @@ pub record IsBestWrapped (words : Bool) (old new : Sheet) : Type 0 where
   pub whole : (row column : ℕ) → IsInside old.cells row column → 0 < inner_width new row column
       → EachUnitFits (inner_width new row column) words (cell_at old.cells row column)
       → HasOldText (cell_at old.cells row column) (cell_at new.cells row column)
+
+-- a table wrapped between words: no breaking of a cell's old text for its content width has fewer
+-- lines, and if each unit fits, the new text is the old one with line feeds inserted or put in the
+-- place of spaces
+pub record IsBestWordWrapped (old new : Sheet) : Type 0 where
+  pub fewest : (row column : ℕ) → IsInside old.cells row column
+      → HasFewestWordLines (inner_width new row column) (cell_at old.cells row column) (cell_at new.cells row column)
+  pub whole : (row column : ℕ) → IsInside old.cells row column → 0 < inner_width new row column
+      → EachUnitFits (inner_width new row column) true (cell_at old.cells row column)
+      → HasOldWords (cell_at old.cells row column) (cell_at new.cells row column)
 
 -- a table truncated without a suffix. A cell that was too wide, and is one line whose width is the
 -- sum of its characters' widths (as in plain text), becomes the longest beginning that fits. With

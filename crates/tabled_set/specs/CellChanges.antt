@@ -2,6 +2,7 @@
 use Rattle.std.specs.Prelude.{◌≡◌, ◌⊎◌, ℕ, Bool, true, not, ◌&&◌, ◌||◌, ◌==◌, ◌<◌, ◌∷◌, ◌++◌, nat_lt, List, [], MatchBool, Option}
 use Rattle.std.specs.Prelude.{Some, None, length, slice_index_or, nat_le}
 use Rattle.tabled_set.specs.Common.{cell_at, covers, Entity, IsInside, lines_of, Memory, Range, TableError, text_columns, columns}
+use Rattle.tabled_text.specs.WordWrap.{IsWordWrapped}
 use Rattle.tabled_text.specs.Wrapping.{IsWrapped}
 use Rattle.tabled_set.specs.Truncated.{IsTruncated, SuffixLimit}
 pub use Rattle.tabled_set.specs.declared.walk.WalkOrder.{WalkOrder}
@@ -16,6 +17,10 @@ use Rattle.tabled_records.specs.Joined.{Written}
 -- a text is wrapped to a content size, words kept whole or not
 abbrev pub wrapping : Bool → ℕ → List ℕ → List ℕ → Type 0
 wrapping words content_size before after = IsWrapped content_size words before after
+
+-- a text is wrapped to a content size between words, and the spaces at which it is broken are dropped
+abbrev pub word_wrapping : ℕ → List ℕ → List ℕ → Type 0
+word_wrapping content_size before after = IsWordWrapped content_size before after
 
 -- a text is truncated to a content size
 abbrev pub truncating : List ℕ → SuffixLimit → Bool → ℕ → List ℕ → List ℕ → Type 0

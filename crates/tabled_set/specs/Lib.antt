@@ -1,3 +1,4 @@
+pub mod Alignment
 pub mod BestNarrowing
 pub mod CellChanges
 pub mod Common

@@ -2,7 +2,7 @@
 use Rattle.std.specs.Prelude.{◌≡◌, ◌<◌, ℕ, Bool, List, Option, [], false, length, max, sum}
 use Rattle.tabled_set.specs.Common.{AreCleared, AreTexts, CompleteDimension, Entity, estimated, Holds, is_empty, IsAdditive, IsSized, Sheet}
 use Rattle.tabled_set.specs.Common.{SpannedConfig, total_height, total_width}
-use Rattle.tabled_set.specs.BestNarrowing.{HasLeastWidth, IsBestCut, IsBestWrapped}
+use Rattle.tabled_set.specs.BestNarrowing.{HasLeastWidth, IsBestCut, IsBestWordWrapped, IsBestWrapped}
 use Rattle.tabled_set.specs.ExactTotal.{HasEstimatedWidths, HasExactTotal}
 use Rattle.tabled_set.specs.Truncated.{IsAdditiveLimit, SuffixLimit}
 use Rattle.tabled_set.specs.HeightFrame.{frame_height}
@@ -24,6 +24,12 @@ pub record WrapsAsPromised {P : Type 0} (shrinks : Shrinks P) (s : P) (words : B
     (old new : Sheet) : Type 0 where
   pub exact : TakesFrom shrinks s → IsWiderThan n old → AreTexts old.cells → HasExactTotal n old new
   pub best : TakesFrom shrinks s → IsWiderThan n old → IsBestWrapped words old new
+  pub least : TakesGreatest shrinks s → IsWiderThan n old → HasLeastWidth old new
+
+-- wrapped between words to n columns: the same
+pub record WordWrapsAsPromised {P : Type 0} (shrinks : Shrinks P) (s : P) (n : ℕ) (old new : Sheet) : Type 0 where
+  pub exact : TakesFrom shrinks s → IsWiderThan n old → AreTexts old.cells → HasExactTotal n old new
+  pub best : TakesFrom shrinks s → IsWiderThan n old → IsBestWordWrapped old new
   pub least : TakesGreatest shrinks s → IsWiderThan n old → HasLeastWidth old new
 
 -- truncated to n columns. With a priority that takes all it can, the total is exact if the suffix

@@ -8,13 +8,13 @@
 //! Options:
 //! - `resize`: `Resize`, the type of the options that change widths and heights, with the trait
 //!   `TextTransform`, the cells that are changed, and the change of one
-//! - `wrap`, `truncate`, `min_width`: `Wrap`, `Truncate` with `SuffixLimit`, `MinWidth`, and
-//!   `Justify`, which makes all cells equally wide
+//! - `wrap`, `word_wrap`, `truncate`, `min_width`: `Wrap`, `WordWrap`, `Truncate` with
+//!   `SuffixLimit`, `MinWidth`, and `Justify`, which makes all cells equally wide
 //! - `heights`: `CellHeightIncrease`, `CellHeightLimit`, `TableHeightIncrease` and
 //!   `TableHeightLimit`
 //! - `sizes`: `WidthList` and `HeightList`; a table's sizes with their total, and lists that a
 //!   priority has shrunk or grown
-//! - `spaces`: `Margin` and `Padding`
+//! - `spaces`: `Margin` and `Padding`; `alignment`: `Alignment`
 //! - `laws`: facts about truncated texts
 //!
 //! Changing cells and tables:
@@ -24,6 +24,7 @@
 //! - `narrowed_cells`: the cells of a narrowed table, for records that are only borrowed
 #![tactic(auto)]
 
+mod alignment;
 mod heights;
 pub mod laws;
 mod measurement;
@@ -36,8 +37,10 @@ mod sizes;
 mod spaces;
 mod truncate;
 mod walk;
+mod word_wrap;
 mod wrap;
 
+pub use alignment::Alignment;
 pub use heights::{CellHeightIncrease, CellHeightLimit, TableHeightIncrease, TableHeightLimit};
 pub use measurement::{Height, Max, Measurement, Min, Percent, Width};
 pub use min_width::{Justify, MinWidth};
@@ -48,4 +51,5 @@ pub use sizes::{HeightList, WidthList};
 pub use spaces::{Margin, Padding, PaddingExpand};
 pub use truncate::{SuffixLimit, Truncate, Truncating, columns_beside};
 pub use walk::{WalkOrder, change_cells};
+pub use word_wrap::WordWrap;
 pub use wrap::Wrap;

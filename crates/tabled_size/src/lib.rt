@@ -4,6 +4,7 @@
 //! - `dimension.rt`: the traits of sizes, `Dimension` and `Estimate`.
 //! - `complete_dimension.rt`: sizes that are stored or not, and the sizes of a pool table.
 //! - `const_dimension.rt`: given sizes that never change.
+//! - `stored_sizes.rt`: which sizes each dimension clears behind an option.
 //! - `estimate.rt`: the widest cell of each column and the tallest of each row.
 //! - `added_padding.rt`: what padding adds to the size of a cell.
 //! - `total.rt`: the total width and height, with borders and margins: of given sizes, of the
@@ -15,6 +16,7 @@ mod complete_dimension;
 mod const_dimension;
 mod dimension;
 mod estimate;
+mod stored_sizes;
 mod total;
 
 pub use complete_dimension::{CompleteDimension, DimensionPriority, PoolTableDimension};

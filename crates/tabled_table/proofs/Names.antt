@@ -55,12 +55,13 @@ unfoldable pub use Rattle.tabled_size.specs.Totals.{filled_width}
 pub use Rattle.tabled_table.specs.Applied.{ChangesEach}
 pub use Rattle.tabled_table.specs.Batches.{batches_left}
 pub use Rattle.tabled_table.specs.PrintedWith.{shown, shown_config}
+pub use Rattle.tabled_table.specs.Stream.Marked.{IsCutCell}
 pub use Rattle.tabled_table.specs.Stream.Printed.{StopsBelow, WritesBelow, lines_before}
 unfoldable pub use Rattle.tabled_table.specs.Stream.Printed.{lines_above}
 pub use Rattle.tabled_table.specs.Stream.Progress.{AreFirst, AreFurther, EndsSheet, Halts, HaltsWithin, HasPut, HasPutMore, IsInReach}
 pub use Rattle.tabled_table.specs.Stream.Progress.{IsLaidOut, IsLimited, IsPermitted, PutsNext, left_of}
 pub use Rattle.tabled_table.specs.Stream.Row.{content_at, layout_columns, layout_row, record_lines, rule_of, width_at}
-pub use Rattle.tabled_table.specs.Stream.Streamed.{IsCutRow, IsStreamed, ahead, column_count, content_height, content_width, limited}
+pub use Rattle.tabled_table.specs.Stream.Streamed.{IsCutRow, IsMarkedRow, IsStreamed, ahead, column_count, content_height, content_width, limited}
 pub use Rattle.tabled_table.specs.Stream.Streamed.{sniffed, stream_height, stream_width, stream_widths, tallest, widest}
 pub use Rattle.tabled_table.specs.Stream.Streams.{AreEnough, ArePermitted, AreSniffed, PrintsStream, StreamSends, StreamStops, Streams}
 pub use Rattle.tabled_table.specs.Stream.Streams.{reaches, stream_total}

@@ -3,6 +3,7 @@ pub mod Drawn
 pub mod Finished
 pub mod FirstRows
 pub mod Going
+pub mod Marked
 pub mod Measures
 pub mod SameSheet
 pub mod Steps

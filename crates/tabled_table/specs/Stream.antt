@@ -2,6 +2,7 @@
 pub mod Applied
 pub mod GoesOn
 pub mod LikeTable
+pub mod Marked
 pub mod NewTable
 pub mod Printed
 pub mod Progress

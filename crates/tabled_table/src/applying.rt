@@ -168,7 +168,7 @@ fn copy_config(
 /// Applies an option to each part that a target names, in order. If it fails at one, the parts
 /// before it stay changed, and the configuration is restored if there is a copy. Allocates only
 /// before the first change.
-fn change_target<
+pub(crate) fn change_target<
     T: Object<VecRecords<Text<String>>>,
     O: CellOption<VecRecords<Text<String>>, ColoredConfig>,
 >(

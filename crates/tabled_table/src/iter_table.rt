@@ -13,9 +13,11 @@ ghost use Rattle.tabled_table.specs.Stream.Streams.{BuildsStream, Came, PrintsSt
 
 mod first_rows;
 mod layout;
+mod marked;
 mod row;
 mod settings;
 mod stream;
+mod try_rows;
 
 use crate::iter_table::first_rows::print_stream;
 use crate::iter_table::settings::StreamSettings;
@@ -58,6 +60,7 @@ impl<I> IterTable<I> {
                 rows: None,
                 width: None,
                 height: None,
+                mark: None,
             },
         }
     }
@@ -113,6 +116,37 @@ impl<I> IterTable<I> {
             (record self.old.settings { width = Some columns }) }
     {
         self.settings.width = Some(columns);
+        self
+    }
+
+    /// Sets a character that ends each cell that is cut, as `…`. By default there is none.
+    ///
+    /// A cell that doesn't fit in its column is cut to the columns that the mark leaves, and the
+    /// mark follows. The mark takes its columns, at least 1. A cell that fits stays, and a mark
+    /// that is wider than the content width of a column is left out there.
+    ///
+    /// A text of several lines is cut as soon as one of them is as wide as the columns that are
+    /// left. The mark ends that line, and the lines below it are dropped. Lines that the height of
+    /// a row drops leave no mark.
+    ///
+    /// ```rust
+    /// let mut table = IterTable::new([["Ottawa", "Ontario"], ["Vancouver", "British Columbia"]]);
+    /// table.sniff(1).cut_mark('…');
+    /// assert_eq!(
+    ///     table.to_string(alloc)?,
+    ///     "+--------+---------+\n\
+    ///      | Ottawa | Ontario |\n\
+    ///      +--------+---------+\n\
+    ///      | Vanco… | Britis… |\n\
+    ///      +--------+---------+",
+    /// );
+    /// ```
+    pub fn cut_mark(&mut self, mark: char) -> &mut Self
+        ensures same_reference { result.ghost_name ≡ self.entry.ghost_name }
+        ensures set { result.now ≡ with_settings self.old
+            (record self.old.settings { mark = Some mark }) }
+    {
+        self.settings.mark = Some(mark);
         self
     }
 

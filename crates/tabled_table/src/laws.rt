@@ -1,5 +1,6 @@
 //! Laws of tables and of streamed tables, each the contract of a function.
-ghost use Rattle.std.specs.Prelude.{◌≡◌, ℕ, List, length, ◌<◌, ◌++◌, All, IsUtf8};
+ghost use Rattle.std.specs.Prelude.{◌≡◌, ℕ, List, length, ◌<◌, ◌≤◌, ◌-◌, ◌++◌, All, IsUtf8};
+ghost use Rattle.std.specs.Prelude.{Option, encode_utf8, true};
 ghost use Rattle.tabled_base.specs.Cells.{columns, IsRectangular};
 ghost use Rattle.tabled_size.specs.Holds.{Holds};
 ghost use Rattle.tabled_grid.specs.ApartSheet.{IsApartConfig};
@@ -8,7 +9,9 @@ ghost use Rattle.tabled_table.specs.NewTable.{IsNew};
 ghost use Rattle.tabled_table.specs.TableSheet.{new_sheet, sheet};
 ghost use Rattle.tabled_table.specs.declared.table.Table.{Table};
 ghost use Rattle.tabled_text.specs.Cut.{IsCut};
-ghost use Rattle.tabled_text.specs.Measure.{lines_of};
+ghost use Rattle.tabled_text.specs.Fitting.{FitsIn};
+ghost use Rattle.tabled_text.specs.Longest.{IsLongestCut};
+ghost use Rattle.tabled_text.specs.Measure.{char_count, lines_of, text_columns};
 ghost use Rattle.tabled_text.specs.Plain.{IsAdditive};
 ghost use Rattle.tabled_text.specs.Exact.{IsExactLine};
 ghost use Rattle.tabled_config.specs.declared.compact.CompactConfig.{CompactConfig};
@@ -18,6 +21,7 @@ ghost use Rattle.tabled_size.specs.TextCells.{AreTexts};
 ghost use Rattle.tabled_table.specs.declared.iter_table.settings.StreamSettings.{StreamSettings};
 ghost use Rattle.tabled_table.specs.Stream.GoesOn.{GoesOn};
 ghost use Rattle.tabled_table.specs.Stream.LikeTable.{IsLikeTable};
+ghost use Rattle.tabled_table.specs.Stream.Marked.{IsCutCell, IsMarked, StaysWhole, mark_fits};
 ghost use Rattle.tabled_table.specs.Stream.Streamed.{IsCutRow, IsStreamed, column_count, limited};
 ghost use Rattle.tabled_table.specs.Stream.Streamed.{sniffed};
 
@@ -55,6 +59,25 @@ pub fn texts_can_be_cut()
     ensures text { (n : ℕ) (text : List ℕ) → IsUtf8 text → (answer : List ℕ) × IsCut n text answer }
     ensures row { (content : ℕ → ℕ) (count : ℕ) (row : List (List ℕ)) → All IsUtf8 row
         → (cells : List (List ℕ)) × IsCutRow content count row cells }
+{}
+
+/// With any mark, or none, every text can be cut to any number of columns, and takes no more. A text
+/// that stays whole is itself, as a line does whose characters count as many as its columns, if it
+/// is no wider. Of a wider one of these, the longest beginning is left that fits in the columns that
+/// the mark leaves, and then comes the mark.
+pub fn marked_cells()
+    ensures exists { (mark : Option ℕ) (n : ℕ) (text : List ℕ) → IsUtf8 text
+        → (answer : List ℕ) × IsCutCell mark n text answer }
+    ensures fits { (mark : Option ℕ) (n : ℕ) (text answer : List ℕ)
+        → IsCutCell mark n text answer → FitsIn n answer }
+    ensures kept { (mark : Option ℕ) (n : ℕ) (text answer : List ℕ) → StaysWhole n text
+        → IsCutCell mark n text answer → answer ≡ text }
+    ensures whole { (n : ℕ) (text : List ℕ) → IsExactLine text → text_columns text ≤ n
+        → StaysWhole n text }
+    ensures longest { (mark n : ℕ) (text answer : List ℕ) → IsExactLine text
+        → n < text_columns text → mark_fits mark n ≡ true → IsMarked mark n text answer
+        → (front : List ℕ) × IsLongestCut (n - char_count mark) text front
+        × (answer ≡ front ++ encode_utf8 mark) }
 {}
 
 /// A table of the first rows can be continued with any rows of texts, however tall. There is a

@@ -3,7 +3,8 @@
 //! A `Table` stores all of its cells:
 //! - `table`: the table, its parts, its totals and its text, and the settings of a new one
 //! - `making`: makes tables of values and of rows, in batches of rows.
-//! - `applying`: options for the whole table and for some of its cells
+//! - `applying`: options for the whole table and for some of its cells; `modify`: the latter as an
+//!   option of the table
 //! - `printing`: printing with a minimum width and an alignment, and `Display`
 //!
 //! An `IterTable` is printed row by row while a source gives its rows. It stores only the rows that
@@ -15,6 +16,7 @@
 //! - `iter_table/first_rows`: reads and measures the first rows of a stream, and lays out its
 //!   columns.
 //! - `iter_table/layout`: the columns of a stream, what is around its cells, and its total width
+//! - `iter_table/marked`: cuts the cells of a row, with the mark if one is set.
 //! - `iter_table/row`: the columns that lines are printed over, and a row that is cut to them
 //! - `iter_table/stream`: writes the rows that were read first, and reads and writes the next
 //!
@@ -25,9 +27,11 @@ mod applying;
 mod iter_table;
 pub mod laws;
 mod making;
+mod modify;
 mod printing;
 mod table;
 
 pub use iter_table::IterTable;
 pub use making::LayoutIterator;
+pub use modify::{Modify, ModifyBy};
 pub use table::{Table, new_config};

@@ -12,27 +12,27 @@ use Rattle.tabled_text.proofs.FitLemmas.{Each-lines, EachUnit, EachUnit-parts, F
 
 -- ---- groups
 
-needed-le : (n : ℕ) (p : TextUnit) → 0 < n → needed n p ≤ p.width
+pub needed-le : (n : ℕ) (p : TextUnit) → 0 < n → needed n p ≤ p.width
 needed-le n p h = grind (arith, nat_tests)
 
 -- b ends within Y, or goes past it
-record GoesPast (b Y Z X : List TextUnit) : Type 0 where
-  first : TextUnit
-  more : List TextUnit
-  is : b ≡ Y ++ first ∷ more
-  next : Z ≡ first ∷ (more ++ X)
+pub record GoesPast {A : Type 0} (b Y Z X : List A) : Type 0 where
+  pub first : A
+  pub more : List A
+  pub is : b ≡ Y ++ first ∷ more
+  pub next : Z ≡ first ∷ (more ++ X)
 
-record EndsWithin (Z X : List TextUnit) : Type 0 where
-  left : List TextUnit
-  is : X ≡ left ++ Z
+pub record EndsWithin {A : Type 0} (Z X : List A) : Type 0 where
+  pub left : List A
+  pub is : X ≡ left ++ Z
 
 -- the same with one more before both
-past : (x y : TextUnit) (b Y Z X : List TextUnit) → x ≡ y → GoesPast b Y Z X → GoesPast (x ∷ b) (y ∷ Y) Z X
+past : {A : Type 0} (x y : A) (b Y Z X : List A) → x ≡ y → GoesPast b Y Z X → GoesPast (x ∷ b) (y ∷ Y) Z X
 past x y b Y Z X head p =
     let e : x ∷ b ≡ x ∷ (Y ++ p.first ∷ p.more) = ap (λ l. x ∷ l) p.is in
     record { first = p.first; more = p.more; is = subst (λ h. x ∷ b ≡ h ∷ (Y ++ p.first ∷ p.more)) head e; next = p.next }
 
-split_append : (b X Y Z : List TextUnit) → b ++ X ≡ Y ++ Z → EndsWithin Z X ⊎ GoesPast b Y Z X
+pub split_append : {A : Type 0} (b X Y Z : List A) → b ++ X ≡ Y ++ Z → EndsWithin Z X ⊎ GoesPast b Y Z X
 split_append [] X Y Z e = inl (record { left = Y; is = e })
 split_append (x ∷ b) X [] Z e = inr (record { first = x; more = b; is = refl; next = sym e })
 split_append (x ∷ b) X (y ∷ Y) Z e =
@@ -92,7 +92,7 @@ fewest_lines n pos words _ _ _ f b = absurd f
 
 -- ---- lines
 
-abbrev rows : List ℕ → ℕ
+abbrev pub rows : List ℕ → ℕ
 rows cs = length (lines_of cs)
 
 pub feedless-lines : (cs : List ℕ) → Each is_no_feed (lines_of cs)
@@ -118,7 +118,7 @@ rows-append (c ∷ xs) ys = by_test (c == 10) (rows-append xs ys)
 rows-line : (xs rest : List ℕ) → list_all is_no_feed xs ≡ true → rows (xs ++ rest) ≡ rows rest
 rows-line xs rest h = omega (arith, rows-append xs rest, ap length (lines_of-feedless xs h))
 
-rows-break : (rest : List ℕ) → rows (10 ∷ rest) ≡ 1 + rows rest
+pub rows-break : (rest : List ℕ) → rows (10 ∷ rest) ≡ 1 + rows rest
 rows-break rest = let e : suc (rows rest) ≡ 1 + rows rest = omega arith in e
 
 pub shown-feedless : (n used : ℕ) (u : TextUnit) → Feedless u → list_all is_no_feed (shown n used u) ≡ true
@@ -134,7 +134,7 @@ rows-group n used (u ∷ g) rest h =
     ∙ rows-group n (used + u.width) g rest h.1
 
 -- as many breaks as groups, but for the first
-rows-groups : (n : ℕ) (g : List TextUnit) (gs : List (List TextUnit)) (rest : List ℕ)
+pub rows-groups : (n : ℕ) (g : List TextUnit) (gs : List (List TextUnit)) (rest : List ℕ)
     → EachUnit Feedless (flat_map (λ x. x) (g ∷ gs)) → rows (text_of_groups n (g ∷ gs) ++ rest) ≡ length gs + rows rest
 rows-groups n g [] rest h = let e = rows-group n 0 g rest (EachUnit-parts Feedless g [] h).0 in omega arith
 rows-groups n g (k ∷ gs) rest h =

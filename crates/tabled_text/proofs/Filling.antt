@@ -262,7 +262,7 @@ unfolding chars
 space-is = refl
 
 -- ---- lines
-encodes-feed : (b : Bool) → encode_utf8_all (cond b (10 ∷ []) []) ≡ cond b (10 ∷ []) []
+pub encodes-feed : (b : Bool) → encode_utf8_all (cond b (10 ∷ []) []) ≡ cond b (10 ∷ []) []
 encodes-feed true = ap (λ l. l ++ []) (encode_ascii 10 (lit< tt))
 encodes-feed false = refl
 

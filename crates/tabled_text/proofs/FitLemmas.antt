@@ -42,7 +42,7 @@ pub record IsMade (q : ℕ → Bool) (P : TextUnit → Type 0) : Type 0 where
   pub space : P space
 
 module _ (q : ℕ → Bool) (P : TextUnit → Type 0) (made : IsMade q P) where
-  EachUnit-chars : (cs : List ℕ) → list_all q cs ≡ true → EachUnit P (map unit_of_char cs)
+  pub EachUnit-chars : (cs : List ℕ) → list_all q cs ≡ true → EachUnit P (map unit_of_char cs)
   EachUnit-chars [] h = tt
   EachUnit-chars (c ∷ cs) h = let parts = and_parts (q c) (list_all q cs) h in (made.char c parts.0, EachUnit-chars cs parts.1)
 

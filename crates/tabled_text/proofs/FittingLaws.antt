@@ -24,21 +24,21 @@ use Rattle.tabled_text.proofs.WrapRoom.{plain_space}
 
 -- ---- the units of a wrapped text, as they stand in a line
 
-record IsSpace (unit : TextUnit) : Type 0 where
-  text : unit.text ≡ 32 ∷ []
-  width : unit.width ≡ 1
+pub record IsSpace (unit : TextUnit) : Type 0 where
+  pub text : unit.text ≡ 32 ∷ []
+  pub width : unit.width ≡ 1
 
-record IsCharacter (unit : TextUnit) : Type 0 where
-  character : ℕ
-  text : unit.text ≡ character ∷ []
-  width : unit.width ≡ char_count character
+pub record IsCharacter (unit : TextUnit) : Type 0 where
+  pub character : ℕ
+  pub text : unit.text ≡ character ∷ []
+  pub width : unit.width ≡ char_count character
 
-record IsWord (unit : TextUnit) : Type 0 where
-  width : unit.width ≡ columns_of unit.text
+pub record IsWord (unit : TextUnit) : Type 0 where
+  pub width : unit.width ≡ columns_of unit.text
 
 -- a space stands anywhere (0 before it), a character behind a space or a character (1), a whole word behind a space
 -- only (2)
-abbrev Laid : ℕ → List TextUnit → Type 0
+abbrev pub Laid : ℕ → List TextUnit → Type 0
 Laid k [] = ⊤
 Laid k (u ∷ us) = (IsSpace u × Laid 0 us) ⊎ (((k ≤ 1) × (IsCharacter u × Laid 1 us)) ⊎ ((k ≡ 0) × (IsWord u × Laid 2 us)))
 
@@ -54,7 +54,7 @@ Laid-parts k (u ∷ us) vs h = ⊎_elim
     (λ a. let r = Laid-parts 2 us vs a.1.1 in (inr (inr (a.0, (a.1.0, r.0))), r.1)) o)
     h
 
-Laid-chars : (k : ℕ) → k ≤ 1 → (cs : List ℕ) (tail : List TextUnit) → ((j : ℕ) → Laid j tail) → Laid k (map unit_of_char cs ++ tail)
+pub Laid-chars : (k : ℕ) → k ≤ 1 → (cs : List ℕ) (tail : List TextUnit) → ((j : ℕ) → Laid j tail) → Laid k (map unit_of_char cs ++ tail)
 Laid-chars k le [] tail h = h k
 Laid-chars k le (c ∷ cs) tail h = inr (inl (le, (record { character = c; text = refl; width = refl }, Laid-chars 1 (omega arith) cs tail h)))
 
@@ -163,7 +163,7 @@ feedless-group n used (u ∷ us) h =
     list_all-append is_no_feed (shown n used u) (text_from n (used + u.width) us)
     ∙ and_from (list_all is_no_feed (shown n used u)) _ (shown-feedless n used u h.0) (feedless-group n (used + u.width) us h.1)
 
-Within-group : (n : ℕ) → 0 < n → (us : List TextUnit) → Laid 0 us → EachUnit Feedless us → Fits n 0 us
+pub Within-group : (n : ℕ) → 0 < n → (us : List TextUnit) → Laid 0 us → EachUnit Feedless us → Fits n 0 us
     → Within n (lines_of (text_from n 0 us))
 Within-group n pos us laid feedless fits =
     let all = columns-group n pos 0 0 0 [] us held-nothing (omega arith) laid fits in
@@ -171,11 +171,11 @@ Within-group n pos us laid feedless fits =
     subst (Within n) (sym (lines_of-feedless (text_from n 0 us) (feedless-group n 0 us feedless))) (own, tt)
 
 -- what holds of all units of the groups
-record Sound (units : List TextUnit) : Type 0 where
-  laid : Laid 0 units
-  feedless : EachUnit Feedless units
+pub record Sound (units : List TextUnit) : Type 0 where
+  pub laid : Laid 0 units
+  pub feedless : EachUnit Feedless units
 
-sound-parts : (us vs : List TextUnit) → Sound (us ++ vs) → Sound us × Sound vs
+pub sound-parts : (us vs : List TextUnit) → Sound (us ++ vs) → Sound us × Sound vs
 sound-parts us vs s =
     let l = Laid-parts 0 us vs s.laid in
     let f = EachUnit-parts Feedless us vs s.feedless in

@@ -32,6 +32,9 @@ pub mod SeparatorSteps
 pub mod StayLemmas
 pub mod Within
 pub mod WordBreaks
+pub mod WordFilling
+pub mod WordLaws
+pub mod WordUnits
 pub mod WrapKept
 pub mod WrapRoom
 pub mod WrappedText

@@ -11,16 +11,16 @@ use Rattle.tabled_text.proofs.FewestLines.{count-chars, fewest_lines, rows-wrapp
 use Rattle.tabled_text.proofs.Filling.{AllZip-broken, full_text, written_fullest}
 use Rattle.tabled_text.proofs.FitLemmas.{EachUnit, EachUnit-append, EachUnit-parts}
 
-abbrev Narrow : ℕ → List TextUnit → Type 0
+abbrev pub Narrow : ℕ → List TextUnit → Type 0
 Narrow n us = EachUnit (λ u. u.width ≤ n) us
 
-Narrow-from : (n : ℕ) (us : List TextUnit) → All (λ u. u.width ≤ n) us → Narrow n us
+pub Narrow-from : (n : ℕ) (us : List TextUnit) → All (λ u. u.width ≤ n) us → Narrow n us
 Narrow-from n [] h = tt
 Narrow-from n (u ∷ us) h = (All-head (λ (v : TextUnit). v.width ≤ n) u us h, Narrow-from n us (All-tail (λ (v : TextUnit). v.width ≤ n) u us h))
 
 -- ---- the units joined are the line
 
-text_of-chars : (cs : List ℕ) → text_of (map unit_of_char cs) ≡ cs
+pub text_of-chars : (cs : List ℕ) → text_of (map unit_of_char cs) ≡ cs
 text_of-chars [] = refl
 text_of-chars (c ∷ cs) = ap (λ l. c ∷ l) (text_of-chars cs)
 
@@ -93,7 +93,7 @@ all_lines n words _ _ e f = absurd f
 
 -- ---- the fullest breaking is one
 
-fits-narrow : (n used : ℕ) (g : List TextUnit) → used ≤ n → Narrow n g → Fits n used g → used + width_of g ≤ n
+pub fits-narrow : (n used : ℕ) (g : List TextUnit) → used ≤ n → Narrow n g → Fits n used g → used + width_of g ≤ n
 fits-narrow n used [] le h f = omega arith
 fits-narrow n used (u ∷ g) le h f =
     let own : used + u.width ≤ n = subst (λ b. used + cond b u.width 1 ≤ n) (le-leb u.width n h.0) f.0 in
@@ -167,7 +167,7 @@ narrow-groups n (g ∷ gs) h =
     EachUnit-append (λ u. u.width ≤ n) g (flat_map (λ x. x) gs) (unit-le n g (All-head (λ (g : List TextUnit). width_of g ≤ n) g gs h))
     (narrow-groups n gs (All-tail (λ (g : List TextUnit). width_of g ≤ n) g gs h))
 
-All-narrow : (n : ℕ) (us : List TextUnit) → Narrow n us → All (λ u. u.width ≤ n) us
+pub All-narrow : (n : ℕ) (us : List TextUnit) → Narrow n us → All (λ u. u.width ≤ n) us
 All-narrow n [] h = All-nil (λ (u : TextUnit). u.width ≤ n)
 All-narrow n (u ∷ us) h = All-cons (λ (u : TextUnit). u.width ≤ n) u us h.0 (All-narrow n us h.1)
 

@@ -49,10 +49,10 @@ line_kept-before n words line rest plain room =
 
 -- ---- a text of at most n bytes: its units are no wider than their characters count
 
-abbrev own_width : TextUnit → ℕ
+abbrev pub own_width : TextUnit → ℕ
 own_width unit = unit.width
 
-width-chars : (cs : List ℕ) → width_of (map unit_of_char cs) ≡ count_of cs
+pub width-chars : (cs : List ℕ) → width_of (map unit_of_char cs) ≡ count_of cs
 width-chars [] = refl
 width-chars (c ∷ cs) =
     omega (arith, sum_by-cons own_width (unit_of_char c) (map unit_of_char cs), sum_by-cons char_count c cs, width-chars cs)
@@ -116,7 +116,7 @@ IsWrapped-short n words text u some le =
     IsWrapped-written n words text text (λ z. omega arith) u (sym (ap encode_utf8_all same ∙ encodes-chars text u))
 
 -- an additive text of at most n columns
-plain-counts : (n : ℕ) (ls : List (List ℕ)) → EachPlain ls → greatest (map columns_of ls) ≤ n → All (λ l. count_of l ≤ n) ls
+pub plain-counts : (n : ℕ) (ls : List (List ℕ)) → EachPlain ls → greatest (map columns_of ls) ≤ n → All (λ l. count_of l ≤ n) ls
 plain-counts n [] p h = All-nil (λ l. count_of l ≤ n)
 plain-counts n (l ∷ ls) p h =
     let same = line_columns-plain l p.0 ∙ sym (count_of-plain l p.0) in

@@ -13,4 +13,6 @@ pub mod Plain
 pub mod Room
 pub mod Runs
 pub mod Walk
+pub mod WordWalk
+pub mod WordWrap
 pub mod Wrapping

@@ -16,6 +16,9 @@ ghost use Rattle.tabled_text.specs.Plain.{is_listed, is_drawn, has_plain_width, 
 ghost use Rattle.tabled_text.specs.Plain.{IsPlain, IsPlainColumn, is_additive, IsAdditive};
 ghost use Rattle.tabled_text.specs.Plain.{IsAdditiveColumn, IsAdditiveLine};
 ghost use Rattle.tabled_text.specs.Room.{stays, StaysWithin};
+ghost use Rattle.tabled_text.specs.Fitting.{FitsIn};
+ghost use Rattle.tabled_text.specs.WordWrap.{HasFewestWordLines, HasOldWords, IsLeastWordBreaking};
+ghost use Rattle.tabled_text.specs.WordWrap.{IsWordWrapped};
 ghost use Rattle.tabled_text.specs.Wrapping.{IsWrapped};
 
 use crate::measure::line_width;
@@ -147,4 +150,24 @@ pub fn wrapped_texts()
         → EachUnitFits n words text → IsWrapped n words text answer → HasOldText text answer }
     ensures kept { (n : ℕ) (words : Bool) (text answer : List ℕ) → 0 < n → IsAdditive text
         → text_columns text ≤ n → IsWrapped n words text answer → answer ≡ text }
+{}
+
+/// A text that is wrapped between words takes at most n columns, and stays additive. For n ≥ 1 it is
+/// unchanged if it is additive and took at most n columns before. No breaking has fewer lines. If
+/// n ≥ 1 and each unit fits, the wrapped text is the text of a breaking: the old text with line
+/// feeds inserted or put in the place of spaces.
+pub fn word_wrapped_texts()
+    ensures fits { (n : ℕ) (text answer : List ℕ) → IsWordWrapped n text answer → FitsIn n answer }
+    ensures room { (n : ℕ) (text answer : List ℕ) → IsAdditive text → IsWordWrapped n text answer
+        → StaysWithin n answer }
+    ensures fewest { (n : ℕ) (text answer : List ℕ) → IsWordWrapped n text answer
+        → HasFewestWordLines n text answer }
+    ensures least { (n : ℕ) (text answer : List ℕ) → 0 < n → EachUnitFits n true text
+        → IsWordWrapped n text answer → IsLeastWordBreaking n text answer }
+    ensures whole { (n : ℕ) (text answer : List ℕ) → 0 < n → EachUnitFits n true text
+        → IsWordWrapped n text answer → HasOldWords text answer }
+    ensures kept { (n : ℕ) (text answer : List ℕ) → 0 < n → IsAdditive text
+        → text_columns text ≤ n → IsWordWrapped n text answer → answer ≡ text }
+    ensures short { (n : ℕ) (text : List ℕ) → IsUtf8 text → 0 < n → length text ≤ n
+        → IsWordWrapped n text text }
 {}

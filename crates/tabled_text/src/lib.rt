@@ -14,6 +14,7 @@
 //! Making texts:
 //! - `cut`: cuts a text to n columns.
 //! - `wrap`: wraps a text to n columns.
+//! - `word_wrap`: wraps a text between words, and drops the space at which a line is broken.
 //! - `fewest_lines`: whether a text is another one wrapped, in the fewest lines.
 //! - `sink`: where wrapping writes to, and copies of a character.
 //!
@@ -35,6 +36,7 @@ mod line_ends;
 mod measure;
 mod runs;
 mod sink;
+mod word_wrap;
 mod wrap;
 
 pub use character::{
@@ -50,4 +52,5 @@ pub use measure::{
 };
 pub use runs::run_end;
 pub use sink::{copies, push_copies};
+pub use word_wrap::{wrap_words, wrap_words_into};
 pub use wrap::{fits_bytes, wrap_into, wrap_text};

@@ -37,7 +37,7 @@ fn begin<S: Sink>(out: &mut S, used: usize, n: usize, needed: usize) -> Result<u
 }
 
 /// Writes a word, and returns the columns then used.
-fn append_word<S: Sink>(
+pub(crate) fn append_word<S: Sink>(
     out: &mut S,
     used: usize,
     n: usize,
@@ -76,7 +76,12 @@ fn append_char<S: Sink>(out: &mut S, used: usize, n: usize, c: char) -> Result<u
 }
 
 /// Writes the characters of a text, those of a line at once, and returns the columns then used.
-fn append_chars<S: Sink>(out: &mut S, used: usize, n: usize, text: &str) -> Result<usize, S::Error>
+pub(crate) fn append_chars<S: Sink>(
+    out: &mut S,
+    used: usize,
+    n: usize,
+    text: &str,
+) -> Result<usize, S::Error>
     requires { 0 < n }
     ensures used { IfOk result (λ column. column
         ≡ used_after n used (map unit_of_char (chars text.now))) }

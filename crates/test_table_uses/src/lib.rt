@@ -6,6 +6,7 @@ mod applying;
 mod grids;
 mod making;
 mod modifying;
+mod options;
 mod printing;
 mod sheet;
 mod sized;
@@ -17,6 +18,7 @@ pub use making::{
     there_and_back,
 };
 pub use modifying::{joined, joined_picture};
+pub use options::{changed_by, modified_by};
 pub use printing::{Look, formatted, put_with};
 pub use sheet::{PAIRS, Rows, Sheet, Sizes};
-pub use sized::{limited, wrapped};
+pub use sized::{limited, word_wrapped, wrapped};

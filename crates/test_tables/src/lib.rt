@@ -11,9 +11,13 @@ mod faulty;
 #[cfg(test)]
 mod grids;
 #[cfg(test)]
+mod looks;
+#[cfg(test)]
 mod made;
 #[cfg(test)]
 mod making;
+#[cfg(test)]
+mod marks;
 #[cfg(test)]
 mod modifying;
 #[cfg(test)]
@@ -42,3 +46,7 @@ mod sinks;
 mod sized;
 #[cfg(test)]
 mod texts;
+#[cfg(test)]
+mod word_wraps;
+#[cfg(test)]
+mod try_rows;

@@ -1,5 +1,5 @@
 -- A whole stream: the rows that were taken first, those that came behind them, and what of them was printed.
-use Rattle.tabled_table.proofs.Names.{AreEnough, AreFirst, AreFurther, ArePermitted, AreSniffed, Bool, CompactConfig, IsCutRow, IsPermitted}
+use Rattle.tabled_table.proofs.Names.{AreEnough, AreFirst, AreFurther, ArePermitted, AreSniffed, Bool, CompactConfig, IsMarkedRow, IsPermitted}
 use Rattle.tabled_table.proofs.Names.{IsStreamed, List, None, Option, Sent, Sheet, Some, StreamSends, StreamSettings, [], ahead, ap}
 use Rattle.tabled_table.proofs.Names.{append-nil, arith, cases_lt, column_count, columns, content_width, false, filled_picture}
 use Rattle.tabled_table.proofs.Names.{filled_width, get_or, get_or-map, get_or-map-range_with_len, if◌then◌else◌, inl, inr, join_with_byte}
@@ -152,21 +152,21 @@ blank settings config ahead_rows rows = record {
   heights = map (λ k. stream_height settings config ahead_rows k (get_or rows k [])) (range_with_len 0 (length rows));
 }
 
-no-cells : (content : ℕ → ℕ) (count : ℕ) (row : List (List ℕ)) → count ≡ 0 → IsCutRow content count row []
-no-cells content count row h =
-    let P : ℕ → Type 0 = λ n. IsCutRow content n row [] in
+no-cells : (mark : Option ℕ) (content : ℕ → ℕ) (count : ℕ) (row : List (List ℕ)) → count ≡ 0 → IsMarkedRow mark content count row []
+no-cells mark content count row h =
+    let P : ℕ → Type 0 = λ n. IsMarkedRow mark content n row [] in
     subst P (sym h) (record { cut = []; as_many = omega arith; each = λ k b. absurd (omega arith); whole = refl })
 
 blank-streamed : (settings : StreamSettings) (config : CompactConfig) (ahead_rows rows : List (List (List ℕ)))
     → (column_count settings ahead_rows ≡ 0) ⊎ (length rows ≡ 0) → IsStreamed settings config ahead_rows rows (blank settings config ahead_rows rows)
 unfolding blank
 blank-streamed settings config ahead_rows rows none =
-    let C = IsCutRow (content_width settings ahead_rows) (column_count settings ahead_rows) in
+    let C = IsMarkedRow settings.mark (content_width settings ahead_rows) (column_count settings ahead_rows) in
     record {
       as_many = length-map rows (λ _. []);
       cells = λ k b.
           subst (C (get_or rows k [])) (sym (get_or-map (λ _. []) rows k [] [] b))
-          (⊎_elim (λ h. no-cells (content_width settings ahead_rows) (column_count settings ahead_rows) (get_or rows k []) h)
+          (⊎_elim (λ h. no-cells settings.mark (content_width settings ahead_rows) (column_count settings ahead_rows) (get_or rows k []) h)
           (λ (h : length rows ≡ 0). absurd (omega arith)) none);
       settings_of = refl;
       widths = refl;

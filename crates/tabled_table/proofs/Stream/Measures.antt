@@ -1,5 +1,5 @@
 -- What is measured of rows, cell by cell and row by row.
-use Rattle.tabled_table.proofs.Names.{AreFirst, CellStyle, ColumnSheet, CompactConfig, HorizontalLine, IsCutRow, IsLaidOut, IsStreamed}
+use Rattle.tabled_table.proofs.Names.{AreFirst, CellStyle, ColumnSheet, CompactConfig, HorizontalLine, IsLaidOut, IsMarkedRow, IsStreamed}
 use Rattle.tabled_table.proofs.Names.{Layout, List, MatchOption, None, Option, Sheet, Some, StreamSettings, [], ahead, ap, arith}
 use Rattle.tabled_table.proofs.Names.{below_more, cases_lt, cell_at, get_or_past, column_count, columns, columns_of, content_width}
 use Rattle.tabled_table.proofs.Names.{each-more, false, fits-none, flat_map, frame, get_or, get_or-map, greatest, if◌then◌else◌}
@@ -21,7 +21,7 @@ columns-head [] = refl
 columns-head (row ∷ rows) = refl
 
 -- a cut row has a cell in each column
-pub length-cut : (content : ℕ → ℕ) (count : ℕ) (row cells : List (List ℕ)) → IsCutRow content count row cells → length cells ≡ count
+pub length-cut : {mark : Option ℕ} (content : ℕ → ℕ) (count : ℕ) (row cells : List (List ℕ)) → IsMarkedRow mark content count row cells → length cells ≡ count
 length-cut content count row cells h =
     let at = h.as_many in
     ap length h.whole ∙ length-lengthened count h.cut ∙ (let e : max count (length h.cut) ≡ count = omega arith in e)

@@ -1,5 +1,5 @@
 -- A streamed table that is like a `Table` is the table with estimated sizes.
-use Rattle.tabled_table.proofs.Names.{AreEnough, Bool, CompactConfig, Err, IsCutRow, IsStreamed, List, Ok, PrintsStream, Result, Sends}
+use Rattle.tabled_table.proofs.Names.{AreEnough, Bool, CompactConfig, Err, IsMarkedRow, IsStreamed, List, Ok, PrintsStream, Result, Sends}
 use Rattle.tabled_table.proofs.Names.{Sent, Sheet, SpannedConfig, StreamSettings, TableError, [], ap, append-nil, arith, column_count}
 use Rattle.tabled_table.proofs.Names.{column_width, columns, content_width, estimated_heights, estimated_widths, false, get_or}
 use Rattle.tabled_table.proofs.Names.{get_or-map-range_with_len, greatest, if◌then◌else◌, inl, inr, is_some, length}
@@ -14,7 +14,7 @@ use Rattle.tabled_size.specs.Estimates.{needed_height, row_height}
 use Rattle.tabled_size.specs.Sheet.{estimated}
 use Rattle.tabled_size.proofs.Greatest.{greatest_below, greatest_ge, greatest_more}
 use Rattle.tabled_table.specs.Stream.LikeTable.{AreMeasured, IsLikeTable, PrintsLikeTable}
-use Rattle.tabled_text.proofs.ExactLines.{exact-kept}
+use Rattle.tabled_table.proofs.Stream.Marked.{cut_cell-kept, exact-whole}
 use Rattle.tabled_table.proofs.Stream.Measures.{greatest-next}
 
 -- ---- lists
@@ -89,7 +89,7 @@ module _ {settings : StreamSettings} {rows : List (List (List ℕ))} (a : AreMea
 
   -- what is shown of a row are its cut cells, without an empty one behind them
   pub row-cut : (index : ℕ) (cells : List (List ℕ)) → index < length rows
-      → (c : IsCutRow (content_width settings rows) (column_count settings rows) (get_or rows index []) cells) → (cells ≡ c.cut) × (length c.cut ≡ columns rows)
+      → (c : IsMarkedRow settings.mark (content_width settings rows) (column_count settings rows) (get_or rows index []) cells) → (cells ≡ c.cut) × (length c.cut ≡ columns rows)
   row-cut index cells b c =
       let row = get_or rows index [] in
       let long = row-long index b in
@@ -167,7 +167,7 @@ module _ {settings : StreamSettings} {rows : List (List (List ℕ))} (a : AreMea
 module _ {settings : StreamSettings} {rows : List (List (List ℕ))} (a : IsLikeTable settings rows) where
   -- no cell is cut
   row-kept : (index : ℕ) (cells : List (List ℕ)) → index < length rows
-      → IsCutRow (content_width settings rows) (column_count settings rows) (get_or rows index []) cells → cells ≡ get_or rows index []
+      → IsMarkedRow settings.mark (content_width settings rows) (column_count settings rows) (get_or rows index []) cells → cells ≡ get_or rows index []
   row-kept index cells b c =
       let row = get_or rows index [] in
       let cut = row-cut a.measured index cells b c in
@@ -175,7 +175,10 @@ module _ {settings : StreamSettings} {rows : List (List (List ℕ))} (a : IsLike
       let many = cut.1 in
       cut.0
       ∙ ext_get_or [] c.cut row (omega arith)
-      (λ k l. exact-kept (content_width settings rows k) (get_or row k []) (get_or c.cut k []) (a.exact index [] b k [] (omega arith)) (cell-room a.measured index k b) (c.each k l))
+      (λ k l.
+      let n = content_width settings rows k in
+      let whole = exact-whole n (get_or row k []) (a.exact index [] b k [] (omega arith)) (cell-room a.measured index k b) in
+      cut_cell-kept settings.mark n (get_or row k []) (get_or c.cut k []) whole (c.each k l))
 
   module _ (config : CompactConfig) where
     same-sheet : (t : Sheet) → IsStreamed settings config rows rows t → t ≡ estimated rows (spanned_of_compact config)

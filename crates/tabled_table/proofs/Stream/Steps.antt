@@ -1,6 +1,6 @@
 -- A table that is printed, one row further.
-use Rattle.tabled_table.proofs.Names.{Bool, CompactConfig, Err, Halts, HaltsWithin, HasPut, IsCut, IsCutRow, IsErrAnd, IsInReach, IsLaidOut}
-use Rattle.tabled_table.proofs.Names.{IsStreamed, Layout, LineSends, LineStops, List, Memory, Ok, PutsNext, Range, Result, Sends, Sent}
+use Rattle.tabled_table.proofs.Names.{Bool, CompactConfig, Err, Halts, HaltsWithin, HasPut, IsCutCell, IsErrAnd, IsInReach, IsLaidOut}
+use Rattle.tabled_table.proofs.Names.{IsMarkedRow, IsStreamed, Layout, LineSends, LineStops, List, Memory, Ok, Option, PutsNext, Range, Result, Sends, Sent}
 use Rattle.tabled_table.proofs.Names.{Sheet, Stops, StopsBelow, StreamSettings, TableError, WritesBelow, WritesLines, [], ap, append-nil}
 use Rattle.tabled_table.proofs.Names.{append_assoc, arith, below_more, column_count, content_at, content_height, content_width, each-more}
 use Rattle.tabled_table.proofs.Names.{false, fill, filled_width, flat_map, frame, get_or, get_or_append_left, inl, inr, join_with_byte}
@@ -70,11 +70,11 @@ each-pushed P xs y d n e before here =
     (subst (P n) (sym (get_or_push xs y d n e)) here)
 
 -- the first cells are cut, and the row is filled up
-pub cut_first : {A : Type 0} (text : A → List ℕ) (content : ℕ → ℕ) (count m : ℕ) (cells first : List A) (cut : List (List ℕ))
+pub cut_first : {A : Type 0} (mark : Option ℕ) (text : A → List ℕ) (content : ℕ → ℕ) (count m : ℕ) (cells first : List A) (cut : List (List ℕ))
     → first ≡ take m cells → m ≡ min count (length cells) → length cut ≡ length first
-    → ((k : ℕ) → k < length first → IsCut (content k) (get_or (map text first) k []) (get_or cut k []))
-    → IsCutRow content count (map text cells) (lengthened count cut)
-cut_first text content count m cells first cut e f g each =
+    → ((k : ℕ) → k < length first → IsCutCell mark (content k) (get_or (map text first) k []) (get_or cut k []))
+    → IsMarkedRow mark content count (map text cells) (lengthened count cut)
+cut_first mark text content count m cells first cut e f g each =
     let long : length first ≡ m = ap length e ∙ length-take m cells ∙ omega (arith, f) in
     let same : map text first ≡ take m (map text cells) = ap (map text) e ∙ sym (take-map text m cells) in
     record {
@@ -82,7 +82,7 @@ cut_first text content count m cells first cut e f g each =
       as_many = g ∙ long ∙ f ∙ ap (min count) (sym (length-map cells text));
       each = λ k b.
           let within : k < m = omega (arith, b, g, long) in
-          subst (λ t. IsCut (content k) t (get_or cut k [])) (ap (λ ts. get_or ts k []) same ∙ get_or-take m (map text cells) k [] within)
+          subst (λ t. IsCutCell mark (content k) t (get_or cut k [])) (ap (λ ts. get_or ts k []) same ∙ get_or-take m (map text cells) k [] within)
           (each k (omega (arith, b, g)));
       whole = refl;
     }
@@ -94,18 +94,19 @@ length-pushed xs y n e = omega (arith, length-append xs (y ∷ []))
 
 module _ {settings : StreamSettings} {config : CompactConfig} {ahead_rows : List (List (List ℕ))} {layout : Layout} where
   -- a row that is cut as the layout says is cut as the settings do
-  cut-laid : {row cells : List (List ℕ)} → IsLaidOut settings config ahead_rows layout → IsCutRow (content_at layout) layout.count row cells
-      → IsCutRow (content_width settings ahead_rows) (column_count settings ahead_rows) row cells
+  cut-laid : {row cells : List (List ℕ)} → IsLaidOut settings config ahead_rows layout → IsMarkedRow layout.mark (content_at layout) layout.count row cells
+      → IsMarkedRow settings.mark (content_width settings ahead_rows) (column_count settings ahead_rows) row cells
   cut-laid {row} {cells} l c = record {
     cut = c.cut;
     as_many = c.as_many ∙ ap (λ n. min n (length row)) l.count;
     each = λ k b.
-        subst (λ w. IsCut w (get_or row k []) (get_or c.cut k [])) (l.contents k (let m = c.as_many in omega arith)) (c.each k b);
+        subst (λ m. IsCutCell m (content_width settings ahead_rows k) (get_or row k []) (get_or c.cut k [])) l.mark
+        (subst (λ w. IsCutCell layout.mark w (get_or row k []) (get_or c.cut k [])) (l.contents k (let m = c.as_many in omega arith)) (c.each k b));
     whole = c.whole ∙ ap (λ n. lengthened n c.cut) l.count;
   }
 
   streamed-more : {shown : List (List (List ℕ))} {t : Sheet} {row cells : List (List ℕ)} {height : ℕ}
-      → IsLaidOut settings config ahead_rows layout → IsStreamed settings config ahead_rows shown t → IsCutRow (content_at layout) layout.count row cells
+      → IsLaidOut settings config ahead_rows layout → IsStreamed settings config ahead_rows shown t → IsMarkedRow layout.mark (content_at layout) layout.count row cells
       → height ≡ stream_height settings config ahead_rows (length shown) row
       → IsStreamed settings config ahead_rows (shown ++ row ∷ []) (followed t (cells ∷ []) (height ∷ []))
   streamed-more {shown} {t} {row} {cells} {height} l s c h =
@@ -138,7 +139,7 @@ module _ {settings : StreamSettings} {config : CompactConfig} {ahead_rows : List
       ∙ sym (append_assoc above (flat_map (row_part t) (range_with_len 0 n)) (L n cells height))
 
   reach-more : {shown : List (List (List ℕ))} {t : Sheet} {row cells : List (List ℕ)} {height : ℕ}
-      → IsLaidOut settings config ahead_rows layout → IsInReach settings config ahead_rows shown t → IsCutRow (content_at layout) layout.count row cells
+      → IsLaidOut settings config ahead_rows layout → IsInReach settings config ahead_rows shown t → IsMarkedRow layout.mark (content_at layout) layout.count row cells
       → height ≡ stream_height settings config ahead_rows (length shown) row → height < 2 ^ 64
       → IsInReach settings config ahead_rows (shown ++ row ∷ []) (followed t (cells ∷ []) (height ∷ []))
   reach-more {shown} {t} {row} {cells} {height} l r c h f =
@@ -150,7 +151,7 @@ module _ {settings : StreamSettings} {config : CompactConfig} {ahead_rows : List
       }
 
   pub put-more : {shown : List (List (List ℕ))} {row cells : List (List ℕ)} {height : ℕ} {start old new : Sent} {first begun begun' : Bool}
-      → HasPut settings config ahead_rows shown start layout first old begun → IsCutRow (content_at layout) layout.count row cells
+      → HasPut settings config ahead_rows shown start layout first old begun → IsMarkedRow layout.mark (content_at layout) layout.count row cells
       → LineSends old begun new begun' (record_lines layout (rule_of layout first) height cells)
       → height ≡ stream_height settings config ahead_rows (length shown) row → height < 2 ^ 64
       → HasPut settings config ahead_rows (shown ++ row ∷ []) start layout false new begun'
@@ -169,7 +170,7 @@ module _ {settings : StreamSettings} {config : CompactConfig} {ahead_rows : List
       }
 
   pub put-stopped : {shown : List (List (List ℕ))} {row cells : List (List ℕ)} {height : ℕ} {start old new : Sent} {first begun : Bool} {error : TableError}
-      → HasPut settings config ahead_rows shown start layout first old begun → IsCutRow (content_at layout) layout.count row cells
+      → HasPut settings config ahead_rows shown start layout first old begun → IsMarkedRow layout.mark (content_at layout) layout.count row cells
       → LineStops old begun error new (record_lines layout (rule_of layout first) height cells)
       → height ≡ stream_height settings config ahead_rows (length shown) row → height < 2 ^ 64
       → HaltsWithin settings config ahead_rows (shown ++ row ∷ []) start layout.count error new
@@ -227,7 +228,7 @@ module _ {settings : StreamSettings} {config : CompactConfig} {ahead_rows shown 
       }
 
 pub next-put : {R : Type 0} (r : Result R TableError) (layout : Layout) (first first' begun begun' : Bool) (old new : Sent) (height lines : ℕ)
-    (row cut : List (List ℕ)) → IsCutRow (content_at layout) layout.count row (lengthened layout.count cut)
+    (row cut : List (List ℕ)) → IsMarkedRow layout.mark (content_at layout) layout.count row (lengthened layout.count cut)
     → PutsCut layout (rule_of layout first) height cut old begun r new begun' → OnOk r (first' ≡ false)
     → height ≡ padded layout lines → height < 2 ^ 64 → PutsNext lines row layout first old begun r first' new begun'
 next-put (Ok x) layout first first' begun begun' old new height lines row cut c (inl m) f e b settings config ahead_rows shown start p h = absurd m.0

@@ -1,26 +1,26 @@
 -- The cells of a streamed table are texts in equally long rows, and its columns hold them.
-use Rattle.tabled_table.proofs.Names.{AreTexts, CompactConfig, Holds, IsCutRow, IsRectangular, IsStreamed, IsUtf8, List, Sheet}
-use Rattle.tabled_table.proofs.Names.{SpannedConfig, StreamSettings, [], ap, arith, cases_lt, cell_at, column_count, columns, content_width}
+use Rattle.tabled_table.proofs.Names.{AreTexts, CompactConfig, Holds, IsMarkedRow, IsRectangular, IsStreamed, IsUtf8, List, Sheet}
+use Rattle.tabled_table.proofs.Names.{Option, SpannedConfig, StreamSettings, [], ap, arith, cases_lt, cell_at, column_count, columns, content_width}
 use Rattle.tabled_table.proofs.Names.{fits-none, get_or, get_or_past, inl, inr, length, refl, slice_index, spanned_of_compact, stream_width}
 use Rattle.tabled_table.proofs.Names.{style_at, subst, sym, text_columns, ℕ, ◌+◌, ◌-◌, ◌<◌, ◌∙◌, ◌≡◌}
 use Rattle.std.specs.List.{All}
 use Rattle.std.proofs.lemmas.List.Elements.{All-from_get_or}
 use Rattle.tabled_text.specs.Fitting.{FitsIn}
-use Rattle.tabled_text.proofs.FittingLaws.{fits-cut}
 use Rattle.tabled_base.proofs.Lengthening.{rectangular-from_length}
 use Rattle.tabled_size.specs.Estimates.{needed_width}
 use Rattle.tabled_table.proofs.Stream.Drawn.{filled-at}
+use Rattle.tabled_table.proofs.Stream.Marked.{fits-cut_cell}
 use Rattle.tabled_table.proofs.Stream.Measures.{length-cut}
 use Rattle.tabled_table.proofs.Stream.Widths.{listed}
 
 -- a cell of a cut row takes no more columns than its column leaves to texts
-cell-fits : (content : ℕ → ℕ) (count : ℕ) (row cells : List (List ℕ)) (column : ℕ) → IsCutRow content count row cells
+cell-fits : {mark : Option ℕ} (content : ℕ → ℕ) (count : ℕ) (row cells : List (List ℕ)) (column : ℕ) → IsMarkedRow mark content count row cells
     → FitsIn (content column) (get_or cells column [])
-cell-fits content count row cells column c =
+cell-fits {mark} content count row cells column c =
     let P : List ℕ → Type 0 = FitsIn (content column) in
     subst P (sym (ap (λ l. get_or l column []) c.whole ∙ filled-at c.cut (count - length c.cut) column))
     (elim (cases_lt column (length c.cut)) [
-      | inl inside ↦ fits-cut (content column) (get_or row column []) (get_or c.cut column []) (c.each column inside)
+      | inl inside ↦ fits-cut_cell mark (content column) (get_or row column []) (get_or c.cut column []) (c.each column inside)
       | inr past ↦ subst P (sym (get_or_past c.cut column [] past)) (fits-none (content column))
     ])
 

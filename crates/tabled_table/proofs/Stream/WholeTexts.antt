@@ -1,6 +1,6 @@
 -- The table of the first of some rows goes on to the table of all.
-use Rattle.tabled_table.proofs.Names.{AreTexts, ColumnSheet, CompactConfig, HorizontalLine, IsCut, IsCutRow, IsStreamed, IsUtf8, List}
-use Rattle.tabled_table.proofs.Names.{Option, Sheet, StreamSettings, [], ap, append-nil, append_assoc, arith, cases_lt, column_count}
+use Rattle.tabled_table.proofs.Names.{AreTexts, ColumnSheet, CompactConfig, HorizontalLine, IsCut, IsCutCell, IsCutRow, IsMarkedRow, IsStreamed, IsUtf8, List}
+use Rattle.tabled_table.proofs.Names.{None, Option, Sheet, StreamSettings, [], ap, append-nil, append_assoc, arith, cases_lt, column_count}
 use Rattle.tabled_table.proofs.Names.{columns, columns_of, content_width, false, fill, filled_picture, filled_width, flat_map, frame}
 use Rattle.tabled_table.proofs.Names.{get_or, get_or-append_right, get_or-take, get_or_append_left, if◌then◌else◌, inl, inr, is_empty}
 use Rattle.tabled_table.proofs.Names.{join_with_byte, length, length-append, length-map-range_with_len, length-take, lengthened}
@@ -12,6 +12,7 @@ use Rattle.std.proofs.lemmas.Bool.{and_parts, cases_eq}
 use Rattle.tabled_line.specs.Leading.{begun_after}
 use Rattle.tabled_line.proofs.Each.{each-rest}
 use Rattle.tabled_table.specs.Stream.GoesOn.{GoesOn}
+use Rattle.tabled_table.proofs.Stream.Marked.{cut_cell-exists}
 use Rattle.tabled_table.proofs.Stream.Measures.{flat_map-same, not-zero, rule-above}
 use Rattle.tabled_table.proofs.Stream.StreamedTexts.{streamed_columns}
 use Rattle.tabled_table.proofs.Stream.Widths.{listed}
@@ -75,11 +76,12 @@ chosen P d e (x ∷ xs) f =
     (first.0 ∷ others.0, record { as_many = omega arith; each = chosen-first P d e x xs first.0 others.0 first.1 others.1.each })
 
 -- every row of texts can be cut
-pub cut_row_exists : (content : ℕ → ℕ) (count : ℕ) (row : List (List ℕ)) → All IsUtf8 row → (cells : List (List ℕ)) × IsCutRow content count row cells
-cut_row_exists content count row u =
-    let P : ℕ → List ℕ → List ℕ → Type 0 = λ k text answer. IsCut (content k) text answer in
+marked_row_exists : (mark : Option ℕ) (content : ℕ → ℕ) (count : ℕ) (row : List (List ℕ)) → All IsUtf8 row
+    → (cells : List (List ℕ)) × IsMarkedRow mark content count row cells
+marked_row_exists mark content count row u =
+    let P : ℕ → List ℕ → List ℕ → Type 0 = λ k text answer. IsCutCell mark (content k) text answer in
     let long = length-take count row in
-    let c = chosen P [] [] (take count row) (λ k h. cut_exists (content k) (get_or (take count row) k []) (subst IsUtf8 (sym (get_or-take count row k [] (omega arith))) (u k [] (omega arith)))) in
+    let c = chosen P [] [] (take count row) (λ k h. cut_cell-exists mark (content k) (get_or (take count row) k []) (subst IsUtf8 (sym (get_or-take count row k [] (omega arith))) (u k [] (omega arith)))) in
     let many = c.1.as_many in (
       lengthened count c.0,
       record {
@@ -89,6 +91,9 @@ cut_row_exists content count row u =
         whole = refl;
       },
     )
+
+pub cut_row_exists : (content : ℕ → ℕ) (count : ℕ) (row : List (List ℕ)) → All IsUtf8 row → (cells : List (List ℕ)) × IsCutRow content count row cells
+cut_row_exists content count row u = marked_row_exists None content count row u
 
 -- ---- the table of the first of some rows goes on to the table of all
 
@@ -140,7 +145,7 @@ followed t cells heights = record t { cells = t.cells ++ cells; heights = t.heig
 
 -- a row is cut as the settings say, wherever it stands
 abbrev pub IsCutAs : StreamSettings → List (List (List ℕ)) → ℕ → List (List ℕ) → List (List ℕ) → Type 0
-IsCutAs settings ahead_rows k row cells = IsCutRow (content_width settings ahead_rows) (column_count settings ahead_rows) row cells
+IsCutAs settings ahead_rows k row cells = IsMarkedRow settings.mark (content_width settings ahead_rows) (column_count settings ahead_rows) row cells
 
 module _ {settings : StreamSettings} {config : CompactConfig} {ahead_rows : List (List (List ℕ))} where
   pub followed-streamed : {shown : List (List (List ℕ))} {t : Sheet} (rest cells : List (List (List ℕ))) (heights : List ℕ)
@@ -228,7 +233,7 @@ module _ {settings : StreamSettings} {config : CompactConfig} {ahead_rows : List
       let count = column_count settings ahead_rows in
       let n = length shown in
       let longer = length-append shown rest in
-      let cut = chosen (IsCutAs settings ahead_rows) [] [] rest (λ k h. cut_row_exists (content_width settings ahead_rows) count (get_or rest k []) (u k [] h)) in
+      let cut = chosen (IsCutAs settings ahead_rows) [] [] rest (λ k h. marked_row_exists settings.mark (content_width settings ahead_rows) count (get_or rest k []) (u k [] h)) in
       let height : ℕ → ℕ = λ k. stream_height settings config ahead_rows (n + k) (get_or rest k []) in
       let heights = map height (range_with_len 0 (length rest)) in
       let sheet = followed t cut.0 heights in

@@ -25,6 +25,7 @@ use Rattle.tabled_records.specs.Reading.{ReadsTo}
 pub record IsLaidOut (settings : StreamSettings) (config : CompactConfig) (ahead_rows : List (List (List ℕ))) (layout : Layout) : Type 0 where
   pub count : layout.count ≡ column_count settings ahead_rows
   pub contents : (column : ℕ) → column < layout.count → content_at layout column ≡ content_width settings ahead_rows column
+  pub mark : layout.mark ≡ settings.mark
   pub side : layout.side ≡ config.padding.left.size + config.padding.right.size
   pub around : layout.frame ≡ frame_of config.borders config.margin
   pub style : layout.style ≡ compact_style config

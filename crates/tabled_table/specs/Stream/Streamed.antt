@@ -1,13 +1,13 @@
 -- The table that is streamed: the rows that are read ahead, the columns, the rows, and their sizes.
 use Rattle.std.specs.Prelude.{◌≡◌, ℕ, ◌+◌, ◌<◌, ◌&&◌, ◌||◌, nat_lt, not, if◌then◌else◌, List, [], Option, Some, None, is_some, unwrap_or, length, map, max, min, take}
 use Rattle.std.specs.List.{range_with_len, slice_index, slice_index_or}
-use Rattle.tabled_text.specs.Cut.{IsCut}
 use Rattle.tabled_text.specs.Measure.{greatest, lines_of, text_columns}
 use Rattle.tabled_base.specs.Cells.{lengthened, longest}
 use Rattle.tabled_config.specs.declared.compact.CompactConfig.{CompactConfig}
 use Rattle.tabled_config.specs.Spanned.{spanned_of_compact}
 use Rattle.tabled_size.specs.Sheet.{Sheet}
 use Rattle.tabled_table.specs.declared.iter_table.settings.StreamSettings.{StreamSettings}
+use Rattle.tabled_table.specs.Stream.Marked.{IsCutCell}
 
 -- the greatest number of rows that are read ahead: 0 if both the number of columns and their width
 -- are set
@@ -61,20 +61,24 @@ abbrev pub stream_widths : StreamSettings → CompactConfig → List (List (List
 stream_widths settings config ahead_rows =
     map (stream_width settings config ahead_rows) (range_with_len 0 (column_count settings ahead_rows))
 
--- the cells of a row that is shown: its first cells, each cut to its column, and empty ones for
--- those that are missing
-pub record IsCutRow (content : ℕ → ℕ) (count : ℕ) (row cells : List (List ℕ)) : Type 0 where
+-- the cells of a row that is shown: its first cells, each cut to its column, with the mark if one is
+-- set, and empty ones for those that are missing
+pub record IsMarkedRow (mark : Option ℕ) (content : ℕ → ℕ) (count : ℕ) (row cells : List (List ℕ)) : Type 0 where
   pub cut : List (List ℕ)
   pub as_many : length cut ≡ min count (length row)
   pub each : (column : ℕ) → column < length cut
-      → IsCut (content column) (slice_index_or row column []) (slice_index_or cut column [])
+      → IsCutCell mark (content column) (slice_index_or row column []) (slice_index_or cut column [])
   pub whole : cells ≡ lengthened count cut
+
+-- the same without a mark
+abbrev pub IsCutRow : (ℕ → ℕ) → ℕ → List (List ℕ) → List (List ℕ) → Type 0
+IsCutRow content count row cells = IsMarkedRow None content count row cells
 
 -- the sheet of these rows, where `ahead_rows` were read ahead
 pub record IsStreamed (settings : StreamSettings) (config : CompactConfig) (ahead_rows rows : List (List (List ℕ))) (t : Sheet) : Type 0 where
   pub as_many : length t.cells ≡ length rows
   pub cells : (index : ℕ) → index < length rows
-      → IsCutRow (content_width settings ahead_rows) (column_count settings ahead_rows) (slice_index_or rows index [])
+      → IsMarkedRow settings.mark (content_width settings ahead_rows) (column_count settings ahead_rows) (slice_index_or rows index [])
       (slice_index_or t.cells index [])
   pub settings_of : t.config ≡ spanned_of_compact config
   pub widths : t.widths ≡ stream_widths settings config ahead_rows

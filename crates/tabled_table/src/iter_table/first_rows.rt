@@ -157,6 +157,7 @@ fn lay_out<C: CellText>(
         count,
         contents,
         rest,
+        mark: settings.mark,
         side,
         frame,
         top: spanned.rule_at(1, 0),

@@ -17,6 +17,8 @@ pub(crate) struct Layout {
     pub contents: Vec<usize>,
     /// The content width of each further column.
     pub rest: usize,
+    /// The character that ends each cell that is cut, if it is set.
+    pub mark: Option<char>,
     /// Left and right padding, in columns.
     pub side: usize,
     /// The margin and the vertical lines.

@@ -2,6 +2,7 @@
 //! the cells of a row fit in them.
 ghost use Rattle.std.specs.Prelude.{IfOk, MatchOption, Some, [], false, length, map, min};
 ghost use Rattle.std.specs.Prelude.{slice_index_or, true, unwrap_or, ℕ, ◌<◌, ◌≡◌, ◌≢◌, ◌≤◌, ◌⊎◌};
+ghost use Rattle.tabled_table.specs.Stream.Marked.{StaysWhole};
 ghost use Rattle.tabled_table.specs.Stream.Progress.{left_of};
 ghost use Rattle.tabled_table.specs.Stream.Row.{content_at};
 ghost use Rattle.tabled_table.specs.Stream.Streamed.{ahead};
@@ -26,6 +27,8 @@ pub struct StreamSettings {
     pub width: Option<usize>,
     /// The lines for text in each row, if they are set.
     pub height: Option<usize>,
+    /// The character that ends each cell that is cut, if it is set.
+    pub mark: Option<char>,
 }
 
 /// Returns how many rows are read ahead at most: none if both the number of columns and their width
@@ -78,12 +81,19 @@ pub(crate) fn fewer(limit: Option<usize>, count: usize) -> Option<usize>
     limit.map(|limit| limit.saturating_sub(count))
 }
 
+/// Returns whether cutting a text to n columns changes nothing.
+pub(crate) fn stays_whole(text: &str, n: usize) -> bool
+    ensures whole { result ≡ true → StaysWhole n text.now }
+    ensures cut { result ≡ false → StaysWhole n text.now → ⊥ }
+{
+    cut_length(text, n) == Some(text.len())
+}
+
 /// Returns whether the text of a cell is at most n columns wide.
 fn fits<C: CellText>(cell: &C, n: usize) -> bool
     ensures { result ≡ true → IsCut n (C.text cell.now) (C.text cell.now) }
 {
-    let text = cell.text();
-    cut_length(text, n) == Some(text.len())
+    stays_whole(cell.text(), n)
 }
 
 /// Returns whether each cell of a row fits in its column.

@@ -11,8 +11,9 @@ ghost use Rattle.tabled_table.specs.Stream.Row.{PutsCut, layout_columns, rule_of
 ghost use Rattle.tabled_table.specs.Stream.Streamed.{limited};
 
 use crate::iter_table::first_rows::content_height;
+use crate::iter_table::marked::cut_row;
 use crate::iter_table::row::{CutRow, StreamColumns};
-use crate::iter_table::settings::{ahead, all_fit, cut_cells, fewer, is_none_left, up_to};
+use crate::iter_table::settings::{ahead, all_fit, fewer, is_none_left, up_to};
 use std::alloc::Global;
 use tabled_base::{CellText, TableError};
 use tabled_line::{Cursor, LinePrinter, TextSink};
@@ -80,7 +81,7 @@ impl<'a> Stream<'a> {
             };
             return self.write_cut_row(sink, &row);
         }
-        let cut = cut_cells(self.alloc, layout, first)?;
+        let cut = cut_row(self.alloc, layout, first)?;
         let row = CutRow {
             layout,
             cells: cut.as_slice(),

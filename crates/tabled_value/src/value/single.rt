@@ -1,8 +1,8 @@
-//! `Tabled` for strings, characters, booleans and integers: one field, named after the type.
+//! `Tabled` for strings, characters, booleans and numbers: one field, named after the type.
 ghost use Rattle.std.specs.Cow.{cow_str_bytes};
 ghost use Rattle.std.specs.Fmt.{signed_decimal};
 ghost use Rattle.std.specs.Prelude.{◌≡◌, ◌∷◌, [], IfErr, IfOk, codes, decimal, encode_utf8};
-ghost use Rattle.std.specs.Prelude.{if◌then◌else◌, map, string_bytes, vec_len};
+ghost use Rattle.std.specs.Prelude.{if◌then◌else◌, length, map, string_bytes, vec_len};
 ghost use Rattle.tabled_base.specs.declared.error.TableError.TheVariants.{Memory};
 
 use super::Tabled;
@@ -367,5 +367,43 @@ impl Tabled for usize {
 
     fn push_cells(&self, row: &mut Vec<Text<String>>) -> Result<(), TableError> {
         push_text(row, Buffer::new().format(*self))
+    }
+}
+
+/// Shown as `Display` shows it. The contract says only that it is one text.
+impl Tabled for f32 {
+    ghost shows = { λ _ row. length row ≡ 1 };
+
+    ghost names = { codes "f32" ∷ [] };
+
+    fn length() -> usize {
+        1
+    }
+
+    fn fields(&self, alloc: Global) -> Result<Vec<CowStr<'_>>, TableError> {
+        one_text(alloc, displayed(alloc, self)?)
+    }
+
+    fn headers(alloc: Global) -> Result<Vec<CowStr<'static>>, TableError> {
+        one_text(alloc, CowStr::Borrowed("f32"))
+    }
+}
+
+/// Shown as `Display` shows it. The contract says only that it is one text.
+impl Tabled for f64 {
+    ghost shows = { λ _ row. length row ≡ 1 };
+
+    ghost names = { codes "f64" ∷ [] };
+
+    fn length() -> usize {
+        1
+    }
+
+    fn fields(&self, alloc: Global) -> Result<Vec<CowStr<'_>>, TableError> {
+        one_text(alloc, displayed(alloc, self)?)
+    }
+
+    fn headers(alloc: Global) -> Result<Vec<CowStr<'static>>, TableError> {
+        one_text(alloc, CowStr::Borrowed("f64"))
     }
 }

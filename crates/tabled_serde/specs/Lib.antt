@@ -1,0 +1,4 @@
+pub mod Events
+pub mod Reader
+pub mod Records
+pub mod Rows
