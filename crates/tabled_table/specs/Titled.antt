@@ -1,5 +1,5 @@
 -- A title above a table, and what a call that prints both leaves.
-use Rattle.std.specs.Prelude.{◌≡◌, ◌⊎◌, ℕ, ◌-◌, true, false, List, [], ◌∷◌, ◌++◌, map, MatchBool, Result, Ok, Err}
+use Rattle.std.specs.Prelude.{◌≡◌, ◌⊎◌, ℕ, ◌-◌, false, List, [], ◌∷◌, ◌++◌, map, MatchBool, Result, Ok, Err}
 use Rattle.std.specs.List.{flat_map}
 use Rattle.tabled_base.specs.declared.error.TableError.{TableError}
 use Rattle.tabled_base.specs.declared.error.TableError.TheVariants.{Memory}
@@ -66,8 +66,7 @@ pub record StopsTitled (title : Title) (t : Sheet) (old : Sent) (error : TableEr
 -- the table can be printed; of an empty table nothing is. Before anything is written, the table
 -- fails as without a title, or an allocation does. Otherwise the sink failed after a beginning
 abbrev pub PrintsTitled : {T : Type 0} → Title → Sheet → Sent → Result T TableError → Sent → Type 0
-PrintsTitled title t old (Ok _) new =
-    ((is_empty t.cells ≡ true) × (new ≡ old)) ⊎ (IsPrintable t × SendsTitled title t old new)
+PrintsTitled title t old (Ok _) new = MatchBool (is_empty t.cells) (new ≡ old) (IsPrintable t × SendsTitled title t old new)
 PrintsTitled title t old (Err error) new =
     (is_empty t.cells ≡ false)
     × ((((error ≡ Memory) ⊎ IsFailure t error) × (new ≡ old)) ⊎ (IsPrintable t × StopsTitled title t old error new))

@@ -7,5 +7,5 @@ use Rattle.tabled_table.proofs.titled.write_title.Given as goal
 -- what is left to be written are the lines that are left
 abbrev pub invariant-loop-line : goal.invariant-loop-line
 invariant-loop-line g l =
-    Took (g.S.TextSink.sent l.initial.sink) (g.S.TextSink.sent l.sink) (text_with_feeds (title_lines l.alignment l.width l.fn.fitted.now))
+    Took (g.S.TextSink.sent l.initial.sink) (g.S.TextSink.sent l.sink) (text_with_feeds (title_lines l.alignment l.width l.fitted))
     (text_with_feeds (map (title_line l.alignment l.width) (lines_left l.line-iterator)))
