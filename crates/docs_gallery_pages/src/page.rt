@@ -2,8 +2,8 @@
 
 use crate::given::{Sample, table_of};
 use crate::{
-    alignments, borders, cell_widths, from_tabled, heights, objects, printers, rows,
-    serialized, spaces, streams, styles, texts, widths,
+    alignments, borders, cell_widths, from_tabled, heights, objects, printers, rows, serialized,
+    spaces, streams, styles, texts, widths,
 };
 use std::alloc::Global;
 use tabled::{Table, TableError};
