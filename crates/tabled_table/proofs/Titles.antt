@@ -27,7 +27,7 @@ use Rattle.tabled_text.specs.Measure.{line_columns}
 use Rattle.tabled_table.specs.declared.titled.Title.{Title}
 use Rattle.tabled_table.specs.declared.titled.TitleFit.{TitleFit}
 use Rattle.tabled_table.specs.declared.titled.TitleFit.TheVariants.{Cut, Wrap}
-use Rattle.tabled_table.specs.Titled.{IsFitted, IsTitled, IsTitledText, PrintsTitled, SendsTitled, StopsTitled, text_with_feeds, title_line, title_lines}
+use Rattle.tabled_table.specs.Titled.{IsFitted, IsTitled, IsTitledText, PrintsTitled, SendsTitled, text_with_feeds, title_line, title_lines}
 
 -- ---- how wide the lines are
 
