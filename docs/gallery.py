@@ -30,6 +30,7 @@ PARTS = [
     "objects",
     "printers",
     "streams",
+    "serialized",
     "rows",
     "texts",
 ]
@@ -102,6 +103,8 @@ def part(module, found):
     text = (PAGES / f"{module}.rt").read_text()
     title, rest = said(module)
     lines = [f"## {title}", "", *paragraph(rest)]
+    for struct in re.findall(r"^(?:#\[.*\n)*struct (?:.|\n)*?^}\n", text, re.MULTILINE):
+        lines += fenced("rust", struct.splitlines())
     for constant in re.findall(r"^const (?:.|\n)*?;\n", text.replace("; ", "\0"), re.MULTILINE):
         lines += fenced("rust", constant.replace("\0", "; ").rstrip().splitlines())
     for is_public, name, doc, body, whole in functions(text):

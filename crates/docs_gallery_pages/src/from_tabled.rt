@@ -1,20 +1,24 @@
 //! What users of the Rust crate write, as it is written here.
 ghost use Rattle.std.specs.Prelude.{◌∷◌, [], codes, ⊤};
 
+use serde::Serialize;
 use std::alloc::Global;
 use std::borrow::CowStr;
 use tabled::builder::Builder;
 use tabled::grid::config::{Borders, Position};
 use tabled::grid::records::{ExactRecords, PeekableRecords, RecordsMut};
 use tabled::grid::util::string::line_width;
+use tabled::iter::LayoutIterator;
 use tabled::settings::object::Columns;
 use tabled::settings::peaker::Priority;
-use tabled::settings::{Alignment, Padding, Style, Width};
+use tabled::settings::style::HorizontalLine;
+use tabled::settings::{Alignment, Padding, Style, Title, Width};
 use tabled::tables::ExtendedTable;
 use tabled::{IoSink, Table, TableError, Tabled};
+use tabled_serde::{RowError, builder};
 
 /// A language and its year.
-#[derive(Drop)]
+#[derive(Drop, Serialize)]
 pub struct Language {
     name: &'static str,
     year: u16,
@@ -46,7 +50,31 @@ impl Tabled for Language {
     }
 }
 
-/// A table of values.
+/// A table of values that serialize.
+fn table_of_values(alloc: Global) -> Result<Table, RowError> {
+    let languages = [
+        Language {
+            name: "C",
+            year: 1972,
+        },
+        Language {
+            name: "Go",
+            year: 2009,
+        },
+    ];
+    Ok(Table::from(builder(alloc, languages)?))
+}
+
+/// Its text, or why a value can't be a row.
+pub fn serialized(alloc: Global) -> Result<String, TableError> {
+    match table_of_values(alloc) {
+        Ok(table) => table.to_text(),
+        Err(RowError::Memory) => Err(TableError::Memory),
+        Err(error) => Ok(format!(in alloc; "{error}")?),
+    }
+}
+
+/// The same by an `impl Tabled`.
 pub fn languages(alloc: Global) -> Result<String, TableError> {
     let languages = [
         Language {
@@ -62,7 +90,7 @@ pub fn languages(alloc: Global) -> Result<String, TableError> {
     table.to_text()
 }
 
-/// The same row by row, under a style.
+/// Row by row, under a style.
 pub fn built(alloc: Global) -> Result<String, TableError> {
     let mut builder = Builder::new(alloc);
     builder.push_record(["name", "year"])?;
@@ -70,8 +98,75 @@ pub fn built(alloc: Global) -> Result<String, TableError> {
     builder.push_record(["Go", "2009"])?;
 
     let mut table = Table::from(builder);
-    table.with(Style::psql())?;
+    table.with(Style::ascii_rounded())?;
     table.to_text()
+}
+
+/// Two settings.
+pub fn with_settings(alloc: Global) -> Result<String, TableError> {
+    let mut table = Table::new(alloc, ["Paris", "Rome"])?;
+    table.with(Style::psql())?.with(Alignment::right())?;
+    table.to_text()
+}
+
+/// Values of an iterator.
+pub fn mapped(alloc: Global) -> Result<String, TableError> {
+    let languages = [("C", 1972u16), ("Go", 2009)];
+    let iter = languages
+        .into_iter()
+        .map(|(name, year)| (name, year > 2000));
+    let table = Table::new(alloc, iter)?;
+    table.to_text()
+}
+
+/// Tuples with structs in them.
+pub fn paired(alloc: Global) -> Result<String, TableError> {
+    let (name, year) = ("C", 1972);
+    let c = Language { name, year };
+    let (name, year) = ("Go", 2009);
+    let go = Language { name, year };
+    let table = Table::new(alloc, [("Ritchie", c), ("Pike", go)])?;
+    table.to_text()
+}
+
+/// Rows.
+pub fn of_rows(alloc: Global) -> Result<String, TableError> {
+    let rows = [["Paris", "+", "-"], ["Oslo", "-", "+"]];
+    let table = Table::from_iter(alloc, rows)?;
+    table.to_text()
+}
+
+/// A row for each field.
+pub fn of_fields(alloc: Global) -> Result<String, TableError> {
+    let (name, year) = ("C", 1972);
+    let c = Language { name, year };
+    let (name, year) = ("Go", 2009);
+    let go = Language { name, year };
+    let table = Table::kv(alloc, [c, go])?;
+    table.to_text()
+}
+
+/// A line between values.
+pub fn ruled(alloc: Global) -> Result<String, TableError> {
+    let (name, year) = ("C", 1972);
+    let c = Language { name, year };
+    let (name, year) = ("Go", 2009);
+    let go = Language { name, year };
+    let mut table = Table::kv(alloc, [c, go])?;
+
+    table.with(Style::rounded().remove_horizontals())?;
+    let line = HorizontalLine::inherit(Style::modern());
+    for row in LayoutIterator::kv_batches::<Language>(&table).skip(1) {
+        let config = table.get_config_mut().as_mut();
+        config.insert_horizontal_line(row, line)?;
+    }
+    table.to_text()
+}
+
+/// A title above a table.
+pub fn titled(alloc: Global) -> Result<String, TableError> {
+    let table = Table::from_iter(alloc, [["Paris", "France"], ["Rome", "Italy"]])?;
+    table.to_titled_text(Title::new("Two capitals").center())
 }
 
 /// A chain, from rows to the text.

@@ -12,6 +12,7 @@ mod objects;
 mod page;
 mod printers;
 mod rows;
+mod serialized;
 mod spaces;
 mod streams;
 mod styles;

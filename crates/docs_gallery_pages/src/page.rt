@@ -2,8 +2,8 @@
 
 use crate::given::{Sample, table_of};
 use crate::{
-    alignments, borders, cell_widths, from_tabled, heights, objects, printers, rows, spaces,
-    streams, styles, texts, widths,
+    alignments, borders, cell_widths, from_tabled, heights, objects, printers, rows, serialized,
+    spaces, streams, styles, texts, widths,
 };
 use std::alloc::Global;
 use tabled::{Table, TableError};
@@ -42,6 +42,7 @@ fn add_all(page: &mut String, table: &mut Table) -> Result<(), TableError> {
     add_parts(page, table)?;
     add_printers(page)?;
     add_written(page)?;
+    add_values(page)?;
     add_chained(page)?;
     add_changed(page, table)
 }
@@ -105,16 +106,18 @@ fn add_parts(page: &mut String, table: &mut Table) -> Result<(), TableError> {
 
 fn add_printers(page: &mut String) -> Result<(), TableError> {
     add_tables(page)?;
+    add_records(page)?;
     add_boxes(page)?;
     add_streams(page)?;
     add_compact(page)?;
+    add_serialized(page)?;
     add_rows(page)?;
     add_texts(page)
 }
 
 fn add_styles(page: &mut String, table: &mut Table) -> Result<(), TableError> {
     show!(page, table, Sample::Cities;
-        styles::ascii, styles::modern, styles::sharp, styles::rounded, styles::modern_rounded,
+        styles::rounded, styles::ascii, styles::modern, styles::sharp, styles::modern_rounded,
         styles::extended, styles::markdown, styles::psql, styles::re_structured_text,
         styles::ascii_rounded, styles::blank, styles::empty)
 }
@@ -211,8 +214,12 @@ fn add_segments(page: &mut String, table: &mut Table) -> Result<(), TableError> 
 
 fn add_tables(page: &mut String) -> Result<(), TableError> {
     draw!(page;
-        printers::asked_for, printers::titled, printers::named, printers::key_values,
-        printers::records, printers::narrow_records)
+        printers::asked_for, printers::titled, printers::titled_wrapped, printers::titled_cut,
+        printers::named, printers::floats)
+}
+
+fn add_records(page: &mut String) -> Result<(), TableError> {
+    draw!(page; printers::key_values, printers::records, printers::narrow_records)
 }
 
 fn add_boxes(page: &mut String) -> Result<(), TableError> {
@@ -233,6 +240,10 @@ fn add_compact(page: &mut String) -> Result<(), TableError> {
         streams::overfull)
 }
 
+fn add_serialized(page: &mut String) -> Result<(), TableError> {
+    draw!(page; serialized::table, serialized::streamed)
+}
+
 fn add_rows(page: &mut String) -> Result<(), TableError> {
     draw!(page; rows::viewed, rows::given, rows::kept, rows::printed, rows::batches)
 }
@@ -244,11 +255,20 @@ fn add_texts(page: &mut String) -> Result<(), TableError> {
 
 fn add_written(page: &mut String) -> Result<(), TableError> {
     draw!(page;
-        from_tabled::languages, from_tabled::built, from_tabled::continued, from_tabled::written)
+        from_tabled::serialized, from_tabled::languages, from_tabled::built,
+        from_tabled::with_settings, from_tabled::mapped)
+}
+
+fn add_values(page: &mut String) -> Result<(), TableError> {
+    draw!(page;
+        from_tabled::paired, from_tabled::of_rows, from_tabled::of_fields, from_tabled::ruled,
+        from_tabled::titled)
 }
 
 fn add_chained(page: &mut String) -> Result<(), TableError> {
-    draw!(page; from_tabled::chained, from_tabled::as_records, from_tabled::counted)
+    draw!(page;
+        from_tabled::continued, from_tabled::written, from_tabled::chained,
+        from_tabled::as_records, from_tabled::counted)
 }
 
 fn add_changed(page: &mut String, table: &mut Table) -> Result<(), TableError> {

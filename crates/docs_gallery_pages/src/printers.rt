@@ -5,7 +5,7 @@ use std::alloc::Global;
 use tabled::grid::ansi::ANSIStr;
 use tabled::grid::config::{AlignmentHorizontal, CompactMultilineConfig, Sides};
 use tabled::grid::dimension::{DimensionPriority, PoolTableDimension};
-use tabled::settings::{Alignment, Padding, Settings, Style, Width};
+use tabled::settings::{Alignment, Padding, Settings, Style, Title};
 use tabled::tables::{ExtendedTable, PoolTable, TableValue};
 use tabled::{Table, TableError};
 
@@ -36,27 +36,35 @@ pub fn asked_for(alloc: Global) -> Result<String, TableError> {
     Ok(text)
 }
 
-/// A title above a table: a table of one cell, wrapped and aligned to the total width of the other.
+/// A title above a table, in the middle of its total width.
 pub fn titled(alloc: Global) -> Result<String, TableError> {
     let table = Table::nohead(alloc, [("Paris", "France"), ("Rome", "Italy")])?;
-    let total = table.total_width()?;
-    let mut title = Table::nohead(alloc, ["Capitals of Europe"])?;
-    title
-        .with(Style::empty())?
-        .with(Padding::zero())?
-        .with(Width::wrap(total).keep_words(true))?;
+    table.to_titled_text(Title::new("Two capitals").center())
+}
 
+/// A wider title is wrapped between words. `write_titled` prints to a sink.
+pub fn titled_wrapped(alloc: Global) -> Result<String, TableError> {
+    let table = Table::nohead(alloc, [("Paris", "France"), ("Rome", "Italy")])?;
     let mut text = String::new(alloc);
-    let centered = Some(AlignmentHorizontal::Center);
-    title.print_with(&mut text, Some(total), centered, ' ')?;
-    text.push_str("\n")?;
-    table.write_to(&mut text)?;
+    table.write_titled(&mut text, Title::new("Two capitals of Europe").right())?;
     Ok(text)
+}
+
+/// Or it is cut. A new title is at the left.
+pub fn titled_cut(alloc: Global) -> Result<String, TableError> {
+    let table = Table::nohead(alloc, [("Paris", "France"), ("Rome", "Italy")])?;
+    table.to_titled_text(Title::new("Two capitals of Europe").cut())
 }
 
 /// `Table::new` puts names above values.
 pub fn named(alloc: Global) -> Result<String, TableError> {
     let table = Table::new(alloc, [("Ada", 1815u16), ("Grace", 1906u16)])?;
+    table.to_text()
+}
+
+/// A number is shown as by `Display`, one with a fraction too.
+pub fn floats(alloc: Global) -> Result<String, TableError> {
+    let table = Table::new(alloc, [("Paris", 105.4f64), ("Oslo", 480.75)])?;
     table.to_text()
 }
 

@@ -4,6 +4,12 @@ use tabled::settings::Style;
 use tabled::settings::style::HorizontalLine;
 use tabled::{Table, TableError};
 
+/// Round corners, and one line below the first row.
+pub fn rounded(table: &mut Table) -> Result<(), TableError> {
+    table.with(Style::rounded())?;
+    Ok(())
+}
+
 /// A new table has it.
 pub fn ascii(table: &mut Table) -> Result<(), TableError> {
     table.with(Style::ascii())?;
@@ -16,15 +22,9 @@ pub fn modern(table: &mut Table) -> Result<(), TableError> {
     Ok(())
 }
 
-/// Thin lines, and no line between rows but below the first.
+/// Thin lines, and one line below the first row.
 pub fn sharp(table: &mut Table) -> Result<(), TableError> {
     table.with(Style::sharp())?;
-    Ok(())
-}
-
-/// The same with round corners.
-pub fn rounded(table: &mut Table) -> Result<(), TableError> {
-    table.with(Style::rounded())?;
     Ok(())
 }
 

@@ -120,7 +120,7 @@ pub mod settings {
     pub use tabled_base::{CellOption, Settings, StoredSizes, TableOption};
     pub use tabled_config::Style;
     pub use tabled_set::{Alignment, Height, Margin, Padding, PaddingExpand, Width};
-    pub use tabled_table::{Modify, ModifyBy};
+    pub use tabled_table::{Modify, ModifyBy, Title, TitleFit};
 
     /// Numbers of columns or lines that are measured in the table.
     ///

@@ -3,4 +3,5 @@ pub mod NewTables
 pub mod Progressions
 pub mod Shown
 pub mod Stream
+pub mod Titles
 pub mod Walks

@@ -6,3 +6,4 @@ pub mod NewTable
 pub mod PrintedWith
 pub mod Stream
 pub mod TableSheet
+pub mod Titled

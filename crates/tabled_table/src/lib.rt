@@ -6,6 +6,7 @@
 //! - `applying`: options for the whole table and for some of its cells; `modify`: the latter as an
 //!   option of the table
 //! - `printing`: printing with a minimum width and an alignment, and `Display`
+//! - `titled`: a title above a table, and printing both
 //!
 //! An `IterTable` is printed row by row while a source gives its rows. It stores only the rows that
 //! are read ahead to measure the columns. Each later row is read when it is printed. Each cell is
@@ -30,8 +31,10 @@ mod making;
 mod modify;
 mod printing;
 mod table;
+mod titled;
 
 pub use iter_table::IterTable;
 pub use making::LayoutIterator;
 pub use modify::{Modify, ModifyBy};
 pub use table::{Table, new_config};
+pub use titled::{Title, TitleFit};

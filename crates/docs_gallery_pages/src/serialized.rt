@@ -1,0 +1,58 @@
+//! Values that serialize. The crate `tabled_serde` makes rows of them.
+
+use serde::Serialize;
+use std::alloc::Global;
+use tabled::iter::TryRows;
+use tabled::tables::IterTable;
+use tabled::{Table, TableError};
+use tabled_serde::{RowError, ValueRows, builder};
+
+#[derive(Drop, Serialize)]
+struct City {
+    name: &'static str,
+    #[serde(rename = "inhabitants")]
+    people: u32,
+    area: Option<f64>,
+    rivers: [&'static str; 2],
+}
+
+const CITIES: [City; 2] = [
+    City {
+        name: "Paris",
+        people: 2_103_778,
+        area: Some(105.4),
+        rivers: ["Seine", "Bièvre"],
+    },
+    City {
+        name: "Vaduz",
+        people: 5_774,
+        area: None,
+        rivers: ["Rhine", "Spiersbach"],
+    },
+];
+
+fn cities(alloc: Global) -> Result<Table, RowError> {
+    Ok(Table::from(builder(alloc, CITIES)?))
+}
+
+/// A table of the values, below the names of their fields.
+pub fn table(alloc: Global) -> Result<String, TableError> {
+    match cities(alloc) {
+        Ok(table) => table.to_text(),
+        Err(RowError::Memory) => Err(TableError::Memory),
+        Err(error) => Ok(format!(in alloc; "{error}")?),
+    }
+}
+
+/// A stream of them, with a text for what is `None`. An error would name the field.
+pub fn streamed(alloc: Global) -> Result<String, TableError> {
+    let mut rows = ValueRows::new(alloc, CITIES.into_iter());
+    rows.none("?");
+    let mut text = String::new(alloc);
+    let (printed, read) = IterTable::new(TryRows::new(rows)).try_fmt(alloc, &mut text);
+    printed?;
+    if let Err(error) = read {
+        write!(text, "\n{error}")?;
+    }
+    Ok(text)
+}
