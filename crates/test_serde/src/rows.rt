@@ -54,14 +54,14 @@ const CITIES: &str = "\
 
 #[test]
 fn a_table_has_a_header_and_a_row_for_each_value(rt: HostRuntime) -> Result<(), Fail> {
-    let table = Table::from(builder(rt.alloc(), [PARIS, VADUZ])?);
+    let table = Table::from(builder(rt.alloc(), [PARIS, VADUZ], "")?);
     assert_eq!(rt; table.to_text()?.as_str(), CITIES);
     Ok(())
 }
 
 #[test]
 fn rows_are_streamed(rt: HostRuntime) -> Result<(), Fail> {
-    let rows = ValueRows::new(rt.alloc(), [PARIS, VADUZ].into_iter());
+    let rows = ValueRows::new(rt.alloc(), [PARIS, VADUZ].into_iter(), "");
     let mut text = String::new(rt.alloc());
     let table = IterTable::new(TryRows::new(rows));
     assert_eq!(rt; table.try_fmt(rt.alloc(), &mut text), (Ok(()), Ok(())));
