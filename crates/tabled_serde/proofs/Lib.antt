@@ -1,1 +1,4 @@
+pub mod Counting
+pub mod Placing
 pub mod Reading
+pub mod Yielding

@@ -39,7 +39,7 @@ pub record IsRowOf {T : Type 0} (writes : T → Option (List Event) → Option (
 -- the rows of values: the names of the first and its cells, and then a row for each other
 abbrev pub AreRows : {T : Type 0} → (T → Option (List Event) → Option (List Event) → Type 0) → List ℕ → List T → List (List (List ℕ)) → Type 0
 AreRows writes none [] rows = rows ≡ []
-AreRows writes none (value ∷ values) rows = (names cells : List (List ℕ)) (later : List (List (List ℕ)))
+AreRows writes none (value ∷ values) rows = (names cells : List (List ℕ)) × (later : List (List (List ℕ)))
     × HasFields writes none value names cells × AllZip (IsRowOf writes none names) values later × (rows ≡ names ∷ cells ∷ later)
 
 -- ---- one by one

@@ -54,11 +54,10 @@ pub(crate) fn cells_below(
     };
     let mut row = Vec::new(alloc);
     'columns: for name in header {
-        let cell = match unplaced.take(name) {
-            Some(cell) => cell,
-            None => String::new(alloc),
-        };
-        row.push(cell)?;
+        match unplaced.take(name) {
+            Some(cell) => row.push(cell)?,
+            None => row.push(String::new(alloc))?,
+        }
     }
     match unplaced.names.split_first() {
         Some((name, _)) => Err(RowError::Unknown {

@@ -95,7 +95,8 @@ pub fn builder<I: IntoIterator<Item = T>, T: Serialize + Drop>(
     none: &str,
 ) -> Result<Builder, RowError>
     requires { IsFiniteIterable I.into_iter_gives I.IntoIter.can_next I.IntoIter.remaining values }
-    ensures { IfOk result (λ builder. (items : List T) (rows : List (List (List ℕ)))
+    ensures { IfOk result (λ builder. (items : List T)
+        × (rows : List (List (List ℕ)))
         × Given I.into_iter_gives I.IntoIter.next_gives values items
         × AreRows T.writes none.now items rows × (builder ≡ lengthened_rows rows)) }
 {
