@@ -1,6 +1,6 @@
 -- Cells that are placed below names.
-use Rattle.std.proofs.Common.{List, [], ap, append-nil, append_assoc, arith, length, length-append, map, refl, string_bytes, subst, sym, ℕ, ◌++◌, ◌∙◌, ◌∷◌, ◌≡◌}
-use Rattle.std.proofs.lemmas.List.{length-map, nil_from_length}
+use Rattle.std.proofs.Common.{List, [], ap, append-nil, append_assoc, arith, length, length-append, map, refl, string_bytes, subst, sym, take, get_or, ℕ, ◌+◌, ◌<◌, ◌++◌, ◌∙◌, ◌∷◌, ◌≡◌}
+use Rattle.std.proofs.lemmas.List.{length-map, map-append, nil_from_length, take_more}
 use Rattle.std.specs.Vec.Iter.{into_iter_items}
 use Rattle.std.specs.declared.alloc.Global.{Global}
 use Rattle.std.specs.declared.string.String.{String}
@@ -88,3 +88,10 @@ all-placed header whole fields row rest s all as_many none =
     subst (λ h. IsBelow h (bytes_of fields.names) (bytes_of fields.cells) (bytes_of row)) all
     (subst (λ n. IsBelow header n (bytes_of fields.cells) (bytes_of row)) (sym names)
     (subst (λ c. IsBelow header s.names c (bytes_of row)) (sym cells) s.below))
+
+-- the bytes of one more name of the header
+pub one-longer : (names : List (String Global)) (i : ℕ) (name : String Global) → i < length names → name ≡ get_or names i name
+    → map string_bytes (take (i + 1) names) ≡ map string_bytes (take i names) ++ string_bytes name ∷ []
+one-longer names i name lt is =
+    ap (map string_bytes) (take_more names i name lt ∙ ap (λ n. take i names ++ n ∷ []) (sym is))
+    ∙ map-append string_bytes (take i names) (name ∷ [])

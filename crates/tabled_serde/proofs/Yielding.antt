@@ -1,5 +1,5 @@
 -- The rows that values gave so far, and those of all.
-use Rattle.std.proofs.Common.{IsSomeAnd, List, MatchOption, None, Ok, Option, Result, Some, [], ap, map, refl, string_bytes, subst, sym, ℕ, ◌++◌, ◌∙◌, ◌∷◌, ◌≡◌, append-nil, Bor, Iter}
+use Rattle.std.proofs.Common.{Err, OnOk, false, is_err, IsSomeAnd, List, MatchOption, None, Ok, Option, Result, Some, [], ap, map, refl, string_bytes, subst, sym, ℕ, ◌++◌, ◌∙◌, ◌∷◌, ◌≡◌, append-nil, Bor, Iter}
 use Rattle.std.proofs.iter.Next.{Yields-more}
 use Rattle.std.proofs.lemmas.List.{nil_from_length}
 use Rattle.std.proofs.lemmas.Slice.Zip.{all_zipped_more}
@@ -193,3 +193,8 @@ pub record Started {U S T : Type 0} (becomes : U → S → Type 0) (steps : S �
   pub start : S
   pub made : becomes values start
   pub so_far : SoFar steps writes none start s built
+
+-- what holds on success, where it didn't fail
+pub on-success : {A E : Type 0} {P : Type 0} (r : Result A E) → is_err r ≡ false → OnOk r P → P
+on-success (Ok x) fine h = h
+on-success (Err e) fine h = absurd (cc fine)
