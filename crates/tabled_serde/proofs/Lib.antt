@@ -1,1 +1,5 @@
-pub mod Folding
+pub mod Counting
+pub mod Placing
+pub mod Reading
+pub mod Stepping
+pub mod Yielding

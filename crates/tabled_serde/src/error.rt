@@ -16,6 +16,10 @@ pub enum RowError {
     /// A field holds a struct, a map, or a list inside a list, which have no text. `flatten` puts
     /// the fields of a struct beside the others.
     Nested { field: String },
+    /// A key of a map has no text, so the field has no name.
+    NoName,
+    /// The value writes what is no struct and no map, as no derived one does.
+    Malformed,
     /// A field that the first value doesn't have, so it has no column.
     Unknown { field: String },
     /// The value itself fails, at a field or after it.
@@ -27,6 +31,8 @@ impl fmt::Display for RowError {
         match self {
             RowError::Memory => write!(f, "memory"),
             RowError::NoFields => write!(f, "the value has no fields"),
+            RowError::NoName => write!(f, "a key has no text"),
+            RowError::Malformed => write!(f, "the value is written in no known form"),
             RowError::Nested { field } => write!(f, "the field `{field}` has no text of its own"),
             RowError::Unknown { field } => {
                 write!(f, "the field `{field}` is not one of the first value")

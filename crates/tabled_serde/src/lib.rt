@@ -3,15 +3,20 @@
 //!
 //! - `error.rt`: `RowError`, why a value can't be a row.
 //! - `event.rt`: `Events`, the events that a value writes.
-//! - `record.rt`: `Record`, the names and cells of a value, read from its events.
+//! - `reader.rt`: `Record`, the names and cells of a value, and how they are read from its events.
+//! - `record.rt`: `read_record`, which reads those of a value.
+//! - `placed.rt`: the cells of a later value below the names of the first.
 //! - `rows.rt`: `ValueRows`, the rows of an iterator of values; `builder`, a builder of them.
 #![tactic(auto)]
 
 mod error;
 mod event;
+mod placed;
+mod reader;
 mod record;
 mod rows;
 
 pub use error::RowError;
-pub use record::{Record, read_record};
+pub use reader::Record;
+pub use record::read_record;
 pub use rows::{ValueRows, builder};

@@ -1,10 +1,14 @@
 //! Values as rows, one by one and all at once.
 ghost use Rattle.std.specs.Iterator.{IsFiniteIterable};
-ghost use Rattle.std.specs.Prelude.{◌≡◌, None, [], true};
-ghost use Rattle.tabled_serde.specs.Rows.{rows_left};
+ghost use Rattle.std.specs.Prelude.{◌≡◌, IfOk, List, None, OnErr, ℕ};
+ghost use Rattle.tabled_base.specs.Cells.{lengthened_rows};
+ghost use Rattle.tabled_base.specs.Given.{Given};
+ghost use Rattle.tabled_serde.specs.Reader.{bytes_of};
+ghost use Rattle.tabled_serde.specs.Rows.{AreRows, GivesRow, row_steps, rows_left};
 
 use crate::error::RowError;
-use crate::record::{Record, read_record};
+use crate::placed::cells_below;
+use crate::record::read_record;
 use serde::Serialize;
 use std::alloc::Global;
 use tabled_base::Builder;
@@ -14,8 +18,7 @@ use tabled_base::Builder;
 /// `TryRows` they are a source of any table.
 ///
 /// ```rust
-/// let mut rows = ValueRows::new(alloc, cities);
-/// rows.none("unknown");
+/// let rows = ValueRows::new(alloc, cities, "unknown");
 /// let table = IterTable::new(TryRows::new(rows));
 /// ```
 #[derive(Drop)]
@@ -23,63 +26,42 @@ pub struct ValueRows<'a, I> {
     alloc: Global,
     values: I,
     none: &'a str,
-    /// The names, once the first value is read.
-    names: Option<Vec<String>>,
+    /// The names of the fields of the first value, once it is read.
+    header: Option<Vec<String>>,
     /// The cells of the first value, until they are yielded.
     first: Option<Vec<String>>,
-    /// Whether the cells of the first value weren't yielded.
-    open: bool,
 }
 
 impl<'a, I> ValueRows<'a, I> {
-    /// Makes rows of values. `None` is an empty cell.
-    pub fn new(alloc: Global, values: I) -> ValueRows<'a, I>
+    /// Makes rows of values. The cell of a `None` has the text `none`.
+    pub fn new(alloc: Global, values: I, none: &'a str) -> ValueRows<'a, I>
         ensures values { result.values ≡ values }
-        ensures none { result.none.now ≡ [] }
-        ensures names { result.names ≡ None }
+        ensures none { result.none.now ≡ none.now }
+        ensures header { result.header ≡ None }
         ensures first { result.first ≡ None }
-        ensures open { result.open ≡ true }
     {
         ValueRows {
             alloc,
             values,
-            none: "",
-            names: None,
+            none,
+            header: None,
             first: None,
-            open: true,
         }
     }
 
-    /// Sets the text of `None`.
-    pub fn none(&mut self, text: &'a str)
-        ensures none { self.new.none.now ≡ text.now }
-        ensures values { self.new.values ≡ self.old.values }
-        ensures names { self.new.names ≡ self.old.names }
-        ensures first { self.new.first ≡ self.old.first }
-        ensures open { self.new.open ≡ self.old.open }
+    /// Returns the row of a value. That of the first is the header, and its cells are kept.
+    fn row_of<T: Serialize>(&mut self, value: &T) -> Result<Vec<String>, RowError>
+        ensures gives { IfOk result (λ row. GivesRow T.writes self.old value.now (bytes_of row) self.new) }
+        ensures failed { OnErr result (self.new ≡ self.old) }
     {
-        self.none = text;
-    }
-
-    /// Returns the row of a record, and keeps the first.
-    fn row_of(&mut self, record: Record) -> Result<Vec<String>, RowError>
-        ensures values { self.new.values ≡ self.old.values }
-        ensures open { self.new.open ≡ self.old.open }
-    {
-        match &self.names {
-            Some(names) => placed(names.as_slice(), record),
-            None => self.begin(record),
+        let fields = read_record(self.alloc, value, self.none)?;
+        if let Some(header) = &self.header {
+            return cells_below(self.alloc, header.as_slice(), fields);
         }
-    }
-
-    fn begin(&mut self, record: Record) -> Result<Vec<String>, RowError>
-        ensures values { self.new.values ≡ self.old.values }
-        ensures open { self.new.open ≡ self.old.open }
-    {
-        let Record { names, cells } = record;
-        self.names = Some(names.clone()?);
-        self.first = Some(cells);
-        Ok(names)
+        let header = fields.names.clone()?;
+        self.header = Some(header);
+        self.first = Some(fields.cells);
+        Ok(fields.names)
     }
 }
 
@@ -88,67 +70,40 @@ impl<I: Iterator<Item = T>, T: Serialize + Drop> Iterator for ValueRows<'_, I> {
 
     ghost can_next = { λ s. I.can_next s.values };
 
+    ghost next_gives = { row_steps I.next_gives T.writes };
+
     ghost remaining = { rows_left I.remaining };
 
     fn next(&mut self) -> Option<Result<Vec<String>, RowError>> {
-        if self.open
-            && let Some(cells) = self.first.take()
-        {
-            self.open = false;
+        if let Some(cells) = self.first.take() {
             return Some(Ok(cells));
         }
         let value = self.values.next()?;
-        match read_record(self.alloc, &value, self.none) {
-            Ok(record) => Some(self.row_of(record)),
-            Err(error) => Some(Err(error)),
-        }
-    }
-}
-
-/// Returns the cells of a record in the order of these names, of which each that the record lacks
-/// has an empty cell. Fails with `Unknown` if the record has another name.
-fn placed(names: &[String], record: Record) -> Result<Vec<String>, RowError> {
-    let alloc = *record.cells.allocator();
-    let mut row = Vec::new(alloc);
-    for _name in names {
-        row.push(String::new(alloc))?;
-    }
-    for (name, cell) in record.names.into_iter().zip(record.cells) {
-        place(names, &mut row, name, cell)?;
-    }
-    Ok(row)
-}
-
-fn place(
-    names: &[String],
-    row: &mut Vec<String>,
-    name: String,
-    cell: String,
-) -> Result<(), RowError> {
-    match names.iter().position(|known| *known == name) {
-        Some(column) if column < row.len() => {
-            row[column] = cell;
-            Ok(())
-        }
-        _ => Err(RowError::Unknown { field: name }),
+        Some(self.row_of(&value))
     }
 }
 
 /// Returns a builder of values: a header of the names of their fields, and a row for each value.
-/// `None` is an empty cell.
+/// The cell of a `None` has the text `none`.
 ///
 /// ```rust
-/// let table = Table::from(builder(alloc, cities)?);
+/// let table = Table::from(builder(alloc, cities, "")?);
 /// ```
 pub fn builder<I: IntoIterator<Item = T>, T: Serialize + Drop>(
     alloc: Global,
     values: I,
+    none: &str,
 ) -> Result<Builder, RowError>
     requires { IsFiniteIterable I.into_iter_gives I.IntoIter.can_next I.IntoIter.remaining values }
+    ensures { IfOk result (λ builder. (items : List T)
+        × (rows : List (List (List ℕ)))
+        × Given I.into_iter_gives I.IntoIter.next_gives values items
+        × AreRows T.writes none.now items rows × (builder ≡ lengthened_rows rows)) }
 {
     let mut builder = Builder::new(alloc);
-    for row in ValueRows::new(alloc, values.into_iter()) {
-        if builder.add_record(row?).is_err() {
+    'rows: for row in ValueRows::new(alloc, values.into_iter(), none) {
+        let row = row?;
+        if builder.add_record(&row).is_err() {
             return Err(RowError::Memory);
         }
     }

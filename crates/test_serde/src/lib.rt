@@ -2,4 +2,6 @@
 #![tactic(auto)]
 
 #[cfg(test)]
+mod fields;
+#[cfg(test)]
 mod rows;

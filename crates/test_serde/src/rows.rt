@@ -1,10 +1,9 @@
-//! Tests the names and cells of derived types.
+//! Tests the rows of values, in a table and in a stream.
 
 use serde::Serialize;
-use std::alloc::Global;
 use std::test::Fail;
 use tabled_records::TryRows;
-use tabled_serde::{RowError, ValueRows, builder, read_record};
+use tabled_serde::{RowError, ValueRows, builder};
 use tabled_table::{IterTable, Table};
 
 #[derive(Drop, Serialize)]
@@ -54,14 +53,14 @@ const CITIES: &str = "\
 
 #[test]
 fn a_table_has_a_header_and_a_row_for_each_value(rt: HostRuntime) -> Result<(), Fail> {
-    let table = Table::from(builder(rt.alloc(), [PARIS, VADUZ])?);
+    let table = Table::from(builder(rt.alloc(), [PARIS, VADUZ], "")?);
     assert_eq!(rt; table.to_text()?.as_str(), CITIES);
     Ok(())
 }
 
 #[test]
 fn rows_are_streamed(rt: HostRuntime) -> Result<(), Fail> {
-    let rows = ValueRows::new(rt.alloc(), [PARIS, VADUZ].into_iter());
+    let rows = ValueRows::new(rt.alloc(), [PARIS, VADUZ].into_iter(), "");
     let mut text = String::new(rt.alloc());
     let table = IterTable::new(TryRows::new(rows));
     assert_eq!(rt; table.try_fmt(rt.alloc(), &mut text), (Ok(()), Ok(())));
@@ -69,61 +68,63 @@ fn rows_are_streamed(rt: HostRuntime) -> Result<(), Fail> {
     Ok(())
 }
 
-#[derive(Drop, Serialize)]
-struct Place {
-    x: i8,
-    y: Option<i8>,
+fn is_zero(n: &u8) -> bool {
+    *n == 0
 }
 
 #[derive(Drop, Serialize)]
-struct Named {
+struct Score {
     name: char,
-    #[serde(flatten)]
-    place: Place,
-    seen: bool,
+    #[serde(skip_serializing_if = "is_zero")]
+    goals: u8,
+    #[serde(skip_serializing_if = "is_zero")]
+    cards: u8,
+    note: Option<u8>,
 }
 
-#[derive(Drop, Serialize)]
-struct Nested {
-    name: char,
-    place: Place,
-}
+const FULL: Score = Score {
+    name: 'a',
+    goals: 1,
+    cards: 2,
+    note: None,
+};
 
-fn joined(alloc: Global, texts: &Vec<String>) -> Result<String, RowError> {
-    let mut all = String::new(alloc);
-    for text in texts {
-        all.push_str(text)?;
-        all.push('|')?;
-    }
-    Ok(all)
-}
+const SHORT: Score = Score {
+    name: 'b',
+    goals: 0,
+    cards: 3,
+    note: Some(4),
+};
+
+const SCORES: &str = "\
++------+-------+-------+------+
+| name | goals | cards | note |
++------+-------+-------+------+
+| a    | 1     | 2     | -    |
++------+-------+-------+------+
+| b    |       | 3     | 4    |
++------+-------+-------+------+";
 
 #[test]
-fn a_flattened_struct_puts_its_fields_beside_the_others(rt: HostRuntime) -> Result<(), Fail> {
-    let value = Named {
-        name: 'é',
-        place: Place { x: -7, y: None },
-        seen: true,
-    };
-    let found = read_record(rt.alloc(), &value, "?")?;
-    assert_eq!(rt;
-        joined(rt.alloc(), &found.names)?.as_str(),
-        "name|x|y|seen|"
-    );
-    assert_eq!(rt; joined(rt.alloc(), &found.cells)?.as_str(), "é|-7|?|true|");
+fn a_field_that_is_left_out_has_an_empty_cell(rt: HostRuntime) -> Result<(), Fail> {
+    let table = Table::from(builder(rt.alloc(), [FULL, SHORT], "-")?);
+    assert_eq!(rt; table.to_text()?.as_str(), SCORES);
     Ok(())
 }
 
 #[test]
-fn an_error_says_which_field(rt: HostRuntime) -> Result<(), Fail> {
-    let value = Nested {
-        name: 'a',
-        place: Place { x: 1, y: Some(2) },
-    };
-    match read_record(rt.alloc(), &value, "") {
-        Err(RowError::Nested { field }) => assert_eq!(rt; field.as_str(), "place"),
+fn a_field_without_a_column_is_an_error(rt: HostRuntime) -> Result<(), Fail> {
+    match builder(rt.alloc(), [SHORT, FULL], "") {
+        Err(RowError::Unknown { field }) => assert_eq!(rt; field.as_str(), "goals"),
         _ => assert!(rt; false),
     }
-    assert!(rt; matches!(read_record(rt.alloc(), &5u8, ""), Err(RowError::NoFields)));
+    Ok(())
+}
+
+#[test]
+fn no_values_are_no_rows(rt: HostRuntime) -> Result<(), Fail> {
+    let none: [City; 0] = [];
+    let table = Table::from(builder(rt.alloc(), none, "")?);
+    assert_eq!(rt; table.to_text()?.as_str(), "");
     Ok(())
 }

@@ -1,0 +1,97 @@
+-- Cells that are placed below names.
+use Rattle.std.proofs.Common.{List, [], ap, append-nil, append_assoc, arith, length, length-append, map, refl, string_bytes, subst, sym, take, get_or, ℕ, ◌+◌, ◌<◌, ◌++◌, ◌∙◌, ◌∷◌, ◌≡◌}
+use Rattle.std.proofs.lemmas.List.{length-map, map-append, nil_from_length, take_more}
+use Rattle.std.specs.Vec.Iter.{into_iter_items}
+use Rattle.std.specs.declared.alloc.Global.{Global}
+use Rattle.std.specs.declared.string.String.{String}
+use Rattle.std.specs.declared.vec.Vec.{Vec}
+use Rattle.tabled_serde.proofs.Counting.{below-as_many}
+use Rattle.tabled_serde.proofs.Reading.{bytes-more}
+use Rattle.tabled_serde.specs.Reader.{bytes_of}
+use Rattle.tabled_serde.specs.Rows.{IsBelow, and_cell, and_empty, no_column}
+use Rattle.tabled_serde.specs.declared.placed.Unplaced.{Unplaced}
+use Rattle.tabled_serde.specs.declared.reader.Record.{Record}
+
+-- the cells so far, below the first names of the header
+pub record Placed (header : List (List ℕ)) (fields : Record) (row : Vec (String Global) Global) (rest : Unplaced) : Type 0 where
+  pub names : List (List ℕ)
+  pub cells : List (List ℕ)
+  pub below : IsBelow header names cells (bytes_of row)
+  pub names_are : bytes_of fields.names ≡ names ++ map string_bytes rest.names.now
+  pub cells_are : bytes_of fields.cells ≡ cells ++ map string_bytes (into_iter_items rest.cells)
+
+pub none-placed : (header : List (List ℕ)) (fields : Record) (row : Vec (String Global) Global) (rest : Unplaced) → header ≡ [] → row.items ≡ []
+    → rest.names.now ≡ fields.names.items → into_iter_items rest.cells ≡ fields.cells.items → Placed header fields row rest
+none-placed header fields row rest none empty names cells = record {
+  names = [];
+  cells = [];
+  below = subst (λ h. IsBelow h [] [] (bytes_of row)) (sym none) (subst (λ r. IsBelow [] [] [] (map string_bytes r)) (sym empty) no_column);
+  names_are = ap (map string_bytes) (sym names);
+  cells_are = ap (map string_bytes) (sym cells);
+}
+
+module _ {before after : List (List ℕ)} {fields : Record} {old new : Vec (String Global) Global} {rest later : Unplaced} (name : String Global) (cell : String Global) where
+  pub cell-placed : Placed before fields old rest → after ≡ before ++ string_bytes name ∷ []
+      → map string_bytes rest.names.now ≡ string_bytes name ∷ map string_bytes later.names.now
+      → into_iter_items rest.cells ≡ cell ∷ into_iter_items later.cells
+      → new.items ≡ old.items ++ cell ∷ [] → Placed after fields new later
+  cell-placed s longer names cells more = record {
+    names = s.names ++ string_bytes name ∷ [];
+    cells = s.cells ++ string_bytes cell ∷ [];
+    below =
+        subst (λ h. IsBelow h (s.names ++ string_bytes name ∷ []) (s.cells ++ string_bytes cell ∷ []) (bytes_of new)) (sym longer)
+        (subst (λ r. IsBelow (before ++ string_bytes name ∷ []) (s.names ++ string_bytes name ∷ []) (s.cells ++ string_bytes cell ∷ []) r)
+        (sym (bytes-more old new cell more))
+        (and_cell before s.names s.cells (bytes_of old) (string_bytes name) (string_bytes cell) s.below));
+    names_are =
+        s.names_are ∙ ap (λ l. s.names ++ l) names
+        ∙ sym (append_assoc s.names (string_bytes name ∷ []) (map string_bytes later.names.now));
+    cells_are =
+        s.cells_are ∙ ap (λ l. s.cells ++ map string_bytes l) cells
+        ∙ sym (append_assoc s.cells (string_bytes cell ∷ []) (map string_bytes (into_iter_items later.cells)));
+  }
+
+  pub empty-placed : Placed before fields old rest → after ≡ before ++ string_bytes name ∷ []
+      → later.names.now ≡ rest.names.now → into_iter_items later.cells ≡ into_iter_items rest.cells
+      → string_bytes cell ≡ [] → new.items ≡ old.items ++ cell ∷ [] → Placed after fields new later
+  empty-placed s longer names cells empty more = record {
+    names = s.names;
+    cells = s.cells;
+    below =
+        subst (λ h. IsBelow h s.names s.cells (bytes_of new)) (sym longer)
+        (subst (λ r. IsBelow (before ++ string_bytes name ∷ []) s.names s.cells r)
+        (sym (bytes-more old new cell more ∙ ap (λ c. bytes_of old ++ c ∷ []) empty))
+        (and_empty before s.names s.cells (bytes_of old) (string_bytes name) s.below));
+    names_are = s.names_are ∙ ap (λ l. s.names ++ map string_bytes l) (sym names);
+    cells_are = s.cells_are ∙ ap (λ l. s.cells ++ map string_bytes l) (sym cells);
+  }
+
+-- all are placed once no name is left, since there are as many cells
+pub all-placed : (header whole : List (List ℕ)) (fields : Record) (row : Vec (String Global) Global) (rest : Unplaced) → Placed header fields row rest
+    → header ≡ whole → length fields.names.items ≡ length fields.cells.items → length rest.names.now ≡ 0
+    → IsBelow whole (bytes_of fields.names) (bytes_of fields.cells) (bytes_of row)
+all-placed header whole fields row rest s all as_many none =
+    let names = s.names_are ∙ ap (λ l. s.names ++ map string_bytes l) (nil_from_length rest.names.now none) ∙ append-nil s.names in
+    let left = into_iter_items rest.cells in
+    let short : length left ≡ 0 = omega (
+      arith,
+      below-as_many s.below,
+      as_many,
+      length-map fields.names.items string_bytes,
+      length-map fields.cells.items string_bytes,
+      ap length names,
+      ap length s.cells_are,
+      length-append s.cells (map string_bytes left),
+      length-map left string_bytes,
+    ) in
+    let cells = s.cells_are ∙ ap (λ l. s.cells ++ map string_bytes l) (nil_from_length left short) ∙ append-nil s.cells in
+    subst (λ h. IsBelow h (bytes_of fields.names) (bytes_of fields.cells) (bytes_of row)) all
+    (subst (λ n. IsBelow header n (bytes_of fields.cells) (bytes_of row)) (sym names)
+    (subst (λ c. IsBelow header s.names c (bytes_of row)) (sym cells) s.below))
+
+-- the bytes of one more name of the header
+pub one-longer : (names : List (String Global)) (i : ℕ) (name : String Global) → i < length names → name ≡ get_or names i name
+    → map string_bytes (take (i + 1) names) ≡ map string_bytes (take i names) ++ string_bytes name ∷ []
+one-longer names i name lt is =
+    ap (map string_bytes) (take_more names i name lt ∙ ap (λ n. take i names ++ n ∷ []) (sym is))
+    ∙ map-append string_bytes (take i names) (name ∷ [])

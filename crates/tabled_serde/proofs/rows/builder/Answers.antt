@@ -1,0 +1,39 @@
+use Rattle.std.proofs.Common.{ap, false, is_err, map, string_bytes, subst, sym, Some, ◌∙◌, ◌≡◌}
+use Rattle.tabled_base.specs.Cells.{with_record}
+use Rattle.tabled_serde.proofs.Yielding.{all-given, none-given, on-success, row-given, row-texts}
+use Rattle.tabled_serde.specs.Rows.{row_steps}
+use Rattle.tabled_serde.proofs.rows.builder.Goals as goal
+
+pub rows-init : goal.rows-init
+rows-init g c =
+    let made = c.new-row-items.ensures in
+    let same = c.into_iter-row-iterator.ensures.into_iter_gives in
+    record {
+      start = c.into_iter.result;
+      made = c.into_iter.ensures.into_iter_gives;
+      so_far = none-given g.I.IntoIter.Iterator.next_gives g.T.Described.writes c.args.none.now c.into_iter.result c.into_iter-row-iterator.result
+          c.new-builder.result (sym (ap (λ s. s.values) same ∙ made.values)) (ap (λ s. s.none.now) same ∙ made.none)
+          (ap (λ s. s.header) same ∙ made.header) (ap (λ s. s.first) same ∙ made.first) c.new-builder.ensures;
+    }
+
+pub rows-preserved : goal.rows-preserved
+rows-preserved g c =
+    let steps = g.I.IntoIter.Iterator.next_gives in
+    let writes = g.T.Described.writes in
+    let none : is_err c.add_record.result ≡ false = sym c.is_err.ensures.value ∙ c.if-is_err.false in
+    let came = on-success c.add_record.result none c.add_record.ensures.ok in
+    record {
+      start = c.rows.invariant.start;
+      made = c.rows.invariant.made;
+      so_far = row-given steps writes c.args.none.now c.rows.invariant.start c.rows.row-iterator c.next.new.self c.in_ok-row.row c.rows.builder
+          c.add_record.new.self c.rows.invariant.so_far
+          (subst (λ o. row_steps steps writes c.rows.row-iterator (Some o) c.next.new.self) c.in_ok-row.was c.in-Some.ensures.steps)
+          (came.2 ∙ ap (λ r. with_record c.rows.builder r) (row-texts c.in_ok-row.row came.1.iterator came.0 came.1.made.0 came.1.drained));
+    }
+
+pub returns : goal.returns
+returns g c =
+    let i = c.rows.invariant in
+    let all = all-given g.I.IntoIter.Iterator.next_gives g.T.Described.writes c.args.none.now i.start c.rows.row-iterator c.next.new.self c.rows.builder
+        i.so_far c.in-None.ensures.steps in
+    (i.so_far.items, i.so_far.rows, record { iterator = i.start; made = i.made; drained = all.0 }, all.1, i.so_far.built_are)
