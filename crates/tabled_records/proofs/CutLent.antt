@@ -1,5 +1,5 @@
 -- Rows whose cells are cut to their columns.
-use Rattle.tabled_records.proofs.Names.{Bool, IsCharBoundary, IsRectangular, IsUtf8, List, None, Option, Some, [], ap, append-nil, arith, cell_at, columns}
+use Rattle.tabled_records.proofs.Names.{IsCharBoundary, IsUtf8, List, None, Option, Some, [], ap, append-nil, arith, cell_at}
 use Rattle.tabled_records.proofs.Names.{cond, drop, slice_range, ◌-◌, false, get_or, is_in_range, length, lines_of, refl, subst, sym, take}
 use Rattle.tabled_records.proofs.Names.{text_columns, true, ℕ, ◌<◌, ◌∙◌, ◌≡◌, ◌≤◌}
 use Rattle.std.proofs.Common.{chars, encode_utf8_all, nat_lt, ◌∷◌}

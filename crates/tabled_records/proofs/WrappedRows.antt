@@ -1,8 +1,8 @@
 -- Rows whose cells are wrapped to their columns.
 use Rattle.tabled_records.proofs.Names.{List, None, Option, Some, [], ap, append-nil, arith, cell_at, cond, false, get_or, inl, inr, is_in_range}
-use Rattle.tabled_records.proofs.Names.{length, lines_of, refl, subst, suc, sym, zero, ℕ, ◌+◌, ◌<◌, ◌∙◌, ◌∷◌, ◌≡◌, ◌≤◌}
+use Rattle.tabled_records.proofs.Names.{length, lines_of, refl, subst, suc, sym, zero, ℕ, ◌<◌, ◌∙◌, ◌∷◌, ◌≡◌, ◌≤◌}
 use Rattle.std.proofs.Common.{Bool, chars, encode_utf8_all, nat_lt, ◌⊎◌}
-use Rattle.std.proofs.lemmas.Bool.{MatchBool-at_false, MatchBool-at_true, and_from, and_parts, eq-eqb, ne_eqb}
+use Rattle.std.proofs.lemmas.Bool.{and_from, and_parts, ne_eqb}
 use Rattle.std.specs.List.{list_all}
 use Rattle.tabled_base.specs.Cells.{IsInside}
 use Rattle.tabled_text.proofs.Pieces.{chars-printable}
@@ -10,13 +10,13 @@ use Rattle.tabled_text.proofs.PlainLines.{plain_line-lines, plain_line-printable
 use Rattle.tabled_text.proofs.WrapKept.{written-short}
 use Rattle.tabled_text.specs.Breaking.{units}
 use Rattle.tabled_text.specs.Letters.{is_letter_byte}
-use Rattle.tabled_text.specs.LineEnds.{AreEnds, IsWrappedInPlace, ended_text, wrapped_text}
+use Rattle.tabled_text.specs.LineEnds.{AreEnds, ended_text, wrapped_text}
 use Rattle.tabled_text.specs.Walk.{append_all, pending}
 use Rattle.tabled_text.specs.declared.line_ends.LineEnds.{LineEnds}
 use Rattle.tabled_text.specs.declared.line_ends.LineEnds.TheVariants.{Bytes, Columns}
 use Rattle.tabled_records.proofs.SizedRows.{cell-sized, inside-sized}
 use Rattle.tabled_records.specs.Joined.{IsPrintable}
-use Rattle.tabled_records.specs.NarrowedTexts.{AreKnown, IsTold}
+use Rattle.tabled_records.specs.NarrowedTexts.{AreKnown}
 use Rattle.tabled_records.specs.WrappedLentRows.{IsKnown, tells_wrapped, wrapped_cell, wrapped_rows, wraps}
 use Rattle.tabled_records.specs.declared.narrowed_texts.NarrowedTexts.{NarrowedTexts}
 

@@ -1,5 +1,5 @@
 -- Rows of texts in which each text is cut to the width of its column, in columns.
-use Rattle.std.specs.Prelude.{◌≡◌, ◌<◌, ℕ, List, Option, Some, None, length, nat_lt, if◌then◌else◌}
+use Rattle.std.specs.Prelude.{◌≡◌, ◌<◌, ◌==◌, ℕ, List, MatchBool, Option, Some, None, length, nat_lt, if◌then◌else◌}
 use Rattle.tabled_base.specs.Cells.{cell_at}
 use Rattle.tabled_records.specs.Joined.{IsPrintable}
 use Rattle.tabled_records.specs.NarrowedTexts.{AreKnown}
@@ -24,10 +24,10 @@ cut_rows widths rows = sized_rows cuts widths rows
 abbrev pub ArePrintable : List (List (List ℕ)) → Type 0
 ArePrintable rows = (row column : ℕ) → IsPrintable (cell_at rows row column)
 
--- a number of bytes tells a text that is cut where it stands. Of one that isn't wider nothing has to
--- be told
+-- a number of bytes, and 1, tell a text that is cut where it stands. Another second number tells one
+-- of which U+FFFD alone is left. Of one that isn't wider nothing has to be told
 abbrev pub tells_cut : ℕ → List ℕ → ℕ × ℕ → Type 0
-tells_cut n text told = n < text_columns text → IsCutAt n text told.0 0
+tells_cut n text told = n < text_columns text → MatchBool (told.1 == 1) (IsCutAt n text told.0 0) (IsCutAt n text 0 1)
 
 -- what is known of all cells: without a list they are printable ASCII
 abbrev pub IsCutKnown : List (Option ℕ) → List (List (List ℕ)) → Option NarrowedTexts → Type 0

@@ -36,6 +36,10 @@ impl Narrowing for Cutting {
         match cut_letters(line, n) {
             Some((bytes, false)) => Ok(Narrowed::Told(bytes, 1)),
             Some((bytes, true)) => {
+                // U+FFFD alone is left.
+                if bytes == 0 {
+                    return Ok(Narrowed::Told(0, 2));
+                }
                 out.clear();
                 out.push_str(&line[..bytes])?;
                 out.push('\u{FFFD}')?;
@@ -51,8 +55,8 @@ impl Narrowing for Cutting {
 }
 
 /// Rows that borrow a text. Each cell that is wider than its column is cut to it when it is read, as
-/// `cut_str` does: its text stands where it stood, and only one that ends with U+FFFD, or with other
-/// characters than letters, is made beforehand.
+/// `cut_str` does: its text stands where it stood, or is U+FFFD alone. Only letters that U+FFFD
+/// follows, and a text of other characters, are made beforehand.
 ///
 /// ```rust
 /// let rows = text_rows(alloc, "Ada\t1815\nGrace\t1906\n")?;
@@ -159,6 +163,9 @@ impl<'r, 'a> PeekableRecords for CutLentRows<'r, 'a> {
             let (text, columns) = texts.made.text(first);
             return (text, columns, 1);
         }
-        (&text[..first], n, 1)
+        if kept == 1 {
+            return (&text[..first], n, 1);
+        }
+        ("\u{FFFD}", n, 1)
     }
 }

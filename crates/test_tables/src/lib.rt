@@ -47,6 +47,6 @@ mod sized;
 #[cfg(test)]
 mod texts;
 #[cfg(test)]
-mod word_wraps;
-#[cfg(test)]
 mod try_rows;
+#[cfg(test)]
+mod word_wraps;

@@ -140,6 +140,25 @@ const CUT: &str = picture! {
     ""
 };
 
+// One column is left, and then three.
+const CUT_TO_ONE: &str = picture! {
+    "+---+"
+    "| \u{FFFD} |"
+    "+---+"
+    "| м |"
+    "+---+"
+    ""
+};
+
+const CUT_TO_THREE: &str = picture! {
+    "+-----+"
+    "| 中\u{FFFD} |"
+    "+-----+"
+    "| мир |"
+    "+-----+"
+    ""
+};
+
 const WHOLE_WORDS: &str = picture! {
     "+------+"
     "| 111  |"
@@ -149,10 +168,12 @@ const WHOLE_WORDS: &str = picture! {
     ""
 };
 
-const PLANNED: [(&str, &str, &str); 7] = [
+const PLANNED: [(&str, &str, &str); 9] = [
     ("--wrap 9", "a\tbb\nccc\t\n", WRAPPED),
     ("--cut 9 --priority right", "a\tbb\nccc\t\n", CUT),
     ("--priority right --cut 009", "a\tbb\nccc\t\n", CUT),
+    ("--cut 5", "中中\nмирный\n", CUT_TO_ONE),
+    ("--cut 7", "中中\nмирный\n", CUT_TO_THREE),
     ("--stream", "a\tbb\nccc\t\n", PAIRS),
     ("--wrap 12", "a\tbb\nccc\t\n", PAIRS),
     ("--wrap 8 --words", "111 234 1", WHOLE_WORDS),

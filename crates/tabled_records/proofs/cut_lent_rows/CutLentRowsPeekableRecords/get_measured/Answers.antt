@@ -1,6 +1,7 @@
 use Rattle.tabled_records.proofs.Names.{IsUtf8, List, None, Option, Some, [], ap, append-nil, arith, cell_at, get_or, length, length-take, lines_of, refl, subst, sym, take, text_columns}
-use Rattle.tabled_records.proofs.Names.{slice_range, ℕ, ◌-◌, ◌<◌, ◌∙◌, ◌≡◌}
-use Rattle.std.proofs.Common.{rules}
+use Rattle.tabled_records.proofs.Names.{ℕ, ◌<◌, ◌==◌, ◌∙◌, ◌≡◌}
+use Rattle.std.proofs.lemmas.Bool.{MatchBool-at_false, MatchBool-at_true, eq-eqb, ne_eqb}
+use Rattle.std.specs.Bool.{MatchBool}
 use Rattle.tabled_records.proofs.CutLent.{cell-cut, cuts-narrow, cuts-nothing, cuts-one_line, front-bytes, cuts-printable, cuts-wide, inside-cut, known-cut, printable-boundary}
 use Rattle.tabled_records.proofs.CutLent.{printable-columns, printable-cut, printable-lines}
 use Rattle.tabled_records.proofs.Joining.{told_empty}
@@ -149,9 +150,10 @@ made : (c : In-Some-told) → c.in-Some-told.kept ≡ 0
 made c none =
     right-made cuts tells_cut c.in-Some.n c.line-columns.result.0.now (c.in-Some-told.first, c.in-Some-told.kept) c.in-Some-texts.texts.made (right c) none
 
--- or it is cut where it stands
+-- or two numbers tell it
 in_place : (c : In-Some-told) → (c.in-Some-told.kept ≡ 0 → ⊥)
-    → IsCutAt c.in-Some.n c.line-columns.result.0.now c.in-Some-told.first 0
+    → MatchBool (c.in-Some-told.kept == 1) (IsCutAt c.in-Some.n c.line-columns.result.0.now c.in-Some-told.first 0)
+    (IsCutAt c.in-Some.n c.line-columns.result.0.now 0 1)
 in_place c some =
     right-in_place cuts tells_cut c.in-Some.n c.line-columns.result.0.now (c.in-Some-told.first, c.in-Some-told.kept) c.in-Some-texts.texts.made (right c) some
     (omega (arith, c.if-columns-n.false, c.line-columns.ensures.columns))
@@ -172,29 +174,60 @@ returns-then-kept-eq0-clause-lines c =
     sym (cuts-one_line c.in-Some.n c.line-columns.result.0.now (subst IsUtf8 (sym c.line-columns.ensures.text) (c.are_texts.ensures.utf8 c.args.at.row c.args.at.column)) c.line-columns.ensures.one)
     ∙ ap (λ text. length (lines_of text)) (cell (goal.at.returns-then-kept-eq0-clause-lines c).After-width_at (Some c.in-Some.n) c.in-Some.is)
 
--- what is left of the text is its first bytes
-left : (c : In-Some-told) → (c.in-Some-told.kept ≡ 0 → ⊥) → take c.in-Some-told.first c.line-columns.result.0.now ≡ cuts c.in-Some.n c.line-columns.result.0.now
-left c some =
+-- its first bytes are left
+front : (c : In-Some-told) → c.in-Some-told.kept ≡ 1 → IsCutAt c.in-Some.n c.line-columns.result.0.now c.in-Some-told.first 0
+front c one = MatchBool-at_true _ _ (eq-eqb c.in-Some-told.kept 1 one) (in_place c (λ zero. absurd (omega (arith, zero, one))))
+
+left : (c : In-Some-told) → c.in-Some-told.kept ≡ 1 → take c.in-Some-told.first c.line-columns.result.0.now ≡ cuts c.in-Some.n c.line-columns.result.0.now
+left c one =
     let n = c.in-Some.n in
     let text = c.line-columns.result.0.now in
-    let own = in_place c some in
+    let own = front c one in
     sym (own.same ∙ append-nil (take c.in-Some-told.first text)) ∙ sym (cuts-wide n text (omega (arith, c.if-columns-n.false, c.line-columns.ensures.columns)))
 
-pub range-requires-2-clause-end_boundary : goal.range-requires-2-clause-end_boundary
-range-requires-2-clause-end_boundary c = (in_place (goal.at.range-requires-2-clause-end_boundary c).In-Some-told c.if-kept-eq0.false).boundary
+pub range-requires-then-kept-eq1-clause-end_boundary : goal.range-requires-then-kept-eq1-clause-end_boundary
+range-requires-then-kept-eq1-clause-end_boundary c = (front (goal.at.range-requires-then-kept-eq1-clause-end_boundary c).In-Some-told c.if-kept-eq1.true).boundary
+
+pub returns-then-kept-eq1-clause-text : goal.returns-then-kept-eq1-clause-text
+returns-then-kept-eq1-clause-text c =
+    let d = goal.at.returns-then-kept-eq1-clause-text c in
+    c.range-then-kept-eq1.ensures.value ∙ front-bytes c.in-Some-told.first c.line-columns.result.0.now ∙ left d.In-Some-told c.if-kept-eq1.true
+    ∙ cell d.After-width_at (Some c.in-Some.n) c.in-Some.is
+
+pub returns-then-kept-eq1-clause-columns : goal.returns-then-kept-eq1-clause-columns
+returns-then-kept-eq1-clause-columns c =
+    let n = c.in-Some.n in
+    let text = c.line-columns.result.0.now in
+    let d = goal.at.returns-then-kept-eq1-clause-columns c in
+    (front d.In-Some-told c.if-kept-eq1.true).columns_are
+    ∙ ap text_columns (sym (cuts-wide n text (omega (arith, c.if-columns-n.false, c.line-columns.ensures.columns)))
+    ∙ cell d.After-width_at (Some n) c.in-Some.is)
+
+pub returns-then-kept-eq1-clause-lines : goal.returns-then-kept-eq1-clause-lines
+returns-then-kept-eq1-clause-lines c =
+    sym (cuts-one_line c.in-Some.n c.line-columns.result.0.now (subst IsUtf8 (sym c.line-columns.ensures.text) (c.are_texts.ensures.utf8 c.args.at.row c.args.at.column)) c.line-columns.ensures.one)
+    ∙ ap (λ text. length (lines_of text)) (cell (goal.at.returns-then-kept-eq1-clause-lines c).After-width_at (Some c.in-Some.n) c.in-Some.is)
+
+-- or U+FFFD alone is
+alone : (c : In-Some-told) → (c.in-Some-told.kept ≡ 0 → ⊥) → (c.in-Some-told.kept ≡ 1 → ⊥) → IsCutAt c.in-Some.n c.line-columns.result.0.now 0 1
+alone c some more = MatchBool-at_false _ _ (ne_eqb c.in-Some-told.kept 1 more) (in_place c some)
 
 pub returns-clause-text : goal.returns-clause-text
+unfolding lib.Utf8.encode
 returns-clause-text c =
+    let n = c.in-Some.n in
+    let text = c.line-columns.result.0.now in
     let d = goal.at.returns-clause-text c in
-    c.range-2.ensures.value ∙ front-bytes c.in-Some-told.first c.line-columns.result.0.now ∙ left d.In-Some-told c.if-kept-eq0.false
-    ∙ cell d.After-width_at (Some c.in-Some.n) c.in-Some.is
+    sym (alone d.In-Some-told c.if-kept-eq0.false c.if-kept-eq1.false).same
+    ∙ sym (cuts-wide n text (omega (arith, c.if-columns-n.false, c.line-columns.ensures.columns)))
+    ∙ cell d.After-width_at (Some n) c.in-Some.is
 
 pub returns-clause-columns : goal.returns-clause-columns
 returns-clause-columns c =
     let n = c.in-Some.n in
     let text = c.line-columns.result.0.now in
     let d = goal.at.returns-clause-columns c in
-    (in_place d.In-Some-told c.if-kept-eq0.false).columns_are
+    (alone d.In-Some-told c.if-kept-eq0.false c.if-kept-eq1.false).columns_are
     ∙ ap text_columns (sym (cuts-wide n text (omega (arith, c.if-columns-n.false, c.line-columns.ensures.columns)))
     ∙ cell d.After-width_at (Some n) c.in-Some.is)
 

@@ -1,7 +1,6 @@
-use Rattle.tabled_records.proofs.Names.{[], ap, append-nil, subst, sym, ◌++◌, ◌∙◌, ◌∷◌, ◌≡◌}
+use Rattle.tabled_records.proofs.Names.{[], append-nil, sym, ◌∙◌}
 use Rattle.std.proofs.lemmas.Result.{on_ok_weaker}
-use Rattle.tabled_records.proofs.ToldTexts.{told-for, told-in_place, told-made, told-none}
-use Rattle.tabled_records.specs.NarrowedTexts.{IsNarrowed, IsTold}
+use Rattle.tabled_records.proofs.ToldTexts.{told-none}
 use Rattle.tabled_records.proofs.narrowed_texts.CellNarrower.push.Goals as goal
 
 pub returns-then-n-eq0-clause-ok : goal.returns-then-n-eq0-clause-ok
