@@ -25,13 +25,14 @@ pub(crate) fn texts_at<'a>(
     let mut texts = Vec::new(alloc);
     let mut start: usize = 0;
     'ends: for end in ends {
-        let Some(cell) = text.get(start..*end) else {
+        let end = *end;
+        if end < start || !text.is_char_boundary(end) {
             return Err(ErrorCode::Ends);
-        };
-        if texts.push(cell).is_err() {
+        }
+        if texts.push(&text[start..end]).is_err() {
             return Err(ErrorCode::Memory);
         }
-        start = *end;
+        start = end;
     }
     if start != text.len() {
         return Err(ErrorCode::Ends);
@@ -63,11 +64,11 @@ pub(crate) fn rows_of(
     ensures only { IfErr result (λ e. e ≡ table.Memory) }
 {
     let mut made = Vec::with_capacity(alloc, rows)?;
-    let mut rest = texts;
+    let mut start: usize = 0;
     'rows: for _row in 0..rows {
-        let (row, after) = rest.split_at(columns.min(rest.len()));
-        made.push(row_of(alloc, row)?)?;
-        rest = after;
+        let end = start.saturating_add(columns).min(texts.len());
+        made.push(row_of(alloc, &texts[start..end])?)?;
+        start = end;
     }
     Ok(made)
 }

@@ -1,6 +1,9 @@
 //! Tests tables of cells: worked examples, and each error.
 
-use crate::exports::{fanlightnard_core_cells, fanlightnard_core_text};
+use crate::exports::{
+    fanlightnard_core_cells, fanlightnard_core_measure, fanlightnard_core_text,
+    fanlightnard_core_truncate, fanlightnard_core_wrap,
+};
 use crate::layout::Layout;
 use std::alloc::Global;
 use std::test::Fail;
@@ -125,4 +128,16 @@ fn returns_errors(rt: HostRuntime) {
         assert_eq!(rt; result, code);
         assert_eq!(rt; &buffer, b"####");
     }
+}
+
+#[test]
+fn fits_texts(rt: HostRuntime) {
+    assert_eq!(rt; fanlightnard_core_measure("北京\nabc".as_bytes()), 4);
+    let mut buffer = [b'#'; 9];
+    let count = fanlightnard_core_truncate(rt.alloc(), "北京x".as_bytes(), 3, &mut buffer);
+    assert_eq!(rt; count, 6);
+    assert_eq!(rt; buffer.as_slice(), "北\u{fffd}###".as_bytes());
+    let count = fanlightnard_core_wrap(rt.alloc(), b"one two", 4, true, &mut buffer);
+    assert_eq!(rt; count, 8);
+    assert_eq!(rt; &buffer, b"one \ntwo#");
 }
