@@ -1,3 +1,4 @@
+pub mod CellEnds
 pub mod Given
 pub mod Names
 pub mod Styles
