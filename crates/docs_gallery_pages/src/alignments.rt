@@ -1,5 +1,5 @@
-//! Alignments. They are options for the whole table or a part of it, and settings of the configuration; the latest that covers a cell
-//! holds.
+//! Alignments. They are options for the whole table or a part of it, and settings of the
+//! configuration; the latest that covers a cell holds.
 
 use tabled::grid::config::{AlignmentHorizontal, Entity};
 use tabled::settings::Alignment;

@@ -1,4 +1,5 @@
-//! Borders and lines. A line is there if one of its characters is; what is missing of it is a space.
+//! Borders and lines. A line is there if one of its characters is; what is missing of it is a
+//! space.
 
 use tabled::grid::config::{AlignmentHorizontal, Borders, CompactConfig, HorizontalLine};
 use tabled::settings::Style;
@@ -26,7 +27,8 @@ pub fn own(table: &mut Table) -> Result<(), TableError> {
     Ok(())
 }
 
-/// A line above the row of an index, from 0. The count of rows is the index of the line below the last row.
+/// A line above the row of an index, from 0. The count of rows is the index of the line below the
+/// last row.
 pub fn line(table: &mut Table) -> Result<(), TableError> {
     let config = table.get_config_mut().as_mut();
     let double = HorizontalLine {

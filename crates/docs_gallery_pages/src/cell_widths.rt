@@ -1,4 +1,5 @@
-//! Widths of cells. An option of a part changes the texts of its cells; a table may then be as wide as it comes.
+//! Widths of cells. An option of a part changes the texts of its cells; a table may then be as wide
+//! as it comes.
 
 use tabled::settings::Width;
 use tabled::settings::measurement::{Max, Min};
@@ -49,7 +50,8 @@ pub fn justified_to_the_narrowest(table: &mut Table) -> Result<(), TableError> {
     Ok(())
 }
 
-/// What stands in place of a number is read from the table: `Percent`, `Max`, the columns of the widest cell, or `Min`, as above.
+/// What stands in place of a number is read from the table: `Percent`, `Max`, the columns of the
+/// widest cell, or `Min`, as above.
 pub fn measured(table: &mut Table) -> Result<(), TableError> {
     table.modify(Columns::last(), Width::truncate(Min))?;
     table.modify(Columns::first(), Width::increase(Max).fill_with('.'))?;

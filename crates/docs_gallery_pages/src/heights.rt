@@ -17,7 +17,8 @@ pub fn last_increased(table: &mut Table) -> Result<(), TableError> {
     Ok(())
 }
 
-/// A higher one shrinks, and its texts keep their first lines. By `max` the highest row gives way first.
+/// A higher one shrinks, and its texts keep their first lines. By `max` the highest row gives way
+/// first.
 pub fn limited(table: &mut Table) -> Result<(), TableError> {
     table.with(Height::limit(6).priority(Priority::max(true)))?;
     Ok(())

@@ -1,4 +1,5 @@
-//! Parts of a table. What an option is to change is named by an object; these get a padding of marks.
+//! Parts of a table. What an option is to change is named by an object; these get a padding of
+//! marks.
 
 use tabled::settings::object::{Cell, Columns, Rows, Segment};
 use tabled::settings::{Alignment, Modify, Padding, Settings};

@@ -1,5 +1,5 @@
-//! Printers. A `Table` keeps its rows and prints them to any sink; `ExtendedTable` shows records one below the other, a line a field;
-//! `PoolTable` draws boxes in boxes.
+//! Printers. A `Table` keeps its rows and prints them to any sink; `ExtendedTable` shows records
+//! one below the other, a line a field; `PoolTable` draws boxes in boxes.
 
 use std::alloc::Global;
 use tabled::grid::ansi::ANSIStr;
@@ -27,7 +27,8 @@ fn pair(
     Ok(Vec::from_array(alloc, [first, second])?)
 }
 
-/// As wide as is asked for: missing columns become a margin, here on both sides and of `*`. The table itself stays.
+/// As wide as is asked for: missing columns become a margin, here on both sides and of `*`. The
+/// table itself stays.
 pub fn asked_for(alloc: Global) -> Result<String, TableError> {
     let table = Table::nohead(alloc, [("a", "bb"), ("ccc", "")])?;
     let mut text = String::new(alloc);
@@ -80,7 +81,7 @@ pub fn records(alloc: Global) -> Result<String, TableError> {
     table.to_string()
 }
 
-/// Cut to a width. It answers no, and all stays, where there is no room.
+/// Cut to a width. If the width is too small for that, it returns `false` and changes nothing.
 pub fn narrow_records(alloc: Global) -> Result<String, TableError> {
     let mut table = ExtendedTable::from_rows(alloc, CITIES)?;
     let _is_cut = table.truncate(15, "~")?;
@@ -107,7 +108,8 @@ pub fn pool_centered(alloc: Global) -> Result<String, TableError> {
     table.to_text()
 }
 
-/// Boxes side by side in a `Row`, one below the other in a `Column`. What a row has too much of goes to all of its parts.
+/// Boxes side by side in a `Row`, one below the other in a `Column`. What a row has too much of
+/// goes to all of its parts.
 pub fn boxes(alloc: Global) -> Result<String, TableError> {
     let beside = pair(alloc, cell(alloc, "Paris")?, cell(alloc, "Rome")?)?;
     let title = cell(alloc, "capitals of two countries")?;
@@ -128,7 +130,8 @@ pub fn boxes_last(alloc: Global) -> Result<String, TableError> {
     table.to_text()
 }
 
-/// Marks of colours around padding; they take no columns. In a terminal they would be escape sequences.
+/// Marks of colours around padding; they take no columns. In a terminal they would be escape
+/// sequences.
 pub fn marked(alloc: Global) -> Result<String, TableError> {
     let mut config = CompactMultilineConfig::new();
     config.set_borders(Style::ascii().get_borders());

@@ -1,4 +1,5 @@
-//! Rows and records. What a table is made of: values, rows of a `Builder`, or whatever else gives rows; records are what it keeps.
+//! Rows and records. What a table is made of: values, rows of a `Builder`, or whatever else gives
+//! rows; records are what it keeps.
 
 use std::alloc::Global;
 use tabled::TableError;
@@ -46,7 +47,8 @@ pub fn kept(alloc: Global) -> Result<String, TableError> {
     Ok(names)
 }
 
-/// Records, settings and sizes printed without a table. All columns are 9 wide, and all rows have one line.
+/// Records, settings and sizes printed without a table. All columns are 9 wide, and all rows have
+/// one line.
 pub fn printed(alloc: Global) -> Result<String, TableError> {
     let records = Builder::from_iter(alloc, CITIES)?.build();
     let mut config = SpannedConfig::new(alloc);

@@ -1,5 +1,6 @@
-//! Printers of rows as they come. `IterTable` reads some rows ahead, measures them, and cuts each cell to its column. `CompactTable`
-//! prints each row as it comes, so it needs its columns and their widths first: from you, or from an array.
+//! Printers of rows as they come. `IterTable` reads some rows ahead, measures them, and cuts each
+//! cell to its column. `CompactTable` prints each row as it comes, so it needs its columns and
+//! their widths first: from you, or from an array.
 
 use std::alloc::Global;
 use tabled::TableError;
@@ -40,7 +41,7 @@ pub fn sized(alloc: Global) -> Result<String, TableError> {
     table.to_string(alloc)
 }
 
-/// So many rows and columns, under a style.
+/// At most two rows and one column, in a style.
 pub fn limited(alloc: Global) -> Result<String, TableError> {
     let mut table = IterTable::new(CITIES);
     table.rows(2).columns(1).with(Style::modern())?;

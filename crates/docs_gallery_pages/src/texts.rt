@@ -24,7 +24,8 @@ pub fn cut(alloc: Global) -> Result<String, TableError> {
     Ok(beginning.into_owned(alloc)?)
 }
 
-/// The columns of a line, by a contract that rests on a law: they are no more than its characters count.
+/// The columns of a line, by a contract that rests on a law: they are no more than its characters
+/// count.
 pub fn counted(line: &str) -> usize
     ensures { result ≤ count_of (chars line.now) }
 {

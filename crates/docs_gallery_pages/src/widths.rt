@@ -1,5 +1,5 @@
-//! Widths of whole tables. A wider table is wrapped or cut to as many columns as are asked for, or to what it takes with empty cells
-//! where that is more; a narrower one is increased.
+//! Widths of whole tables. A wider table is wrapped or cut to as many columns as are asked for, or
+//! to what it takes with empty cells where that is more; a narrower one is increased.
 
 use tabled::settings::Width;
 use tabled::settings::measurement::Percent;
@@ -7,7 +7,8 @@ use tabled::settings::peaker::Priority;
 use tabled::settings::width::SuffixLimit;
 use tabled::{Table, TableError};
 
-/// Wrapped. Columns shrink one after the other, each by one, until the table fits; words are broken.
+/// Wrapped. Columns shrink one after the other, each by one, until the table fits; words are
+/// broken.
 pub fn wrapped(table: &mut Table) -> Result<(), TableError> {
     table.with(Width::wrap(30))?;
     Ok(())

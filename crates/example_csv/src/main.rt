@@ -1,5 +1,5 @@
-//! Prints comma-separated values from standard input as a table, once all of them are read and judged. Their texts are joined into one,
-//! so that none takes memory of its own.
+//! Prints comma-separated values from standard input as a table, once all of them are read and
+//! judged. Their texts are joined into one, so that none takes memory of its own.
 #![tactic(auto)]
 
 mod numbers_last;

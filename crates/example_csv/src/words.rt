@@ -17,7 +17,7 @@ pub fn command<'a>(alloc: Global) -> Result<Command<'a>, Error> {
     let width = Arg::new(alloc, "width")
         .long("width")
         .value_parser(value_parser!(usize))
-        .help("At most so many columns a line [default: COLUMNS of the environment, or any]");
+        .help("The most columns of a line [default: COLUMNS of the environment, or any]");
     Ok(
         Command::new(alloc, "example_csv")
             .about("Prints comma-separated values from standard input as a table")

@@ -1,5 +1,5 @@
-//! Prints JSON lines as a table, once all of them are read: a row for each line, and a column for each key in the order in which
-//! the keys come first.
+//! Prints JSON lines as a table, once all of them are read: a row for each line, and a column for
+//! each key in the order in which the keys come first.
 #![tactic(auto)]
 
 mod members;

@@ -1,5 +1,5 @@
-//! Shows tab-separated records one below the other, once all of them are read: a line a field, named by the first row, and each
-//! text cut to the terminal's width.
+//! Shows tab-separated records one below the other, once all of them are read: a line a field,
+//! named by the first row, and each text cut to the terminal's width.
 #![tactic(auto)]
 
 use anyhow::{Context, Result, ensure};

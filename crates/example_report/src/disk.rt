@@ -4,7 +4,7 @@ use std::alloc::Global;
 use std::io::{self, ErrorKind, Write};
 use std::string::FromUtf8Error;
 
-/// A disk that takes so many bytes, and fails where it is full.
+/// A disk of limited size. A write to a full one fails.
 #[derive(Drop)]
 pub struct Disk {
     held: Vec<u8>,

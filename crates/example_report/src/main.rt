@@ -1,5 +1,6 @@
-//! Writes tab-separated rows as a report of several pages, below the first row as the header of each, to disks that are small. It says
-//! what it does about each refusal, and then shows what the disks hold: whole pages alone.
+//! Writes tab-separated rows as a report of several pages, below the first row as the header of
+//! each, to disks that are small. It says what it does about each refusal, and then shows what the
+//! disks hold: whole pages alone.
 #![tactic(auto)]
 
 mod disk;

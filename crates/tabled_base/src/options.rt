@@ -1,4 +1,5 @@
-//! `TableOption` and `CellOption`, which change tables and cells, and the sizes that a table stores.
+//! `TableOption` and `CellOption`, which change tables and cells, and the sizes that a table
+//! stores.
 ghost use Rattle.std.specs.Prelude.{◌≡◌, ◌⊎◌, IfErr, OnOk, Option, Some};
 ghost use Rattle.tabled_base.specs.declared.error.TableError.{TableError};
 ghost use Rattle.tabled_base.specs.declared.error.TableError.TheVariants.{Memory, Range};

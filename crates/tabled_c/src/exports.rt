@@ -49,8 +49,8 @@ pub extern "C" fn fanlightnard_core_cells(
 }
 
 /// Formats tab-separated rows as a table into `buffer`. Returns the number of bytes needed, or an
-/// error code below 0. If `buffer` is too small, nothing is written. The counts of the layout aren't
-/// used.
+/// error code below 0. If `buffer` is too small, nothing is written. The counts of the layout
+/// aren't used.
 #[unsafe(no_mangle)]
 pub extern "C" fn fanlightnard_core_text(
     alloc: Global,

@@ -9,7 +9,8 @@ use tabled::settings::peaker::{
     Peaker, PriorityLeft, PriorityMax, PriorityMin, PriorityNone, PriorityRight, Steps, TakesAll,
 };
 
-/// The priority that an order names. The crate `tabled` has one of its own, which it doesn't export.
+/// The priority that an order names. The crate `tabled` has one of its own, which it doesn't
+/// export.
 #[derive(Clone, Copy)]
 pub(crate) struct ByOrder {
     order: Order,

@@ -203,8 +203,9 @@ impl SpannedConfig {
         Ok(())
     }
 
-    /// Sets borders, and replaces all lines set by index. Of several lines with one index the latest
-    /// counts. Fails only with `Memory`, and then changes nothing. Without lines it can't fail.
+    /// Sets borders, and replaces all lines set by index. Of several lines with one index the
+    /// latest counts. Fails only with `Memory`, and then changes nothing. Without lines it can't
+    /// fail.
     pub(crate) fn set_lines(
         &mut self,
         borders: Borders<char>,

@@ -50,6 +50,7 @@ pub trait LabelFn {
     // Whether the function may return the result for the index.
     ghost gives: { Self → ℕ → Result (String Global) AllocError → Type 0 };
 
+    /// Returns the label of the record with this index. Fails only if an allocation fails.
     fn text_at(&self, index: usize) -> Result<String, AllocError>
         requires { callable self.now }
         ensures { gives self.now index result };

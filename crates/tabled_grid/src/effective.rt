@@ -78,8 +78,8 @@ fn complete<R: ContentRecords>(
     Ok(sizes)
 }
 
-/// Prints records with sizes that aren't all stored. These take stack that `print_grid` doesn't need,
-/// so this is a separate function.
+/// Prints records with sizes that aren't all stored. These take stack that `print_grid` doesn't
+/// need, so this is a separate function.
 #[inline(never)]
 fn print_completed<R: ContentRecords, S: TextSink>(
     sink: &mut S,

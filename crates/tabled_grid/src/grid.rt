@@ -62,7 +62,8 @@ impl<'a, R: ContentRecords, D: Dimension> Model for Grid<'a, R, D> {
 
 impl<'a, R: ContentRecords, D: Dimension> Grid<'a, R, D> {
     /// Borrows records, settings and sizes, and looks up what all rows share. `buffer` is for
-    /// cached placements, one for each column; nothing is cached for columns in one of another size.
+    /// cached placements, one for each column; nothing is cached for columns in one of another
+    /// size.
     pub fn new(
         records: &'a R,
         config: &'a SpannedConfig,

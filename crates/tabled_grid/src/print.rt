@@ -87,8 +87,8 @@ fn has_tall_row<'a, R: ContentRecords, D: Dimension>(grid: &'a Grid<'a, R, D>) -
     false
 }
 
-/// Prints a table whose sizes hold its cells. With an allocator, more than `FEW_CURSORS` cursors are
-/// allocated, if a row needs them. `Range`: a total passes `usize::MAX`; nothing is written.
+/// Prints a table whose sizes hold its cells. With an allocator, more than `FEW_CURSORS` cursors
+/// are allocated, if a row needs them. `Range`: a total passes `usize::MAX`; nothing is written.
 #[tactic(auto, unfolding(crate::specs::Picture::picture))]
 pub(crate) fn print_checked<'a, R: ContentRecords, D: Dimension, S: TextSink>(
     memory: Option<Global>,

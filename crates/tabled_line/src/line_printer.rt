@@ -224,7 +224,8 @@ impl<C: TableColumns> LinePrinter<C> {
         write_rule_line(sink, &self.columns, &line)
     }
 
-    /// Writes a line of a row over these columns. Inlined, since the height is mostly known to be 1.
+    /// Writes a line of a row over these columns. Inlined, since the height is mostly known to be
+    /// 1.
     #[inline(always)]
     fn write_row_line<'a, R: Row<'a>, S: TextSink>(
         &mut self,

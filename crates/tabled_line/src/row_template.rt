@@ -114,8 +114,8 @@ fn copy_at(line: &mut [u8], place: usize, bytes: &[u8])
     line[place..place + bytes.len()].copy_from_slice(bytes);
 }
 
-/// Copies the first `count` bytes of a part of the blank row over those of a line from `place` on. A
-/// few are copied in one block, which the next text overwrites.
+/// Copies the first `count` bytes of a part of the blank row over those of a line from `place` on.
+/// A few are copied in one block, which the next text overwrites.
 #[inline(always)]
 fn copy_part(line: &mut [u8], place: usize, part: &[u8], count: usize)
     requires fits { place + length part.now ≤ length line.old }
@@ -131,8 +131,8 @@ fn copy_part(line: &mut [u8], place: usize, part: &[u8], count: usize)
 }
 
 /// Fills a buffer with a line of a row: copies the texts, at their placements, over a copy of the
-/// blank row. Returns its length in bytes. `None` if a text has no placement, doesn't fit, or hasn't
-/// as many bytes as columns.
+/// blank row. Returns its length in bytes. `None` if a text has no placement, doesn't fit, or
+/// hasn't as many bytes as columns.
 #[inline(always)]
 fn overlay_texts<'a, R: Row<'a>, A: RowPlacements>(
     line: &mut [u8],

@@ -1,6 +1,6 @@
 //! `Rectangle`; `Piece`, a text or a border in its rectangle; `PieceList`, the pieces by the line
-//! that they begin on; `Drawing`, the pieces and their settings; and the rectangles of texts, of the
-//! borders between boxes, and of those around a tree.
+//! that they begin on; `Drawing`, the pieces and their settings; and the rectangles of texts, of
+//! the borders between boxes, and of those around a tree.
 ghost use Rattle.std.specs.Prelude.{IfOk, Some, [], map, ◌++◌, ◌+◌, ◌<◌, ◌^◌, ◌∷◌, ◌≡◌, ◌≤◌};
 ghost use Rattle.tabled_pool.specs.Boxes.{AreTiles, CanSplit, Fits, IsSize, behind_border};
 ghost use Rattle.tabled_pool.specs.Boxes.{border_kind, border_part, box_along, box_of, first_part};

@@ -16,7 +16,7 @@ use tabled_base::{ExactRecords, Position, TableError};
 pub(crate) enum Narrowed {
     /// It needn't be made: two numbers tell it, the second one at least 1.
     Told(usize, usize),
-    /// It was made, and has so many columns and lines.
+    /// It was made. The numbers are its columns and its lines.
     Made(usize, usize),
 }
 
@@ -28,7 +28,7 @@ pub(crate) trait Narrowing {
     // Relates a line that needn't be made to two numbers that tell it.
     ghost tells: { Self → ℕ → List ℕ → ℕ × ℕ → Type 0 };
 
-    /// Narrows a line of so many columns. If it has to be made, `out` is replaced by it.
+    /// Narrows a line, whose width is `columns`. If it has to be made, `out` is replaced by it.
     fn narrow(
         &self,
         out: &mut String,
@@ -56,7 +56,7 @@ pub(crate) struct NarrowedTexts {
 }
 
 impl NarrowedTexts {
-    /// Returns what is told of a cell's text, or `None` if the cell only fills up its row.
+    /// Returns the two numbers of a cell's text, or `None` if the cell only fills up its row.
     #[inline(always)]
     pub fn told(&self, at: Position) -> Option<(usize, usize)>
         requires row { at.row < length self.now.ranges }
@@ -90,7 +90,7 @@ struct CellNarrower<'w, N> {
 }
 
 impl<'w, N: Narrowing> CellNarrower<'w, N> {
-    /// Adds the text of a cell, which is one line of so many columns.
+    /// Adds the text of a cell: one line, whose width is `columns`.
     fn push(&mut self, text: &str, columns: usize, width: Option<usize>) -> Result<(), AllocError>
         requires line { length (lines_of text.now) ≡ 1 }
         requires columns { columns ≡ text_columns text.now }

@@ -15,8 +15,9 @@ use tabled_config::{
     SpannedConfig,
 };
 
-/// Where texts are placed in their cells. As a table option it replaces the alignment of all cells, as
-/// a cell option that of an entity's cells. That in the other direction stays, and no size changes.
+/// Where texts are placed in their cells. As a table option it replaces the alignment of all cells,
+/// as a cell option that of an entity's cells. That in the other direction stays, and no size
+/// changes.
 ///
 /// ```rust
 /// table.with(Alignment::center())?;

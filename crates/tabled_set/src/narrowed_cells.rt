@@ -111,8 +111,8 @@ pub(crate) fn wrapped_rows<'r, 't, W: Measurement<Width> + Drop, P: Peaker + Dro
     Ok(Some(NarrowedRows::Wrapped(wrapped)))
 }
 
-/// Returns the rows of a table, cut when they are read, or `None` if it isn't too wide. All cells have
-/// the same padding. The sizes are stored as by `narrow_table`.
+/// Returns the rows of a table, cut when they are read, or `None` if it isn't too wide. All cells
+/// have the same padding. The sizes are stored as by `narrow_table`.
 pub(crate) fn cut_rows<'r, 't, W: Measurement<Width> + Drop, P: Peaker + Drop>(
     option: Resize<Truncating<'_>, W, P>,
     rows: &'r LentRows<'t>,

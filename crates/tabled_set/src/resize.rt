@@ -230,8 +230,8 @@ pub struct Change<'a, T, M> {
 }
 
 impl<'a, T: TextTransform, M: ContentSizes> Change<'a, T, M> {
-    /// Changes a cell if it has a content size and passes the filter. A text that isn't cut in place
-    /// is made in `out`.
+    /// Changes a cell if it has a content size and passes the filter. A text that isn't cut in
+    /// place is made in `out`.
     #[inline(always)]
     pub(crate) fn change_cell<R: RecordsMut>(
         &self,

@@ -87,7 +87,8 @@ impl<W, P> Wrap<W, P> {
 
 impl<W: Measurement<Width> + Drop, P: Peaker + Drop> WordWrap<W, P> {
     /// Returns the cells of a table as the table option changes them, or `None` if the table isn't
-    /// too wide. The sizes are stored, and errors come, as by the table option, but no record changes.
+    /// too wide. The sizes are stored, and errors come, as by the table option, but no record
+    /// changes.
     pub fn narrowed<R: PeekableRecords>(
         self,
         records: &R,
@@ -114,9 +115,10 @@ impl<W: Measurement<Width> + Drop, P: Peaker + Drop> WordWrap<W, P> {
     }
 }
 
-/// Narrows a table that is wider than the measured width to it, as `Wrap` does. Columns shrink by the
-/// excess, and each cell is wrapped between words to its column's new width less its own padding.
-/// Cells of a column that ends up below its minimum, its width with empty cells, don't change.
+/// Narrows a table that is wider than the measured width to it, as `Wrap` does. Columns shrink by
+/// the excess, and each cell is wrapped between words to its column's new width less its own
+/// padding. Cells of a column that ends up below its minimum, its width with empty cells, don't
+/// change.
 ///
 /// The widths are stored. Missing sizes are estimated first, and stored even if the table isn't too
 /// wide. Fails with `Memory` only if sizes are missing or the table is too wide.

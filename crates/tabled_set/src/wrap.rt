@@ -84,7 +84,8 @@ impl<W, P> Wrap<W, P> {
 
 impl<W: Measurement<Width> + Drop, P: Peaker + Drop> Wrap<W, P> {
     /// Returns the cells of a table as the table option changes them, or `None` if the table isn't
-    /// too wide. The sizes are stored, and errors come, as by the table option, but no record changes.
+    /// too wide. The sizes are stored, and errors come, as by the table option, but no record
+    /// changes.
     pub fn narrowed<R: PeekableRecords>(
         self,
         records: &R,

@@ -61,10 +61,10 @@ pub fn texts_can_be_cut()
         → (cells : List (List ℕ)) × IsCutRow content count row cells }
 {}
 
-/// With any mark, or none, every text can be cut to any number of columns, and takes no more. A text
-/// that stays whole is itself, as a line does whose characters count as many as its columns, if it
-/// is no wider. Of a wider one of these, the longest beginning is left that fits in the columns that
-/// the mark leaves, and then comes the mark.
+/// With any mark, or none, every text can be cut to any number of columns, and takes no more. A
+/// text that stays whole is itself, as a line does whose characters count as many as its columns,
+/// if it is no wider. Of a wider one of these, the longest beginning is left that fits in the
+/// columns that the mark leaves, and then comes the mark.
 pub fn marked_cells()
     ensures exists { (mark : Option ℕ) (n : ℕ) (text : List ℕ) → IsUtf8 text
         → (answer : List ℕ) × IsCutCell mark n text answer }

@@ -49,8 +49,8 @@ pub struct ModifyBy<T, O> {
     pub option: O,
 }
 
-/// Changes each part that the target names, in order. If the option fails at a part, the cells of the
-/// parts before it stay changed; if there are several, the configuration is restored.
+/// Changes each part that the target names, in order. If the option fails at a part, the cells of
+/// the parts before it stay changed; if there are several, the configuration is restored.
 impl<
     D,
     T: Object<VecRecords<Text<String>>> + Drop,

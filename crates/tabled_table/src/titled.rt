@@ -30,8 +30,8 @@ pub enum TitleFit {
     Cut,
 }
 
-/// A title above a table: a text over its total width, in columns, with side margins. A new one is at
-/// the left, and is wrapped between words if it is wider than the table.
+/// A title above a table: a text over its total width, in columns, with side margins. A new one is
+/// at the left, and is wrapped between words if it is wider than the table.
 ///
 /// ```rust
 /// table.to_titled_text(Title::new("Capitals of Europe").center())
@@ -163,13 +163,13 @@ impl Table {
         Ok(TitledTable { title, width, text })
     }
 
-    /// Prints the table below a title, whose lines are aligned in the total width and wrapped or cut
-    /// to it. Each line of the title is exactly as wide as the table. A table without rows or columns
-    /// prints nothing, nor does its title.
+    /// Prints the table below a title, whose lines are aligned in the total width and wrapped or
+    /// cut to it. Each line of the title is exactly as wide as the table. A table without rows or
+    /// columns prints nothing, nor does its title.
     ///
     /// The table's text is made in memory first. So `Memory` can come before the first byte, as can
-    /// each error that `write_to` returns there. Every later error is the sink's, and then a beginning
-    /// of the title and the table was written.
+    /// each error that `write_to` returns there. Every later error is the sink's, and then a
+    /// beginning of the title and the table was written.
     pub fn write_titled<S: TextSink>(
         &self,
         sink: &mut S,
@@ -190,8 +190,8 @@ impl Table {
         sink.write_text(&all.text)
     }
 
-    /// Returns the table below a title, as `write_titled` prints it. Fails with `Memory`, and with each
-    /// error that `write_to` returns before its first byte.
+    /// Returns the table below a title, as `write_titled` prints it. Fails with `Memory`, and with
+    /// each error that `write_to` returns before its first byte.
     ///
     /// ```rust
     /// table.to_titled_text(Title::new("Capitals of Europe").center())

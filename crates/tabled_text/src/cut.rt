@@ -81,8 +81,8 @@ fn fill(alloc: Global, front: &str, missing: usize) -> Result<CowStr<'_, Global>
     Ok(CowStr::Owned(answer))
 }
 
-/// Appends a text as `cut_str` cuts it. Fails only if an allocation fails. Nothing is allocated if n
-/// is 0 or the text is empty.
+/// Appends a text as `cut_str` cuts it. Fails only if an allocation fails. Nothing is allocated if
+/// n is 0 or the text is empty.
 pub fn append_cut(out: &mut String, text: &str, n: usize) -> Result<(), AllocError>
     ensures added { OnOk result
         (AddsCut n text.now (string_bytes out.old) (string_bytes out.new)) }
@@ -124,8 +124,9 @@ pub fn cut_length(text: &str, n: usize) -> Option<usize>
     }
 }
 
-/// Returns the length in bytes of what `cut_str` leaves of a text that begins with more than n columns
-/// of letters, as `is_letter_text` knows them, or with n; and whether U+FFFD fills a last column.
+/// Returns the length in bytes of what `cut_str` leaves of a text that begins with more than n
+/// columns of letters, as `is_letter_text` knows them, or with n; and whether U+FFFD fills a last
+/// column.
 pub fn cut_letters(text: &str, n: usize) -> Option<(usize, bool)>
     ensures { IfSome result (λ cut. IsCutAt n text.now cut.0 (if cut.1 then 1 else 0)) }
 {

@@ -152,9 +152,9 @@ pub fn wrapped_texts()
         → text_columns text ≤ n → IsWrapped n words text answer → answer ≡ text }
 {}
 
-/// A text that is wrapped between words takes at most n columns, and stays additive. For n ≥ 1 it is
-/// unchanged if it is additive and took at most n columns before. No breaking has fewer lines. If
-/// n ≥ 1 and each unit fits, the wrapped text is the text of a breaking: the old text with line
+/// A text that is wrapped between words takes at most n columns, and stays additive. For n ≥ 1 it
+/// is unchanged if it is additive and took at most n columns before. No breaking has fewer lines.
+/// If n ≥ 1 and each unit fits, the wrapped text is the text of a breaking: the old text with line
 /// feeds inserted or put in the place of spaces.
 pub fn word_wrapped_texts()
     ensures fits { (n : ℕ) (text answer : List ℕ) → IsWordWrapped n text answer → FitsIn n answer }

@@ -15,9 +15,9 @@ pub(crate) const HALF_BLOCK: usize = 8;
 const COLUMNS: [u8; 16] = [0, 0, 1, 1, 1, 1, 1, 1, 0, 0, 0, 0, 1, 1, 2, 0];
 
 /// What the upper half of a byte may say against it: a bit for each kind of byte that isn't a
-/// letter's. It isn't one if its lower half has a bit of these. 1 is a tab or a line feed, 2 another
-/// control character up to U+000F, 4 a control character from U+0010 on or a character of 4 bytes,
-/// 8 U+007F, and 16, 32 and 64 are first bytes of 2, 2 and 3 bytes.
+/// letter's. It isn't one if its lower half has a bit of these. 1 is a tab or a line feed, 2
+/// another control character up to U+000F, 4 a control character from U+0010 on or a character of 4
+/// bytes, 8 U+007F, and 16, 32 and 64 are first bytes of 2, 2 and 3 bytes.
 const UPPER: [u8; 16] = [3, 4, 0, 0, 0, 0, 0, 8, 0, 0, 0, 0, 16, 32, 64, 4];
 
 /// The same by its lower half.
@@ -107,8 +107,8 @@ pub(crate) fn letter_columns(bytes: &[u8], start: usize) -> Option<usize>
     Some(columns + last)
 }
 
-/// Returns the columns of 8 to 15 bytes, or `None` if one isn't a letter's. Reads the last 8 and the
-/// first 8 in one block, and those that are read twice once.
+/// Returns the columns of 8 to 15 bytes, or `None` if one isn't a letter's. Reads the last 8 and
+/// the first 8 in one block, and those that are read twice once.
 #[inline(always)]
 fn few_columns(bytes: &[u8]) -> Option<usize>
     requires some { HALF_BLOCK ≤ length bytes.now }
@@ -135,8 +135,8 @@ pub(crate) fn whole_columns(bytes: &[u8]) -> Option<usize>
     letter_columns(bytes, 0)
 }
 
-/// Goes over blocks of letters at the front that take at most n columns together. Returns where they
-/// end, which may be within a character, and their columns.
+/// Goes over blocks of letters at the front that take at most n columns together. Returns where
+/// they end, which may be within a character, and their columns.
 fn letter_blocks(bytes: &[u8], n: usize) -> (usize, usize)
     ensures end { result.0 ≤ length bytes.now }
     ensures letters { AreLetters (take result.0 bytes.now) result.1 }
@@ -157,8 +157,9 @@ fn letter_blocks(bytes: &[u8], n: usize) -> (usize, usize)
     (at, columns)
 }
 
-/// Splits off letters at the front of a text that take at most n columns together, if it has a block
-/// of bytes. Returns their text, their columns and the rest, which may begin with more letters.
+/// Splits off letters at the front of a text that take at most n columns together, if it has a
+/// block of bytes. Returns their text, their columns and the rest, which may begin with more
+/// letters.
 #[inline(always)]
 pub(crate) fn split_letters(text: &str, n: usize) -> (&str, usize, &str)
     ensures parts { text.now ≡ result.0.now ++ result.2.now }

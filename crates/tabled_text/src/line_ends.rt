@@ -1,4 +1,4 @@
-//! What ends the lines of a text: its line feeds, or where a text is broken that is wrapped in place.
+//! What ends the lines of a text: line feeds, or a length at which a text is wrapped in place.
 ghost use Rattle.std.specs.Prelude.{Bool, IfSome, List, false, length, true, ℕ, ◌<◌, ◌≡◌};
 ghost use Rattle.std.specs.List.{list_all};
 ghost use Rattle.std.specs.Str.{IsUtf8};
@@ -13,8 +13,8 @@ use crate::measure::{line_width, split_line};
 use crate::runs::{is_run, run_end};
 use crate::wrap::{fits_bytes, is_letter_line};
 
-/// What ends a line of a text. The lines of a text that is wrapped in place are found by it, so that
-/// no wrapped text has to be made.
+/// What ends a line of a text. A text that is wrapped in place is read line by line with it, so no
+/// wrapped copy has to be made.
 ///
 /// ```rust
 /// let (line, columns, rest) = first_line("a weir", LineEnds::Bytes(4)); // `a we`, 4 and `ir`
@@ -23,10 +23,10 @@ use crate::wrap::{fits_bytes, is_letter_line};
 pub enum LineEnds {
     /// A line feed.
     Feeds,
-    /// So many bytes, at least 1. The text is printable ASCII.
+    /// A number of bytes, at least 1. The text is printable ASCII.
     Bytes(usize),
-    /// So many columns, at least 1. The text is letters, as `is_letter_text` knows them. The line of
-    /// a letter that is wider than that is U+FFFD.
+    /// A number of columns, at least 1. The text passes `is_letter_text`. A letter that is wider
+    /// than that is a line of U+FFFD.
     Columns(usize),
 }
 
@@ -160,9 +160,9 @@ fn measures_by_columns(text: &str, n: usize) -> (usize, usize)
     (widest.max(columns), count)
 }
 
-/// Returns the columns and the number of lines of a text that is wrapped to n columns, if it needn't
-/// be made: the text isn't changed, or its lines end after n columns. The text is one line, of so
-/// many columns.
+/// Returns the columns and the number of lines of a text that is wrapped to n columns, if it
+/// needn't be made: the text isn't changed, or its lines end after n columns. The text is one line,
+/// whose width is `columns`.
 pub fn measures_in_place(
     text: &str,
     columns: usize,

@@ -72,8 +72,8 @@ fn is_printable_tail(bytes: &[u8], start: usize) -> bool
     is_run(bytes, earlier, b' ', b'~') || is_run(bytes, start, b' ', b'~')
 }
 
-/// Returns the columns of the first line of a text, and the rest after its line feed, if it has one.
-/// `run` is the end of the printable ASCII that the text begins with.
+/// Returns the columns of the first line of a text, and the rest after its line feed, if it has
+/// one. `run` is the end of the printable ASCII that the text begins with.
 fn measure_line(text: &str, run: usize) -> (usize, Option<&str>)
     requires { EndsRun 0x20 0x7E text.now 0 run }
     ensures columns { map line_columns (lines_of text.now)

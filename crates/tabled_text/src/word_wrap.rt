@@ -16,8 +16,8 @@ use crate::sink::Sink;
 use crate::wrap::{append_chars, append_word, fits_bytes, split_word};
 use std::alloc::{AllocError, Global};
 
-/// Returns the columns that a line needs for the beginning of a word: for the word, or for its first
-/// character if the word is wider than n columns.
+/// Returns the columns that a line needs for the beginning of a word: for the word, or for its
+/// first character if the word is wider than n columns.
 fn needed_columns(word: &str, width: usize, n: usize) -> usize
     requires some { 0 < n }
     requires width { width ≡ columns_of (chars word.now) }
@@ -35,8 +35,8 @@ fn needed_columns(word: &str, width: usize, n: usize) -> usize
     }
 }
 
-/// Writes a space before a word, or a line feed if the line has no columns left for the beginning of
-/// the word after a space. Returns the column at which the word begins.
+/// Writes a space before a word, or a line feed if the line has no columns left for the beginning
+/// of the word after a space. Returns the column at which the word begins.
 fn begin_word<S: Sink>(out: &mut S, used: usize, n: usize, needed: usize) -> Result<usize, S::Error>
     ensures at { IfOk result (λ column. column ≡ word_at n used needed) }
     ensures text { OnOk result (S.adds out.old (word_lead n used needed) out.new) }

@@ -14,8 +14,8 @@ struct Results {
     failed: usize,
 }
 
-/// Checks a list of cases for each kind. Returns the report of each case that fails, and then a line
-/// with their numbers.
+/// Checks a list of cases for each kind. Returns the report of each case that fails, and then a
+/// line with their numbers.
 pub fn check_document(alloc: Global, document: &Table) -> Result<String, Fault> {
     let mut results = Results {
         reports: String::new(alloc),
