@@ -56,14 +56,6 @@ fn texts_table(
     Ok(out)
 }
 
-/// Returns the number of an error of a table.
-fn code_of(error: TableError) -> ErrorCode {
-    match error {
-        TableError::Range => ErrorCode::Range,
-        _ => ErrorCode::Memory,
-    }
-}
-
 /// Returns the text of a table of cells.
 pub(crate) fn cells_table(
     alloc: Global,
@@ -94,7 +86,8 @@ pub(crate) fn cells_table(
     let texts = texts_at(alloc, text, ends)?;
     match texts_table(alloc, &texts, alignments, layout, style, plan) {
         Ok(table) => Ok(table),
-        Err(error) => Err(code_of(error)),
+        Err(TableError::Range) => Err(ErrorCode::Range),
+        Err(_) => Err(ErrorCode::Memory),
     }
 }
 
@@ -115,6 +108,7 @@ pub(crate) fn text_table(alloc: Global, text: &[u8], layout: &Layout) -> Result<
     let mut out = String::new(alloc);
     match render_styled(alloc, text, style, plan, &mut out) {
         Ok(()) => Ok(out),
-        Err(error) => Err(code_of(error)),
+        Err(TableError::Range) => Err(ErrorCode::Range),
+        Err(_) => Err(ErrorCode::Memory),
     }
 }

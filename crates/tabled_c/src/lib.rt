@@ -10,8 +10,7 @@
 //! - `exports.rt`: the exported functions, and filling the buffer of the caller.
 //! - `formatting.rt`: the text of a table of cells, and of one of tab-separated rows.
 //! - `layout.rt`: the numbers that say how a table is laid out; `cells.rt`: cells by their ends.
-//! - `printing.rt`: printing records under a plan; `order.rt`: the order in which columns shrink.
-//! - `error_code.rt`: error codes.
+//! - `printing.rt`: printing records under a plan; `error_code.rt`: error codes.
 #![tactic(auto)]
 
 mod cells;
@@ -19,7 +18,6 @@ mod error_code;
 mod exports;
 mod formatting;
 mod layout;
-mod order;
 mod printing;
 #[cfg(test)]
 mod tests;

@@ -10,7 +10,6 @@ ghost use Rattle.tabled_size.specs.TextCells.{AreTexts};
 ghost use Rattle.tabled.specs.Planned.{measured};
 ghost use Rattle.tabled.specs.Rendered.{IsMade, IsRenderedOf};
 
-use crate::order::ByOrder;
 use std::alloc::Global;
 use tabled::grid::config::ColoredConfig;
 use tabled::grid::dimension::CompleteDimension;
@@ -18,7 +17,7 @@ use tabled::grid::print_standing;
 use tabled::grid::records::VecRecords;
 use tabled::settings::TableOption;
 use tabled::settings::width::{Truncate, Wrap};
-use tabled::{Plan, TableError, Text, TextSink};
+use tabled::{OrderPriority, Plan, TableError, Text, TextSink};
 
 /// Wraps or truncates the cells of a table, as a plan says, and stores its new sizes.
 fn narrow(
@@ -45,13 +44,13 @@ fn narrow(
             order,
         } => {
             let wrap = Wrap::new(target).keep_words(words);
-            let wrap = wrap.priority(ByOrder::new(order));
+            let wrap = wrap.priority(OrderPriority::new(order));
             wrap.change(rows, settings, sizes)?;
             sizes.clear_height();
             Ok(())
         }
         Plan::Shortened { target, order } => {
-            let truncate = Truncate::new(target).priority(ByOrder::new(order));
+            let truncate = Truncate::new(target).priority(OrderPriority::new(order));
             truncate.change(rows, settings, sizes)
         }
     }
