@@ -1,5 +1,5 @@
-//! Prints comma-separated values from standard input as a table, once all of them are read and
-//! judged. Their texts are joined into one, so that none takes memory of its own.
+//! Prints comma-separated values from standard input as a table, after reading and checking all of
+//! them. Their texts are joined into one, so that no cell is allocated by itself.
 #![tactic(auto)]
 
 mod numbers_last;
