@@ -1,5 +1,5 @@
 -- Cells that are placed below names.
-use Rattle.std.proofs.Common.{List, [], ap, append-nil, append_assoc, arith, length, length-append, map, refl, string_bytes, subst, sym, take, get_or, ℕ, ◌+◌, ◌<◌, ◌++◌, ◌∙◌, ◌∷◌, ◌≡◌}
+use Rattle.std.proofs.Common.{List, [], ap, append-nil, append_assoc, arith, length, length-append, map, string_bytes, subst, sym, take, get_or, ℕ, ◌+◌, ◌<◌, ◌++◌, ◌∙◌, ◌∷◌, ◌≡◌}
 use Rattle.std.proofs.lemmas.List.{length-map, map-append, nil_from_length, take_more}
 use Rattle.std.specs.Vec.Iter.{into_iter_items}
 use Rattle.std.specs.declared.alloc.Global.{Global}

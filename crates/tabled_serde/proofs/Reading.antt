@@ -12,7 +12,7 @@ use Rattle.serde.specs.declared.name.Case.{Case}
 use Rattle.serde.specs.declared.name.NameKind.TheVariants.{Field, Variant}
 use Rattle.tabled_serde.specs.Reader.{FieldRead, FieldsRead, bytes_of}
 use Rattle.tabled_serde.specs.Records.{AreFields, AreRecord, IsCell, IsName, IsScalar, IsText, field, joined, key, list, one, variant}
-use Rattle.tabled_serde.specs.Records.{none_yet, and_field, and_flattened, and_nothing}
+use Rattle.tabled_serde.specs.Records.{and_field, and_flattened, and_nothing}
 use Rattle.tabled_serde.specs.declared.reader.Record.{Record}
 
 module _ {E : Type 0} (rest : List Event) where
@@ -45,7 +45,7 @@ module _ (none : List ℕ) where
   item-read before es rest after e old new text zip read next is more = (
     es ++ e ∷ [],
     subst (λ ts. AllZip (IsText none) (es ++ e ∷ []) ts) (sym (bytes-more old new text more))
-    (all_zipped_more (IsText none) es (bytes_of old) e (string_bytes text) zip is),
+        (all_zipped_more (IsText none) es (bytes_of old) e (string_bytes text) zip is),
     read ∙ ap (λ r. es ++ r) next ∙ sym (append_assoc es (e ∷ []) after),
   )
 

@@ -1,5 +1,5 @@
 -- One step of the rows of values.
-use Rattle.std.proofs.Common.{IfOk, IsSomeAnd, List, MatchOption, MatchResult, None, OnErr, Ok, Err, Option, Result, Some, [], ap, arith, map, refl, string_bytes, subst, sym, ℕ, ◌++◌, ◌∙◌, ◌∷◌, ◌≡◌}
+use Rattle.std.proofs.Common.{IfOk, List, MatchOption, MatchResult, None, OnErr, Ok, Err, Option, Result, Some, [], ap, map, refl, string_bytes, subst, sym, ℕ, ◌∙◌, ◌∷◌, ◌≡◌}
 use Rattle.std.specs.List.{AllZip}
 use Rattle.std.specs.declared.alloc.Global.{Global}
 use Rattle.std.specs.declared.string.String.{String}

@@ -13,7 +13,7 @@ use Rattle.serde.specs.Event.{Event}
 use Rattle.tabled_base.proofs.LengthenedRows.{lengthened_rows-more}
 use Rattle.tabled_base.specs.Cells.{lengthened_rows, with_record}
 use Rattle.tabled_serde.specs.Reader.{bytes_of}
-use Rattle.tabled_serde.specs.Rows.{AreRows, GivesHeader, GivesRow, HasFields, IsRowOf, TakesValue, row_steps}
+use Rattle.tabled_serde.specs.Rows.{AreRows, GivesHeader, HasFields, IsRowOf, TakesValue, row_steps}
 use Rattle.tabled_serde.specs.declared.error.RowError.{RowError}
 use Rattle.tabled_serde.specs.declared.rows.ValueRows.{ValueRows}
 
@@ -99,8 +99,7 @@ module _ {S T : Type 0} (steps : S → Option T → S → Type 0) (writes : T �
     given =
         subst (λ r. RowsGiven (items ++ value ∷ []) (rows ++ bytes_of row ∷ []) r.header r.first) (sym same)
         (subst (λ o. RowsGiven (items ++ value ∷ []) (rows ++ bytes_of row ∷ []) o s.first) (sym known)
-        (subst (λ o. RowsGiven (items ++ value ∷ []) (rows ++ bytes_of row ∷ []) (Some header) o) (sym gone)
-        (
+        (subst (λ o. RowsGiven (items ++ value ∷ []) (rows ++ bytes_of row ∷ []) (Some header) o) (sym gone) (
           g.0,
           g.1 ++ value ∷ [],
           g.2,
@@ -109,7 +108,7 @@ module _ {S T : Type 0} (steps : S → Option T → S → Type 0) (writes : T �
           ap (λ r. r ++ bytes_of row ∷ []) g.5,
           g.6,
           all_zipped_more (IsRowOf writes none (bytes_of header)) g.1 g.3 value (bytes_of row) g.7
-          (subst (λ n. IsRowOf writes n (bytes_of header) value (bytes_of row)) text below),
+              (subst (λ n. IsRowOf writes n (bytes_of header) value (bytes_of row)) text below),
         )));
     built_are = one_more rows (bytes_of row) old new h more;
   }
@@ -132,14 +131,13 @@ module _ {S T : Type 0} (steps : S → Option T → S → Type 0) (writes : T �
     none_is = ap (λ r. r.none.now) g.same ∙ text;
     given =
         subst (λ o. RowsGiven (items ++ value ∷ []) (rows ++ row ∷ []) o t.first) (sym known)
-        (subst (λ o. RowsGiven (items ++ value ∷ []) (rows ++ row ∷ []) (Some header) o) (sym kept)
-        (
+        (subst (λ o. RowsGiven (items ++ value ∷ []) (rows ++ row ∷ []) (Some header) o) (sym kept) (
           value,
           ap (λ i. i ++ value ∷ []) no_items,
           ap (λ r. r ++ row ∷ []) no_rows ∙ ap (λ r. r ∷ []) (g.row_is ∙ sym a),
           subst (λ n. HasFields writes n value (bytes_of header) (bytes_of first)) text
-          (subst (λ n. HasFields writes s.none.now value n (bytes_of first)) (sym a)
-          (subst (λ c. HasFields writes s.none.now value g.names c) (sym b) g.fields)),
+              (subst (λ n. HasFields writes s.none.now value n (bytes_of first)) (sym a)
+              (subst (λ c. HasFields writes s.none.now value g.names c) (sym b) g.fields)),
         ));
     built_are = one_more rows row old new h more;
   }
@@ -156,12 +154,12 @@ module _ {S T : Type 0} (steps : S → Option T → S → Type 0) (writes : T �
       (more ∙ ap (λ r. with_record old (bytes_of r)) same)
   taken start s t row old new None None so_far known kept g h more =
       let gives = subst (λ o. MatchOption o (GivesHeader writes (record s { values = h.rest }) h.value (bytes_of row) t)
-          (λ header. IsRowOf writes s.none.now (bytes_of header) h.value (bytes_of row) × (t ≡ record s { values = h.rest }))) known h.gives in
+      (λ header. IsRowOf writes s.none.now (bytes_of header) h.value (bytes_of row) × (t ≡ record s { values = h.rest }))) known h.gives in
       header-given start h.rest s t h.value (bytes_of row) so_far.items so_far.rows old new so_far.yielded so_far.none_is g.0 g.1 so_far.built_are
       h.came gives t.header t.first refl refl gives.header_kept gives.first_kept more
   taken start s t row old new (Some header) None so_far known kept g h more =
       let gives = subst (λ o. MatchOption o (GivesHeader writes (record s { values = h.rest }) h.value (bytes_of row) t)
-          (λ header. IsRowOf writes s.none.now (bytes_of header) h.value (bytes_of row) × (t ≡ record s { values = h.rest }))) known h.gives in
+      (λ header. IsRowOf writes s.none.now (bytes_of header) h.value (bytes_of row) × (t ≡ record s { values = h.rest }))) known h.gives in
       later-given start h.rest s t header row h.value so_far.items so_far.rows old new so_far.yielded so_far.none_is known kept g so_far.built_are
       h.came gives.0 gives.1 more
 

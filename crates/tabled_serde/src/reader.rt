@@ -46,7 +46,8 @@ impl<'a> Reader<'a> {
     pub fn read(mut self) -> Result<Record, RowError>
         ensures fields { IfOk result (λ found. AreRecord self.entry.none.now (left self.entry)
             (bytes_of found.names) (bytes_of found.cells)) }
-        ensures as_many { IfOk result (λ found. length found.names.items ≡ length found.cells.items) }
+        ensures as_many { IfOk result
+            (λ found. length found.names.items ≡ length found.cells.items) }
     {
         let Some(Step::BeginMap(_)) = self.next() else {
             return Err(RowError::NoFields);
@@ -67,7 +68,8 @@ impl<'a> Reader<'a> {
     fn next(&mut self) -> Option<&'a Step>
         ensures none { self.new.none.now ≡ self.old.none.now }
         ensures fewer { length self.new.steps.now ≤ length self.old.steps.now }
-        ensures fewer_still { OnSome result (length self.new.steps.now < length self.old.steps.now) }
+        ensures fewer_still { OnSome result
+            (length self.new.steps.now < length self.old.steps.now) }
         ensures took { MatchOption result (self.old.steps.now ≡ [])
             (λ step. self.old.steps.now ≡ step.now ∷ self.new.steps.now) }
     {

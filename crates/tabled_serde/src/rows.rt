@@ -51,7 +51,8 @@ impl<'a, I> ValueRows<'a, I> {
 
     /// Returns the row of a value. That of the first is the header, and its cells are kept.
     fn row_of<T: Serialize>(&mut self, value: &T) -> Result<Vec<String>, RowError>
-        ensures gives { IfOk result (λ row. GivesRow T.writes self.old value.now (bytes_of row) self.new) }
+        ensures gives { IfOk result
+            (λ row. GivesRow T.writes self.old value.now (bytes_of row) self.new) }
         ensures failed { OnErr result (self.new ≡ self.old) }
     {
         let fields = read_record(self.alloc, value, self.none)?;

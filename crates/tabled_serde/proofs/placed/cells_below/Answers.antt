@@ -16,7 +16,7 @@ pub columns-preserved : goal.columns-preserved
 columns-preserved c =
     let longer = one-longer c.args.header.now c.columns.name-index c.name-item.result (omega arith) c.name-item.is in
     elim c.match-take.branch [
-      in-Some+in_ok-push-in-Some w ↦ cell-placed c.name-item.result w.in-Some.cell c.columns.invariant longer
+      | in-Some+in_ok-push-in-Some w ↦ cell-placed c.name-item.result w.in-Some.cell c.columns.invariant longer
           (rw w.in-Some.is at c.take.ensures.names) (rw w.in-Some.is at c.take.ensures.cells)
           (ap (λ (r : Vec (String Global) Global). r.items) w.row-is ∙ w.in_ok-push-in-Some.ensures.items)
       | in-None+in_ok-push-in-None w ↦ empty-placed c.name-item.result w.new.result c.columns.invariant longer

@@ -1,4 +1,4 @@
-use Rattle.std.proofs.Common.{ap, false, is_err, map, string_bytes, subst, sym, Some, ◌∙◌, ◌≡◌}
+use Rattle.std.proofs.Common.{ap, false, is_err, subst, sym, Some, ◌∙◌, ◌≡◌}
 use Rattle.tabled_base.specs.Cells.{with_record}
 use Rattle.tabled_serde.proofs.Yielding.{all-given, none-given, on-success, row-given, row-texts}
 use Rattle.tabled_serde.specs.Rows.{row_steps}
@@ -35,5 +35,5 @@ pub returns : goal.returns
 returns g c =
     let i = c.rows.invariant in
     let all = all-given g.I.IntoIter.Iterator.next_gives g.T.Described.writes c.args.none.now i.start c.rows.row-iterator c.next.new.self c.rows.builder
-        i.so_far c.in-None.ensures.steps in
+    i.so_far c.in-None.ensures.steps in
     (i.so_far.items, i.so_far.rows, record { iterator = i.start; made = i.made; drained = all.0 }, all.1, i.so_far.built_are)

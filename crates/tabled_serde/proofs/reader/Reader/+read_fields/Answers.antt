@@ -40,7 +40,7 @@ fields-preserved-else-branch t c =
     let same = c.in-Some.ensures.none ∙ c.fields.invariant.none in
     let flat = ap (map event_of) c.in-Some.ensures.took ∙ ap (λ s. event_of s ∷ left c.next.new.self) c.in-Flatten.is in
     let begins = subst (λ b. BeginsStruct b (left c.next.new.self) (left c.begins_struct.new.self)) c.if-branch.false
-        c.in_ok-begins_struct-in-Flatten.ensures.ok in
+    c.in_ok-begins_struct-in-Flatten.ensures.ok in
     record {
       none = c.in_ok-begins_struct-in-Flatten.ensures.none ∙ same;
       fewer = omega (arith, c.in-Some.ensures.fewer, c.fields.invariant.fewer, c.in_ok-begins_struct-in-Flatten.ensures.fewer);
@@ -53,7 +53,7 @@ fields-preserved-in-Continue-branch-2 t c =
     let same = c.in_ok-begins_struct-in-Flatten.ensures.none ∙ c.in-Some.ensures.none ∙ c.fields.invariant.none in
     let flat = ap (map event_of) c.in-Some.ensures.took ∙ ap (λ s. event_of s ∷ left c.next.new.self) c.in-Flatten.is in
     let begins = subst (λ b. BeginsStruct b (left c.next.new.self) (left c.begins_struct.new.self)) c.if-branch.true
-        c.in_ok-begins_struct-in-Flatten.ensures.ok in
+    c.in_ok-begins_struct-in-Flatten.ensures.ok in
     record {
       none = c.in_ok-read_fields-in-Flatten.ensures.none ∙ same;
       fewer = omega (
