@@ -62,7 +62,7 @@ fn table_of_values(alloc: Global) -> Result<Table, RowError> {
             year: 2009,
         },
     ];
-    Ok(Table::from(builder(alloc, languages)?))
+    Ok(Table::from(builder(alloc, languages, "")?))
 }
 
 /// Its text, or why a value can't be a row.

@@ -32,7 +32,7 @@ const CITIES: [City; 2] = [
 ];
 
 fn cities(alloc: Global) -> Result<Table, RowError> {
-    Ok(Table::from(builder(alloc, CITIES)?))
+    Ok(Table::from(builder(alloc, CITIES, "")?))
 }
 
 /// A table of the values, below the names of their fields.
@@ -46,8 +46,7 @@ pub fn table(alloc: Global) -> Result<String, TableError> {
 
 /// A stream of them, with a text for what is `None`. An error would name the field.
 pub fn streamed(alloc: Global) -> Result<String, TableError> {
-    let mut rows = ValueRows::new(alloc, CITIES.into_iter());
-    rows.none("?");
+    let rows = ValueRows::new(alloc, CITIES.into_iter(), "?");
     let mut text = String::new(alloc);
     let (printed, read) = IterTable::new(TryRows::new(rows)).try_fmt(alloc, &mut text);
     printed?;
