@@ -51,9 +51,8 @@ pub enum Plan {
     },
 }
 
-/// A priority that shrinks in an order chosen at run time.
 #[derive(Clone, Copy)]
-pub struct OrderPriority {
+pub(crate) struct OrderPriority {
     order: Order,
     /// Stores the next index for `Order::Round`.
     round: PriorityNone,

@@ -21,7 +21,7 @@ mod block_sink;
 mod program;
 mod rendering;
 
-pub use arguments::{Order, OrderPriority, Plan};
+pub use arguments::{Order, Plan};
 pub use program::run;
 pub use rendering::{render, render_styled};
 pub use tabled_base::{TableError, Text};

@@ -3,9 +3,9 @@
 ghost use Rattle.std.specs.Cmp.{partial_equiv_from_equiv};
 ghost use Rattle.std.specs.Cmp.Lexicographic.{nat_list_eq_equiv, pointwise};
 ghost use Rattle.std.specs.Prelude.{IfErr, IfOk, List, length, nat_eq, string_bytes, take, ℕ, ◌++◌};
-ghost use Rattle.std.specs.Prelude.{◌*◌, ◌+◌, ◌<◌, ◌≡◌, ◌≤◌};
+ghost use Rattle.std.specs.Prelude.{◌+◌, ◌<◌, ◌≡◌, ◌≤◌};
 ghost use Rattle.std.specs.Str.{IsCharBoundary};
-ghost use Rattle.tabled_base.specs.ShortOr.{FitsBehind, IsAtMost, IsMeasured, bytes_of};
+ghost use Rattle.tabled_base.specs.ShortOr.{FitsBehind, bytes_of};
 ghost use Rattle.tabled_base.specs.declared.error.TableError.TheVariants.{Memory};
 ghost use Rattle.tabled_text.specs.Measure.{lines_of, text_columns};
 
@@ -16,24 +16,28 @@ use std::alloc::{AllocError, Global};
 use std::convert::AsStr;
 use std::fmt;
 use std::marker::Model;
-use tabled_text::{count_lines, text_measures, text_width};
+use tabled_text::text_measures;
 
 /// A string with its width in columns and its number of lines, both measured once. `Text<String>`
 /// owns it, `Text<&str>` borrows it. `new` and `copied` store strings of at most 16 bytes inline.
 #[derive(Debug, Drop)]
 pub struct Text<S: AsStr> {
     text: ShortOr<S>,
+    columns: usize,
+    lines: usize,
 }
 
 impl<S: AsStr> Model for Text<S> {
-    ghost use Rattle.std.specs.Prelude.{ℕ, List};
-    ghost use Rattle.tabled_base.specs.ShortOr.{IsMeasured, bytes_of};
+    ghost use Rattle.std.specs.Prelude.{◌≡◌, ℕ, List, length};
+    ghost use Rattle.tabled_base.specs.ShortOr.{bytes_of};
+    ghost use Rattle.tabled_text.specs.Measure.{lines_of, text_columns};
 
     ghost Value = { List ℕ };
 
     ghost view = { λ t. bytes_of S.text t.text };
 
-    ghost invariant = { λ t. IsMeasured S.text t.text };
+    ghost invariant = { λ t. (t.columns ≡ text_columns (bytes_of S.text t.text))
+        × (t.lines ≡ length (lines_of (bytes_of S.text t.text))) };
 }
 
 impl<S: AsStr + Drop> Text<S> {
@@ -41,8 +45,11 @@ impl<S: AsStr + Drop> Text<S> {
     pub fn new(text: S) -> Self
         ensures { result ≡ S.text text }
     {
+        let (columns, lines) = text_measures(text.as_str());
         Text {
             text: ShortOr::kept(text),
+            columns,
+            lines,
         }
     }
 }
@@ -50,19 +57,16 @@ impl<S: AsStr + Drop> Text<S> {
 impl<S: AsStr> CellText for Text<S> {
     ghost text = { λ t. t };
 
-    #[inline(always)]
     fn text(&self) -> &str {
         self.text.as_str()
     }
 
-    #[inline(always)]
     fn width(&self) -> usize {
-        self.text.columns()
+        self.columns
     }
 
-    #[inline(always)]
     fn count_lines(&self) -> usize {
-        self.text.lines()
+        self.lines
     }
 }
 
@@ -79,6 +83,9 @@ impl Text<String> {
         } else {
             self.text.end_with(bytes, ending);
         }
+        let (columns, lines) = text_measures(self.text.as_str());
+        self.columns = columns;
+        self.lines = lines;
     }
 
     /// Copies and measures a text. Texts of at most 16 bytes are stored inline, so only a longer
@@ -89,8 +96,11 @@ impl Text<String> {
         ensures only { IfErr result (λ e. e ≡ Memory) }
         ensures long { IfErr result (λ _. SHORT_TEXT < length text.now) }
     {
+        let (columns, lines) = text_measures(text);
         Ok(Text {
             text: ShortOr::copied(alloc, text)?,
+            columns,
+            lines,
         })
     }
 
@@ -103,6 +113,8 @@ impl Text<String> {
     {
         Ok(Text {
             text: self.text.clone()?,
+            columns: self.columns,
+            lines: self.lines,
         })
     }
 }
@@ -124,18 +136,11 @@ impl<S: AsStr> Eq for Text<S> {
 /// The most bytes of a string that is stored inline. With its length it is as large as a `String`.
 pub const SHORT_TEXT: usize = 16;
 
-/// The greatest number of columns that is stored beside a longer text.
-pub(crate) const MOST_COLUMNS: usize = 16_777_215;
-
-/// A measured string: one that is stored inline, or one of another type. The numbers come first, so
-/// that with a `String` it has 32 bytes.
+/// A string that is stored inline, or one of another type.
 #[derive(Drop)]
 pub(crate) enum ShortOr<S> {
-    /// The columns, the lines and the text.
-    Short(u8, u8, ArrayString<SHORT_TEXT>),
-    /// The columns by 65,536 and their rest, the lines, and the text. The greatest columns and
-    /// lines that can be stored stand for those, or more.
-    Other(u8, u16, u32, S),
+    Short(ArrayString<SHORT_TEXT>),
+    Other(S),
 }
 
 impl<S: AsStr> ShortOr<S> {
@@ -145,45 +150,8 @@ impl<S: AsStr> ShortOr<S> {
         ensures { result.now ≡ bytes_of S.text self.now }
     {
         match self {
-            ShortOr::Short(_, _, short) => short.as_str(),
-            ShortOr::Other(_, _, _, other) => other.as_str(),
-        }
-    }
-
-    /// Returns the width in columns. A text of 16,777,215 columns or more is measured again.
-    #[inline(always)]
-    pub fn columns(&self) -> usize
-        requires { IsMeasured S.text self.now }
-        ensures { result ≡ text_columns (bytes_of S.text self.now) }
-    {
-        match self {
-            ShortOr::Short(columns, _, _) => *columns as usize,
-            ShortOr::Other(high, low, _, other) => {
-                let columns = *high as usize * 65_536 + *low as usize;
-                if columns < MOST_COLUMNS {
-                    columns
-                } else {
-                    text_width(other.as_str())
-                }
-            }
-        }
-    }
-
-    /// Returns the number of lines. 4,294,967,295 or more are counted again.
-    #[inline(always)]
-    pub fn lines(&self) -> usize
-        requires { IsMeasured S.text self.now }
-        ensures { result ≡ length (lines_of (bytes_of S.text self.now)) }
-    {
-        match self {
-            ShortOr::Short(_, lines, _) => *lines as usize,
-            ShortOr::Other(_, _, lines, other) => {
-                if *lines < u32::MAX {
-                    *lines as usize
-                } else {
-                    count_lines(other.as_str())
-                }
-            }
+            ShortOr::Short(short) => short.as_str(),
+            ShortOr::Other(other) => other.as_str(),
         }
     }
 }
@@ -193,32 +161,22 @@ impl<S: AsStr + Drop> ShortOr<S> {
     pub fn end_with(&mut self, bytes: usize, ending: &str)
         requires boundary { IsCharBoundary (bytes_of S.text self.old) bytes }
         requires few { bytes + length ending.now ≤ SHORT_TEXT }
-        ensures bytes { bytes_of S.text self.new
-            ≡ take bytes (bytes_of S.text self.old) ++ ending.now }
-        ensures measured { IsMeasured S.text self.new }
+        ensures { bytes_of S.text self.new ≡ take bytes (bytes_of S.text self.old) ++ ending.now }
     {
         let (front, _) = self.as_str().split_at(bytes);
         let mut short = ArrayString::new();
         short.push_str(front);
         short.push_str(ending);
-        let (columns, lines) = short_measures(short.as_str());
-        *self = ShortOr::Short(columns, lines, short);
+        *self = ShortOr::Short(short);
     }
 
     /// Stores a short text inline and drops `text`. Stores any other as it is.
     pub fn kept(text: S) -> ShortOr<S>
-        ensures bytes { bytes_of S.text result ≡ S.text text }
-        ensures measured { IsMeasured S.text result }
+        ensures { bytes_of S.text result ≡ S.text text }
     {
         match ArrayString::from(text.as_str()) {
-            Ok(short) => {
-                let (columns, lines) = short_measures(text.as_str());
-                ShortOr::Short(columns, lines, short)
-            }
-            Err(_) => {
-                let (high, low, lines) = long_measures(text.as_str());
-                ShortOr::Other(high, low, lines, text)
-            }
+            Ok(short) => ShortOr::Short(short),
+            Err(_) => ShortOr::Other(text),
         }
     }
 }
@@ -227,24 +185,11 @@ impl ShortOr<String> {
     /// Truncates the text to `length` bytes. Never allocates.
     pub fn shorten(&mut self, length: usize)
         requires { IsCharBoundary (bytes_of string_bytes self.old) length }
-        ensures bytes { bytes_of string_bytes self.new
-            ≡ take length (bytes_of string_bytes self.old) }
-        ensures measured { IsMeasured string_bytes self.new }
+        ensures { bytes_of string_bytes self.new ≡ take length (bytes_of string_bytes self.old) }
     {
         match self {
-            ShortOr::Short(columns, lines, short) => {
-                short.truncate(length);
-                let (new_columns, new_lines) = short_measures(short.as_str());
-                *columns = new_columns;
-                *lines = new_lines;
-            }
-            ShortOr::Other(high, low, lines, other) => {
-                other.truncate(length);
-                let (new_high, new_low, new_lines) = long_measures(other.as_str());
-                *high = new_high;
-                *low = new_low;
-                *lines = new_lines;
-            }
+            ShortOr::Short(short) => short.truncate(length),
+            ShortOr::Other(other) => other.truncate(length),
         }
     }
 
@@ -252,61 +197,26 @@ impl ShortOr<String> {
     #[inline(always)]
     pub fn copied(alloc: Global, text: &str) -> Result<ShortOr<String>, AllocError>
         ensures ok { IfOk result (λ copy. bytes_of string_bytes copy ≡ text.now) }
-        ensures measured { IfOk result (λ copy. IsMeasured string_bytes copy) }
         ensures long { IfErr result (λ _. SHORT_TEXT < length text.now) }
     {
         match ArrayString::from(text) {
-            Ok(short) => {
-                let (columns, lines) = short_measures(text);
-                Ok(ShortOr::Short(columns, lines, short))
-            }
-            Err(_) => {
-                let (high, low, lines) = long_measures(text);
-                Ok(ShortOr::Other(high, low, lines, String::from_str(alloc, text)?))
-            }
+            Ok(short) => Ok(ShortOr::Short(short)),
+            Err(_) => Ok(ShortOr::Other(String::from_str(alloc, text)?)),
         }
     }
 
     /// Returns a copy. Allocates only if the text has more than 16 bytes, and may then fail with
     /// `Memory`.
     pub fn clone(&self) -> Result<ShortOr<String>, AllocError>
-        requires { IsMeasured string_bytes self.now }
         ensures ok { IfOk result (λ copy.
             bytes_of string_bytes copy ≡ bytes_of string_bytes self.now) }
-        ensures measured { IfOk result (λ copy. IsMeasured string_bytes copy) }
         ensures long { IfErr result (λ _. SHORT_TEXT < length (bytes_of string_bytes self.now)) }
     {
         match self {
-            ShortOr::Short(columns, lines, short) => Ok(ShortOr::Short(*columns, *lines, *short)),
-            ShortOr::Other(_, _, _, other) => ShortOr::copied(*other.allocator(), other.as_str()),
+            ShortOr::Short(short) => Ok(ShortOr::Short(*short)),
+            ShortOr::Other(other) => ShortOr::copied(*other.allocator(), other.as_str()),
         }
     }
-}
-
-/// Returns the columns and lines of a text of at most 16 bytes.
-#[inline(always)]
-fn short_measures(text: &str) -> (u8, u8)
-    requires { length text.now ≤ SHORT_TEXT }
-    ensures columns { result.0 ≡ text_columns text.now }
-    ensures lines { result.1 ≡ length (lines_of text.now) }
-{
-    let (columns, lines) = text_measures(text);
-    (columns as u8, lines as u8)
-}
-
-/// Returns the columns of a text by 65,536 and their rest, and its lines, as `Other` stores them.
-fn long_measures(text: &str) -> (u8, u16, u32)
-    ensures columns { IsAtMost MOST_COLUMNS (text_columns text.now) (result.0 * 65536 + result.1) }
-    ensures lines { IsAtMost u32.MAX (length (lines_of text.now)) result.2 }
-{
-    let (columns, lines) = text_measures(text);
-    let columns = columns.min(MOST_COLUMNS);
-    let lines = lines.min(u32::MAX as usize);
-    (
-        (columns / 65_536) as u8,
-        (columns % 65_536) as u16,
-        lines as u32,
-    )
 }
 
 impl<S: AsStr> fmt::Debug for ShortOr<S> {

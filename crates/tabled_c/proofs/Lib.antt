@@ -1,4 +1,3 @@
-pub mod CellEnds
 pub mod Given
 pub mod Names
 pub mod Styles

@@ -1,5 +1,3 @@
 pub mod ReturnsText
 pub mod Asked
-pub mod Cells
-pub mod Sends
 pub mod Printed

@@ -2,15 +2,15 @@
 ghost use Rattle.std.specs.Prelude.{◌<◌};
 ghost use Rattle.tabled_text.specs.Cut.{NeedsFill};
 ghost use Rattle.tabled_c.specs.ReturnsText.{ReturnsText, IsPut};
-ghost use Rattle.tabled_c.specs.Printed.{IsCellsCause, IsCellsTable, IsCutText, IsMeasured};
-ghost use Rattle.tabled_c.specs.Printed.{IsTextCause, IsTextTable, IsTextTableCause, IsWrappedText};
+ghost use Rattle.tabled_c.specs.Printed.{IsCutText, IsMeasured, IsTable, IsTableCause, IsTextCause};
+ghost use Rattle.tabled_c.specs.Printed.{IsWrappedText};
 
+use crate::arguments::{plan_of, style_named};
 use crate::error_code::ErrorCode;
-use crate::formatting::{cells_table, text_table};
-use crate::layout::Layout;
 use simdutf8::compat::from_utf8;
 use std::alloc::Global;
 use tabled::grid::util::string::{cut_str, text_width, wrap_text};
+use tabled::{TableError, render_styled};
 
 /// Copies a text into a buffer, unless the buffer is too small. Returns the number of bytes needed.
 fn put(text: &str, buffer: &mut [u8]) -> isize
@@ -23,54 +23,48 @@ fn put(text: &str, buffer: &mut [u8]) -> isize
     bytes.len() as isize
 }
 
-/// Formats a table of cells into `buffer`. Returns the number of bytes needed, or an error code
-/// below 0. If `buffer` is too small, nothing is written.
+/// Prints tab-separated rows as a table into `buffer`. Returns the number of bytes needed, or an
+/// error code below 0. If `buffer` is too small, nothing is written.
 ///
-/// The texts of all cells stand one after another in `text`, row by row. `ends` has the byte behind
-/// each cell. `alignments` has a number for each of the first columns: 0 left, 1 right, 2 centered;
-/// other columns are aligned left.
+/// - `style`: `ascii`, `modern`, `extended`, `markdown`, `psql` or `empty`.
+/// - `kind`: 0 prints the table as it is. Wider tables are fitted into `columns`: 1 wraps their
+///   cells, 2 wraps them between words, 3 truncates them.
+/// - `order`: which columns shrink first: 0 each in turn, 1 the narrowest, 2 the widest, 3 from the
+///   left, 4 from the right. Must be valid for kind 0, too.
 #[unsafe(no_mangle)]
-pub extern "C" fn fanlightnard_core_cells(
+pub extern "C" fn fanlightnard_print(
     alloc: Global,
     text: &[u8],
-    ends: &[usize],
-    alignments: &[u8],
-    layout: &Layout,
+    style: &[u8],
+    kind: u32,
+    order: u32,
+    columns: usize,
     buffer: &mut [u8],
 ) -> isize
-    ensures { ReturnsText (IsCellsTable text.now ends.now alignments.now layout.now)
-        (IsCellsCause text.now ends.now alignments.now layout.now)
+    ensures { ReturnsText (IsTable text.now style.now kind order columns)
+        (IsTableCause text.now style.now kind order columns)
         buffer.old result buffer.new }
 {
-    match cells_table(alloc, text, ends, alignments, layout) {
-        Ok(table) => put(table.as_str(), buffer),
-        Err(error) => error.code(),
-    }
-}
-
-/// Formats tab-separated rows as a table into `buffer`. Returns the number of bytes needed, or an
-/// error code below 0. If `buffer` is too small, nothing is written. The counts of the layout
-/// aren't used.
-#[unsafe(no_mangle)]
-pub extern "C" fn fanlightnard_core_text(
-    alloc: Global,
-    text: &[u8],
-    layout: &Layout,
-    buffer: &mut [u8],
-) -> isize
-    ensures { ReturnsText (IsTextTable text.now layout.now)
-        (IsTextTableCause text.now layout.now)
-        buffer.old result buffer.new }
-{
-    match text_table(alloc, text, layout) {
-        Ok(table) => put(table.as_str(), buffer),
-        Err(error) => error.code(),
+    let Some(style) = style_named(style) else {
+        return ErrorCode::NoStyle.code();
+    };
+    let Some(plan) = plan_of(kind, order, columns) else {
+        return ErrorCode::NoPlan.code();
+    };
+    let Ok(text) = from_utf8(text) else {
+        return ErrorCode::NoText.code();
+    };
+    let mut out = String::new(alloc);
+    match render_styled(alloc, text, style, plan, &mut out) {
+        Ok(()) => put(out.as_str(), buffer),
+        Err(TableError::Range) => ErrorCode::Range.code(),
+        Err(_) => ErrorCode::Memory.code(),
     }
 }
 
 /// Returns the width of a text in columns, or an error code below 0. The widest line counts.
 #[unsafe(no_mangle)]
-pub extern "C" fn fanlightnard_core_measure(text: &[u8]) -> isize
+pub extern "C" fn fanlightnard_measure(text: &[u8]) -> isize
     ensures { IsMeasured text.now result }
 {
     let Ok(text) = from_utf8(text) else {
@@ -83,10 +77,10 @@ pub extern "C" fn fanlightnard_core_measure(text: &[u8]) -> isize
     columns as isize
 }
 
-/// Truncates a text to `columns` and writes it to `buffer`. Returns the number of bytes needed, or
-/// an error code below 0. If `buffer` is too small, nothing is written.
+/// Cuts a text to `columns` and writes it to `buffer`. Returns the number of bytes needed, or an
+/// error code below 0. If `buffer` is too small, nothing is written.
 #[unsafe(no_mangle)]
-pub extern "C" fn fanlightnard_core_truncate(
+pub extern "C" fn fanlightnard_cut(
     alloc: Global,
     text: &[u8],
     columns: usize,
@@ -109,7 +103,7 @@ pub extern "C" fn fanlightnard_core_truncate(
 ///
 /// - `words`: wrap between words where possible.
 #[unsafe(no_mangle)]
-pub extern "C" fn fanlightnard_core_wrap(
+pub extern "C" fn fanlightnard_wrap(
     alloc: Global,
     text: &[u8],
     columns: usize,
