@@ -123,6 +123,7 @@ double : HorizontalLine
 double = record { main = Some 0x3d; left = None; intersection = Some 0x20; right = None }
 
 equals : AreRules (Some double)
+unfolding double
 equals = a_rule double (record { main = plain_column-printable 0x3d refl; left = plain_column-space; intersection = plain_column-space; right = plain_column-space })
 
 -- with or without the line below the first row
@@ -198,6 +199,7 @@ psql_apart header =
     bar plain_column-space plain_column-space
 
 re_structured_text_apart : (header : Bool) → KeepsApart (with_style new_config (headed header re_structured_text))
+unfolding double
 re_structured_text_apart header =
     either header re_structured_text equals equals equals no_rule plain_column-space plain_column-space plain_column-space
 

@@ -1,5 +1,5 @@
 -- Styles, plans and alignments by number, and the settings that they make.
-use Rattle.std.specs.Prelude.{◌≡◌, ◌≤◌, ◌*◌, ℕ, suc, Bool, true, false, List, [], ◌∷◌}
+use Rattle.std.specs.Prelude.{◌≡◌, ◌==◌, ◌≤◌, ◌*◌, if◌then◌else◌, ℕ, suc, Bool, true, false, List, [], ◌∷◌}
 use Rattle.tabled_base.specs.declared.position.Entity.TheVariants.{Column}
 use Rattle.tabled_config.specs.Options.{with_style}
 use Rattle.tabled_config.specs.StyleChanges.{without_horizontals}
@@ -92,9 +92,7 @@ Asks (Shortened n o) fit order columns = (fit ≡ 3) × (order ≡ order_number 
 
 -- 0 is left, 1 right and 2 the middle
 abbrev pub alignment_numbered : ℕ → AlignmentHorizontal
-alignment_numbered 0 = Left
-alignment_numbered 1 = Right
-alignment_numbered _ = Center
+alignment_numbered number = if number == 0 then Left else (if number == 1 then Right else Center)
 
 -- settings with the alignments of some columns, the first of them `column`
 abbrev pub with_alignments : ℕ → List ℕ → SpannedConfig → SpannedConfig

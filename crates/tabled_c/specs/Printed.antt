@@ -74,9 +74,9 @@ IsAlignment number = number ≤ 2
 -- the cells are UTF-8, their ends are in order, and the counts go together
 pub record AreCells (text ends alignments : List ℕ) (layout : Layout) : Type 0 where
   pub utf8 : IsUtf8 text
-  pub ends : AreEnds 0 text ends
+  pub in_order : AreEnds 0 text ends
   pub counts : IsCounted layout.rows layout.columns (length ends) (length alignments)
-  pub alignments : All IsAlignment alignments
+  pub aligned : All IsAlignment alignments
 
 -- the cells, row by row
 abbrev pub cells_of : List ℕ → List ℕ → Layout → Cells

@@ -132,8 +132,8 @@ fn align_columns(config: &mut SpannedConfig, alignments: &[u8]) -> Result<(), Ta
     ensures ok { OnOk result (config.new ≡ with_alignments 0 alignments.now config.old) }
     ensures only { IfErr result (λ e. e ≡ Memory) }
 {
-    'columns: for (column, alignment) in alignments.iter().enumerate() {
-        let alignment = alignment_of(*alignment);
+    'columns: for column in 0..alignments.len() {
+        let alignment = alignment_of(alignments[column]);
         config.set_alignment_horizontal(Entity::Column(column), alignment)?;
     }
     Ok(())

@@ -1,8 +1,11 @@
-use Rattle.tabled.proofs.Names.{AreCleared, Buffered, Cut, IsMade, Memory, None, Plan, Range, Row, Sheet, Shortened, Some}
-use Rattle.tabled.proofs.Names.{Wrapped, [], ap, arith, effective, effective_estimated, estimated, false, measured, refl, rules, subst, sym}
-use Rattle.tabled.proofs.Names.{⊎_elim, ◌∙◌, ◌≡◌, ◌⊎◌}
-use Rattle.tabled.proofs.FittedTables.{passes, truncated, wrapped}
-use Rattle.tabled.proofs.RenderedTables.{buffered_made, range_only}
+use Rattle.std.proofs.Common.{ap, subst, sym, ⊎_elim, ◌≡◌}
+use Rattle.tabled.specs.Planned.{measured}
+use Rattle.tabled.specs.Rendered.{IsMade}
+use Rattle.tabled.specs.declared.arguments.Plan.{Plan}
+use Rattle.tabled.specs.declared.arguments.Plan.TheVariants.{Buffered}
+use Rattle.tabled.proofs.Names.{effective, effective_estimated, estimated}
+use Rattle.tabled_size.specs.Sheet.{Sheet}
+use Rattle.tabled.proofs.RenderedTables.{buffered_made}
 use Rattle.tabled_c.proofs.printing.narrow.Goals as goal
 
 pub returns-in-Buffered-clause-made : goal.returns-in-Buffered-clause-made
