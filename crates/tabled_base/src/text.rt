@@ -69,6 +69,7 @@ impl<S: AsStr> CellText for Text<S> {
 impl Text<String> {
     /// Truncates the text to `bytes` bytes and appends an ending. A nonempty ending must leave at
     /// most 16 bytes in all.
+    #[inline(always)]
     pub(crate) fn shorten(&mut self, bytes: usize, ending: &str)
         requires boundary { IsCharBoundary self.old bytes }
         requires fits { FitsBehind bytes ending.now }
@@ -190,6 +191,7 @@ impl<S: AsStr> ShortOr<S> {
 
 impl<S: AsStr + Drop> ShortOr<S> {
     /// Truncates the text to `bytes` bytes and appends an ending. The result is stored inline.
+    #[inline(always)]
     pub fn end_with(&mut self, bytes: usize, ending: &str)
         requires boundary { IsCharBoundary (bytes_of S.text self.old) bytes }
         requires few { bytes + length ending.now ≤ SHORT_TEXT }
@@ -225,6 +227,7 @@ impl<S: AsStr + Drop> ShortOr<S> {
 
 impl ShortOr<String> {
     /// Truncates the text to `length` bytes. Never allocates.
+    #[inline(always)]
     pub fn shorten(&mut self, length: usize)
         requires { IsCharBoundary (bytes_of string_bytes self.old) length }
         ensures bytes { bytes_of string_bytes self.new
@@ -295,6 +298,7 @@ fn short_measures(text: &str) -> (u8, u8)
 }
 
 /// Returns the columns of a text by 65,536 and their rest, and its lines, as `Other` stores them.
+#[inline(never)]
 fn long_measures(text: &str) -> (u8, u16, u32)
     ensures columns { IsAtMost MOST_COLUMNS (text_columns text.now) (result.0 * 65536 + result.1) }
     ensures lines { IsAtMost u32.MAX (length (lines_of text.now)) result.2 }

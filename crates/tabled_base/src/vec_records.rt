@@ -157,6 +157,7 @@ impl RecordsMut for VecRecords<Text<String>> {
         Ok(())
     }
 
+    #[inline(always)]
     fn shorten(&mut self, at: Position, bytes: usize, ending: &str) {
         let row = &mut self.rows[at.row];
         row[at.column].shorten(bytes, ending);
