@@ -16,7 +16,7 @@ PAGES = TOP / "crates/docs_gallery_pages/src"
 GALLERY = TOP / "docs/GALLERY.md"
 
 # What is compared with what is run: the programs with a stored output, and the library below the gallery.
-TOLD = ["README.md", "docs/FROM_TABLED.md", "crates/tabled/src/lib.rt"]
+TOLD = ["README.md", "docs/GUIDE.md", "docs/FROM_TABLED.md", "crates/tabled/src/lib.rt"]
 
 # The modules of which the page has a part, in its order.
 PARTS = [
