@@ -4,7 +4,7 @@
 An item is found by the `pub use` lines from crates/tabled down to the file that declares it. Its signature is what stands there without
 the clauses, and its sentence is the first one of its doc comment. Methods that a type has in impls of its own are listed under it,
 those of a trait under the trait. The script fails where an item or a method has no doc comment. With --check it writes nothing, and
-fails if the page isn't what would be written. With --names it prints the public names, a line each.
+fails if the page isn't what would be written. With --names it prints the public names but those of laws, a line each.
 """
 
 import pathlib
@@ -194,7 +194,8 @@ def page():
 
 def main():
     if "--names" in sys.argv:
-        print("\n".join(sorted({name for _, items in modules().values() for _, name in items})))
+        found = {name for module, (_, items) in modules().items() if module != "tabled::laws" for _, name in items}
+        print("\n".join(sorted(found)))
         return
     made = page()
     if lost:

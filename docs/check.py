@@ -4,6 +4,7 @@
 - docs/gallery.py and docs/api.py would write the pages that stand, and the examples of the pages are run.
 - Each link of a page leads to a file, or to a heading of one. Each file that a page names in backticks exists.
 - No page is longer than its limit, and no line of a page or a source is wider than its limit.
+- Each public name of crates/tabled that the Rust crate lacks is in docs/DIFFERENCES.md.
 - No word of WORDS, which docs/DESIGN.md's glossary replaces, stands in a page or a doc comment.
 """
 
@@ -37,6 +38,14 @@ WORDS = re.compile(
     re.IGNORECASE,
 )
 
+# Public names that the Rust crate has too, and that no page of differences has to name.
+OF_THE_CRATE = """
+ANSIStr AlignmentHorizontal AlignmentVertical Cell Columns CompactConfig CompactMultilineConfig ConstDimension ConstSize
+DimensionPriority DimensionValue Entity ExactRecords Formatting Height HeightList Indent IntoRecords LayoutIterator LimitColumns
+LimitRows Margin Max Measurement Min MinWidth Padding Percent PoolTableDimension Position Priority PriorityLeft PriorityMax
+PriorityNone Records Rows Sides SkipRows StaticDimension SuffixLimit TableOption WidthList ZeroDimension
+""".split()
+
 found = []
 
 
@@ -64,6 +73,17 @@ def prose(path):
 def anchors(path):
     """The anchors of a page's headings."""
     return {re.sub(r"[^\w\- ]", "", line.lstrip("# ").lower()).replace(" ", "-") for _, line in prose(path) if line.startswith("#")}
+
+
+def check_names():
+    """Each public name outside of `laws` is one of the crate's, or a page of differences names it."""
+    words = [sys.executable, TOP / "docs/api.py", "--names"]
+    names = subprocess.run(words, capture_output=True, text=True, check=True).stdout.split()
+    page = TOP / "docs/DIFFERENCES.md"
+    told = set(re.findall(r"\w+", page.read_text()))
+    for name in names:
+        if name not in told and name not in OF_THE_CRATE:
+            tell(page, 1, f"the public name {name} isn't in it")
 
 
 def check_links(path):
@@ -115,6 +135,7 @@ def main():
         ran = subprocess.run([sys.executable, TOP / "docs" / script, "--check"], capture_output=True, text=True)
         if ran.returncode:
             found.append((ran.stdout + ran.stderr).strip())
+    check_names()
     pages = tracked("*.md")
     for path in pages:
         check_links(path)
