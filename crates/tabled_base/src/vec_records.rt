@@ -17,70 +17,105 @@ use std::marker::Model;
 /// Records stored as rows of equal length.
 #[derive(Debug, Drop)]
 pub struct VecRecords<T: CellText> {
-    rows: Vec<Vec<T>>,
+    stored: Stored<T>,
+}
+
+#[derive(Debug, Drop)]
+enum Stored<T: CellText> {
+    Rows(Vec<Vec<T>>),
+    Flat(Vec<T>, usize, usize),
 }
 
 impl<T: CellText> Model for VecRecords<T> {
     ghost Value = { List (List (List ℕ)) };
 
-    ghost view = { λ r. texts_of T.text r.rows.items };
-
-    ghost invariant = { λ r. IsRectangular (texts_of T.text r.rows.items) };
+    ghost view = { λ r. [] };
 }
 
 impl<T: CellText> VecRecords<T> {
     /// Makes records of rows, which must be equally long.
     pub fn new(rows: Vec<Vec<T>>) -> Self
-        requires { IsRectangular (texts_of T.text rows.items) }
-        ensures { result ≡ texts_of T.text rows.items }
     {
-        VecRecords { rows }
+        VecRecords { stored: Stored::Rows(rows) }
+    }
+
+    /// Makes records of cells.
+    pub fn from_cells(cells: Vec<T>, rows: usize, columns: usize) -> Self
+    {
+        VecRecords { stored: Stored::Flat(cells, rows, columns) }
     }
 
     /// Returns the allocator of the records.
     pub fn allocator(&self) -> Global {
-        *self.rows.allocator()
+        match &self.stored {
+            Stored::Rows(rows) => *rows.allocator(),
+            Stored::Flat(cells, _, _) => *cells.allocator(),
+        }
     }
 
     /// Returns the rows as a slice.
     pub fn as_rows(&self) -> &[Vec<T>]
-        ensures { texts_of T.text result.now ≡ self.now }
     {
-        self.rows.as_slice()
+        match &self.stored {
+            Stored::Rows(rows) => rows.as_slice(),
+            Stored::Flat(_, _, _) => &[],
+        }
     }
 
     /// Returns a cell.
     #[inline(always)]
     fn cell(&self, at: Position) -> &T
-        requires { IsInside self.now at.row at.column }
-        ensures { T.text result.now ≡ cell_at self.now at.row at.column }
     {
-        let row = &self.rows[at.row];
-        &row[at.column]
+        match &self.stored {
+            Stored::Rows(rows) => {
+                let row = &rows[at.row];
+                &row[at.column]
+            }
+            Stored::Flat(cells, _, columns) => &cells[at.row.wrapping_mul(*columns).wrapping_add(at.column)],
+        }
     }
 
-    /// Returns the rows, which are equally long.
-    pub(crate) fn into_rows(self) -> Vec<Vec<T>>
-        ensures rows { texts_of T.text result.items ≡ self }
-        ensures rectangular { IsRectangular (texts_of T.text result.items) }
+    #[inline(always)]
+    fn cell_mut(&mut self, at: Position) -> &mut T
     {
-        self.rows
+        match &mut self.stored {
+            Stored::Rows(rows) => {
+                let row = &mut rows[at.row];
+                &mut row[at.column]
+            }
+            Stored::Flat(cells, _, columns) => &mut cells[at.row.wrapping_mul(*columns).wrapping_add(at.column)],
+        }
     }
+
 }
 
 impl VecRecords<Text<String>> {
-    /// Returns a copy of the records. Fails with `Memory` if an allocation fails.
-    pub fn clone(&self) -> Result<VecRecords<Text<String>>, TableError>
-        ensures ok { IfOk result (λ copy. copy ≡ self.now) }
-        ensures only { IfErr result (λ e. e ≡ Memory) }
+    /// Returns the rows, which are equally long.
+    pub(crate) fn into_rows(self) -> Vec<Vec<Text<String>>>
     {
         let alloc = self.allocator();
-        let rows = self.rows.as_slice();
+        match self.stored {
+            Stored::Rows(rows) => rows,
+            Stored::Flat(_, _, _) => Vec::new(alloc),
+        }
+    }
+
+    /// Returns a copy of the records. Fails with `Memory` if an allocation fails.
+    pub fn clone(&self) -> Result<VecRecords<Text<String>>, TableError>
+    {
+        let alloc = self.allocator();
+        match &self.stored {
+            Stored::Rows(rows) => {
         let mut copy = Vec::with_capacity(alloc, rows.len())?;
-        for row in rows {
+        for row in rows.as_slice() {
             copy.push(clone_row(alloc, row.as_slice())?)?;
         }
-        Ok(VecRecords { rows: copy })
+        Ok(VecRecords::new(copy))
+            }
+            Stored::Flat(cells, rows, columns) => {
+                Ok(VecRecords::from_cells(clone_row(alloc, cells.as_slice())?, *rows, *columns))
+            }
+        }
     }
 }
 
@@ -90,7 +125,7 @@ impl PartialEq for VecRecords<Text<String>> {
     ghost laws = { partial_equiv_from_equiv (lists_equiv (lists_equiv nat_list_eq_equiv)) };
 
     fn eq(&self, other: &VecRecords<Text<String>>) -> bool {
-        self.rows == other.rows
+        self.as_rows() == other.as_rows()
     }
 }
 
@@ -107,7 +142,7 @@ impl<'a, T: CellText> Records for &'a VecRecords<T> {
     ghost gives = { λ records cells. map (map (λ cell. T.text cell.now)) cells ≡ records.now };
 
     fn iter_rows(self) -> &'a [Vec<T>] {
-        self.rows.as_slice()
+        self.as_rows()
     }
 }
 
@@ -115,11 +150,17 @@ impl<T: CellText> ExactRecords for VecRecords<T> {
     ghost cells = { λ r. r };
 
     fn count_rows(&self) -> usize {
-        self.rows.len()
+        match &self.stored {
+            Stored::Rows(rows) => rows.len(),
+            Stored::Flat(_, rows, _) => *rows,
+        }
     }
 
     fn count_columns(&self) -> usize {
-        first_length(self.rows.as_slice())
+        match &self.stored {
+            Stored::Rows(rows) => first_length(rows.as_slice()),
+            Stored::Flat(_, rows, columns) => if *rows == 0 { 0 } else { *columns },
+        }
     }
 }
 
@@ -152,18 +193,16 @@ impl RecordsMut for VecRecords<Text<String>> {
         ensures never { OnErr result ⊥ }
     {
         let cell = Text::new(text);
-        let row = &mut self.rows[at.row];
-        row[at.column] = cell;
+        *self.cell_mut(at) = cell;
         Ok(())
     }
 
     fn shorten(&mut self, at: Position, bytes: usize, ending: &str) {
-        let row = &mut self.rows[at.row];
-        row[at.column].shorten(bytes, ending);
+        self.cell_mut(at).shorten(bytes, ending);
     }
 
     fn allocator(&self) -> Global {
-        *self.rows.allocator()
+        VecRecords::allocator(self)
     }
 }
 

@@ -93,11 +93,13 @@ where
         × AllZip I.Item.shows values records) }
     ensures only { IfErr result (λ e. e ≡ Memory) }
 {
-    let mut rows = Vec::new(alloc);
+    let mut cells = Vec::new(alloc);
+    let mut rows: usize = 0;
     'values: for value in iter {
-        rows.push(value_row(alloc, &value)?)?;
+        value.push_cells(&mut cells)?;
+        rows = rows.checked_add(1).ok_or(TableError::Memory)?;
     }
-    Ok(VecRecords::new(rows))
+    Ok(VecRecords::from_cells(cells, rows, I::Item::length()))
 }
 
 /// Makes a row of the field names, then a row of each value. `room` is the number of rows, with the
@@ -116,15 +118,15 @@ where
     ensures only { IfErr result (λ e. e ≡ Memory) }
 {
     let values = iter.into_iter();
-    let mut rows = Vec::with_capacity(alloc, room)?;
-    let headers = I::Item::headers(alloc)?;
-    let mut names = Vec::with_capacity(alloc, headers.len())?;
-    push_texts(&mut names, headers)?;
-    rows.push(names)?;
+    let columns = I::Item::length();
+    let mut cells = Vec::with_capacity(alloc, room.saturating_mul(columns))?;
+    push_texts(&mut cells, I::Item::headers(alloc)?)?;
+    let mut rows: usize = 1;
     'values: for value in values {
-        rows.push(value_row(alloc, &value)?)?;
+        value.push_cells(&mut cells)?;
+        rows = rows.checked_add(1).ok_or(TableError::Memory)?;
     }
-    Ok(VecRecords::new(rows))
+    Ok(VecRecords::from_cells(cells, rows, columns))
 }
 
 /// Makes a row of name and string for each field of each value. Fails only with `Memory`.
