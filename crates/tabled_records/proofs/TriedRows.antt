@@ -5,6 +5,12 @@ use Rattle.std.specs.List.{AllZip}
 use Rattle.tabled_records.specs.RowsBeforeError.{AreBeforeError, GivesNone, RowsBeforeError, ended_by, try_steps}
 use Rattle.tabled_records.specs.declared.try_rows.TryRows.{TryRows}
 
+no-cells : {W A : Type 0} (P : W → List A → Type 0) (lists : List W) (cells : List (List A)) → lists ≡ []
+    → AllZip P lists cells → cells ≡ []
+no-cells P [] [] e h = refl
+no-cells P [] (row ∷ cells) e h = absurd h
+no-cells P (list ∷ lists) cells e h = absurd (cc)
+
 module _ {S W E : Type 0} (steps : S → Option (Result W E) → S → Type 0) where
   -- no error came where rows do
   still-none : (lists : List W) (from to : TryRows S E) → from.error ≡ None → Yields (try_steps steps) from lists to → to.error ≡ None
@@ -23,7 +29,8 @@ module _ {S W E : Type 0} (steps : S → Option (Result W E) → S → Type 0) w
   -- an error that is kept stays
   same-error : (reached last : TryRows S E) (e : E) (whole : Bool) → reached.error ≡ Some e → (whole ≡ true → GivesNone steps reached last)
       → (whole ≡ false → reached ≡ last) → last.error ≡ Some e
-  same-error reached last e true k ended further = ap (λ s. s.error) (rw k at ended refl) ∙ k
+  same-error reached last e true k ended further =
+      let given = ended refl in ap (λ (s : TryRows S E). s.error) (rw k at given)
   same-error reached last e false k ended further = sym (ap (λ s. s.error) (further refl)) ∙ k
 
   how-ended : (reached last : TryRows S E) (whole : Bool) (o : Option E) → last.error ≡ o → reached.error ≡ None
@@ -35,11 +42,6 @@ module _ {S W E : Type 0} (steps : S → Option (Result W E) → S → Type 0) w
   how-ended reached last false (Some e) k n ended further = let same = ap (λ s. s.error) (further refl) in absurd (cc)
 
   module _ {T A : Type 0} {becomes : W → T → Type 0} {cell_steps : T → Option A → T → Type 0} where
-    no-cells : (lists : List W) (cells : List (List A)) → lists ≡ [] → AllZip (Given becomes cell_steps) lists cells → cells ≡ []
-    no-cells [] [] e h = refl
-    no-cells [] (row ∷ cells) e h = absurd h
-    no-cells (list ∷ lists) cells e h = absurd (cc)
-
     before-error-by : (from last : TryRows S E) (cells : List (List A)) (whole : Bool) (o : Option E) → from.error ≡ o
         → ReadsTo (try_steps steps) becomes cell_steps from cells whole last
         → MatchOption o (RowsBeforeError steps becomes cell_steps from.rows (ended_by last.error) cells whole)
@@ -54,7 +56,7 @@ module _ {S W E : Type 0} (steps : S → Option (Result W E) → S → Type 0) w
     before-error-by from last cells whole (Some e) k r =
         let none = no-rows r.reads.lists from r.reached e k r.reads.yielded in
         let kept = sym (ap (λ s. s.error) none.1) ∙ k in (
-          no-cells r.reads.lists cells none.0 r.reads.each,
+          no-cells (Given becomes cell_steps) r.reads.lists cells none.0 r.reads.each,
           ap ended_by (same-error r.reached last e whole kept r.ended r.further),
         )
 

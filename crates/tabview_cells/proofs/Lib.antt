@@ -1,1 +1,3 @@
 pub mod Escapes
+pub mod Widest
+pub mod Choosing

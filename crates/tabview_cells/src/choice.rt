@@ -1,7 +1,7 @@
 //! The cells that are shown of a row.
 ghost use Rattle.csv.specs.Records.{fields_of};
-ghost use Rattle.std.specs.Prelude.{◌≡◌, ◌++◌, OnOk, map};
-ghost use Rattle.tabview_cells.specs.Choice.{cell_of, shown_cell};
+ghost use Rattle.std.specs.Prelude.{◌≡◌, ◌++◌, [], ◌∷◌, OnOk, map};
+ghost use Rattle.tabview_cells.specs.Choice.{shown_cell, shown_text};
 
 use crate::escaping::escape;
 use csv::StringRecord;

@@ -1,9 +1,6 @@
 //! What the cells of a column are, and whether the column keeps its width.
-ghost use Rattle.std.specs.List.{fold, list_all, list_any, zip};
-ghost use Rattle.std.specs.Prelude.{◌≡◌, ◌==◌, ◌&&◌, length};
-ghost use Rattle.tabview_cells.specs.Kinds.{ends_number, fits_byte, fits_shape, is_number};
-ghost use Rattle.tabview_cells.specs.Kinds.{joined, keeps_width, number_step};
-ghost use Rattle.tabview_cells.specs.declared.kinds.Number.TheVariants.{Start};
+ghost use Rattle.std.specs.Prelude.{◌≡◌};
+ghost use Rattle.tabview_cells.specs.Kinds.{fits_byte, joined, keeps_width};
 
 use tabled_text::text_width;
 
@@ -100,9 +97,7 @@ enum Number {
 
 impl Number {
     /// Returns what was read with one more byte.
-    fn step(self, byte: u8) -> Number
-        ensures { result ≡ number_step self byte }
-    {
+    fn step(self, byte: u8) -> Number {
         match byte {
             b'0'..=b'9' => self.with_digit(),
             b'+' | b'-' => self.with_sign(),
@@ -140,9 +135,7 @@ impl Number {
     }
 }
 
-fn is_number(cell: &[u8]) -> bool
-    ensures { result ≡ is_number cell.now }
-{
+fn is_number(cell: &[u8]) -> bool {
     cell.iter().fold(Number::Start, |read, byte| read.step(*byte)).ends()
 }
 

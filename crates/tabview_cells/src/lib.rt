@@ -13,5 +13,5 @@ mod kinds;
 
 pub use choice::{Shown, push_chosen};
 pub use escaping::{escape, escape_into, is_control};
-pub use fit::{fitted_widths, longest_word};
+pub use fit::{AboveFloors, longest_word};
 pub use kinds::Kind;

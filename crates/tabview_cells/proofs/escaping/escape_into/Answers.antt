@@ -14,5 +14,5 @@ loop-c-preserved c =
 
 pub returns : goal.returns
 returns c = record {
-  ok = sym (append-nil _) ∙ rw (escaped-empty c.args.lines _ c.in-None.ensures.steps.0) at c.loop-c.invariant.1;
+  ok = sym (append-nil _) ∙ rw (escaped-empty c.args.lines _ c.in-None.ensures.steps.0.0) at c.loop-c.invariant.1;
 }

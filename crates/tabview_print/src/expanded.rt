@@ -1,0 +1,46 @@
+//! Records one below the other.
+
+ghost use Rattle.std.specs.Prelude.{◌<◌, length};
+use std::alloc::Global;
+use tabled::grid::records::{ExactRecords, JoinedRecords, PeekableRecords};
+use tabled::grid::config::Position;
+use tabled::tables::{ExtendedTable, FnTemplate};
+use tabled::{TableError, TextSink};
+
+/// Prints records one below the other, a line for each cell behind the name of its column. They are
+/// numbered from 1. A cell that is too wide for the width is cut, and ends in `…`. A width that is
+/// too small for a record's head cuts nothing.
+pub fn print_expanded<S: TextSink>(
+    alloc: Global,
+    records: &JoinedRecords,
+    width: Option<usize>,
+    sink: &mut S,
+) -> Result<(), TableError> {
+    let mut table = ExtendedTable::from_rows(alloc, rows_of(alloc, records)?)?;
+    if let Some(width) = width {
+        let _fits = table.truncate(width, "…")?;
+    }
+    let table = table.template(FnTemplate::new(|index: usize| {
+        let number = index.saturating_add(1);
+        format!(in alloc; "[ RECORD {number} ]")
+    }));
+    table.write_to(sink)
+}
+
+fn rows_of(alloc: Global, records: &JoinedRecords) -> Result<Vec<Vec<&str>>, TableError> {
+    let mut rows = Vec::with_capacity(alloc, records.count_rows())?;
+    for row in 0..records.count_rows() {
+        rows.push(row_of(alloc, records, row)?)?;
+    }
+    Ok(rows)
+}
+
+fn row_of(alloc: Global, records: &JoinedRecords, row: usize) -> Result<Vec<&str>, TableError>
+    requires { row < length records.now }
+{
+    let mut cells = Vec::with_capacity(alloc, records.count_columns())?;
+    for column in 0..records.count_columns() {
+        cells.push(records.get_text(Position { row, column }))?;
+    }
+    Ok(cells)
+}
