@@ -38,10 +38,10 @@ signed : (lines : Bool) (c : ℕ) → is_escaped lines c ≡ true → (c ≤ 0x1
 signed lines c e = ⊎_elim
     (λ feed. let ten = eqb-true c 10 feed in inl (omega arith))
     (λ other. ⊎_elim
-        (λ s. let b = inside 0x2400 0x2426 c s in let l = b.0 in let h = b.1 in inr (omega arith, omega arith))
-        (λ k. ⊎_elim (λ a. inl (inside 0 0x1F c a).1) (λ b. let p = inside 0x7F 0x9F c b in let l = p.0 in let h = p.1 in inr (l, omega arith))
-            (or_cases (is_in_range 0 0x1F c) (is_in_range 0x7F 0x9F c) k))
-        (or_cases (is_sign c) (is_control c) (sym (cond-false (c == 10) (not lines) (is_sign c || is_control c) other) ∙ e)))
+    (λ s. let b = inside 0x2400 0x2426 c s in let l = b.0 in let h = b.1 in inr (omega arith, omega arith))
+    (λ k. ⊎_elim (λ a. inl (inside 0 0x1F c a).1) (λ b. let p = inside 0x7F 0x9F c b in let l = p.0 in let h = p.1 in inr (l, omega arith))
+    (or_cases (is_in_range 0 0x1F c) (is_in_range 0x7F 0x9F c) k))
+    (or_cases (is_sign c) (is_control c) (sym (cond-false (c == 10) (not lines) (is_sign c || is_control c) other) ∙ e)))
     (cases_Bool (c == 10))
 
 -- a character that isn't the mark is read by itself
@@ -89,11 +89,11 @@ read_sign lines c rest e =
     cond_both (nat_lt c 0x20) ((0x2400 + c) ∷ []) (cond (c == 0x7F) (0x2421 ∷ []) (cond (is_in_range 0x80 0x9F c) letters marked)) P
     (λ small. read_picture c rest (ltb-true c 0x20 small))
     (λ large. let big = ltb-false c 0x20 large in
-      cond_both (c == 0x7F) (0x2421 ∷ []) (cond (is_in_range 0x80 0x9F c) letters marked) P
-      (λ del. let is = eqb-true c 0x7F del in ap (λ y. y ∷ unescape_after false rest) (sym is))
-      (λ not_del. cond_both (is_in_range 0x80 0x9F c) letters marked P
-        (λ high. let p = inside 0x80 0x9F c high in read_letter c rest p.0 p.1)
-        (λ other. read_marked c rest (⊎_elim (λ low. absurd (omega arith)) (λ p. let l = p.0 in omega arith) own))))
+    cond_both (c == 0x7F) (0x2421 ∷ []) (cond (is_in_range 0x80 0x9F c) letters marked) P
+    (λ del. let is = eqb-true c 0x7F del in ap (λ y. y ∷ unescape_after false rest) (sym is))
+    (λ not_del. cond_both (is_in_range 0x80 0x9F c) letters marked P
+    (λ high. let p = inside 0x80 0x9F c high in read_letter c rest p.0 p.1)
+    (λ other. read_marked c rest (⊎_elim (λ low. absurd (omega arith)) (λ p. let l = p.0 in omega arith) own))))
 
 read_char : (lines : Bool) (c : ℕ) (rest : List ℕ) → unescape_after false (escape_char lines c ++ rest) ≡ c ∷ unescape_after false rest
 read_char lines c rest =
@@ -132,13 +132,13 @@ module _ (p : ℕ → Bool) (lines : Bool) (c : ℕ)
   sign_part e big ne other = ⊎_elim
       (λ feed. let ten = eqb-true c 10 feed in absurd (omega arith))
       (λ no. ⊎_elim
-          (λ s. let b = inside 0x2400 0x2426 c s in low c b.0 b.1)
-          (λ k. ⊎_elim
-              (λ a. let q = inside 0 0x1F c a in let h = q.1 in absurd (omega arith))
-              (λ a. let q = inside 0x7F 0x9F c a in let l = q.0 in let h = q.1 in
-                ⊎_elim (λ less. absurd (ne (omega arith))) (λ more. absurd (omega arith)) (outside 0x80 0x9F c other))
-              (or_cases (is_in_range 0 0x1F c) (is_in_range 0x7F 0x9F c) k))
-          (or_cases (is_sign c) (is_control c) (sym (cond-false (c == 10) (not lines) (is_sign c || is_control c) no) ∙ e)))
+      (λ s. let b = inside 0x2400 0x2426 c s in low c b.0 b.1)
+      (λ k. ⊎_elim
+      (λ a. let q = inside 0 0x1F c a in let h = q.1 in absurd (omega arith))
+      (λ a. let q = inside 0x7F 0x9F c a in let l = q.0 in let h = q.1 in
+      ⊎_elim (λ less. absurd (ne (omega arith))) (λ more. absurd (omega arith)) (outside 0x80 0x9F c other))
+      (or_cases (is_in_range 0 0x1F c) (is_in_range 0x7F 0x9F c) k))
+      (or_cases (is_sign c) (is_control c) (sym (cond-false (c == 10) (not lines) (is_sign c || is_control c) no) ∙ e)))
       (cases_Bool (c == 10))
 
   sign_has : is_escaped lines c ≡ true → list_all p (sign_of c) ≡ true
@@ -150,11 +150,11 @@ module _ (p : ℕ → Bool) (lines : Bool) (c : ℕ)
       cond_both (nat_lt c 0x20) ((0x2400 + c) ∷ []) (cond (c == 0x7F) (0x2421 ∷ []) (cond (is_in_range 0x80 0x9F c) letter marked)) P
       (λ small. let s = ltb-true c 0x20 small in one p (0x2400 + c) (low (0x2400 + c) (omega arith) (omega arith)))
       (λ large. let big = ltb-false c 0x20 large in
-        cond_both (c == 0x7F) (0x2421 ∷ []) (cond (is_in_range 0x80 0x9F c) letter marked) P
-        (λ del. one p 0x2421 (low 0x2421 (lit≤ tt) (lit≤ tt)))
-        (λ not_del. let ne = eqb-false c 0x7F not_del in cond_both (is_in_range 0x80 0x9F c) letter marked P
-          (λ high. let q = inside 0x80 0x9F c high in let l = q.0 in let h = q.1 in two p 0x2426 (c - 0x40) mark (letters (c - 0x40) (omega arith) (omega arith)))
-          (λ other. two p 0x2426 c mark (sign_part e big ne other))))
+      cond_both (c == 0x7F) (0x2421 ∷ []) (cond (is_in_range 0x80 0x9F c) letter marked) P
+      (λ del. one p 0x2421 (low 0x2421 (lit≤ tt) (lit≤ tt)))
+      (λ not_del. let ne = eqb-false c 0x7F not_del in cond_both (is_in_range 0x80 0x9F c) letter marked P
+      (λ high. let q = inside 0x80 0x9F c high in let l = q.0 in let h = q.1 in two p 0x2426 (c - 0x40) mark (letters (c - 0x40) (omega arith) (omega arith)))
+      (λ other. two p 0x2426 c mark (sign_part e big ne other))))
 
   pub char_has : list_all p (escape_char lines c) ≡ true
   char_has = cond_both (is_escaped lines c) (sign_of c) (c ∷ []) (λ xs. list_all p xs ≡ true) sign_has (λ e. one p c (left e))
@@ -184,7 +184,7 @@ shown-from lines x e = or_right (lines && (x == 10)) (not (is_control x)) (not_f
 shown-left : (lines : Bool) (c : ℕ) → is_escaped lines c ≡ false → is_shown lines c ≡ true
 shown-left lines c e = ⊎_elim
     (λ feed. or_left (lines && (c == 10)) (not (is_control c))
-        (and_from lines (c == 10) (not-false lines (sym (cond-true (c == 10) (not lines) (is_sign c || is_control c) feed) ∙ e)) feed))
+    (and_from lines (c == 10) (not-false lines (sym (cond-true (c == 10) (not lines) (is_sign c || is_control c) feed) ∙ e)) feed))
     (λ other. shown-from lines c (or_parts (is_sign c) (is_control c) (sym (cond-false (c == 10) (not lines) (is_sign c || is_control c) other) ∙ e)).1)
     (cases_Bool (c == 10))
 

@@ -136,7 +136,9 @@ impl Number {
 }
 
 fn is_number(cell: &[u8]) -> bool {
-    cell.iter().fold(Number::Start, |read, byte| read.step(*byte)).ends()
+    cell.iter()
+        .fold(Number::Start, |read, byte| read.step(*byte))
+        .ends()
 }
 
 /// Whether a byte fits one of a shape: a digit for `0`, else the same byte.
@@ -155,7 +157,9 @@ fn fits_shape(cell: &[u8], shape: &[u8]) -> bool {
 }
 
 fn is_date(cell: &[u8]) -> bool {
-    SHAPES.iter().any(|shape| fits_shape(cell, shape.as_bytes()))
+    SHAPES
+        .iter()
+        .any(|shape| fits_shape(cell, shape.as_bytes()))
 }
 
 fn is_code(cell: &str) -> bool {

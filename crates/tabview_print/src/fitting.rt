@@ -1,18 +1,24 @@
 //! A table that is fitted to a width.
-ghost use Rattle.std.specs.Prelude.{◌<◌, length};
+ghost use Rattle.std.specs.Prelude.{◌≡◌, ◌<◌, IfOk, None, OnOk, length, true, unwrap_or};
+ghost use Rattle.tabled_grid.specs.Printed.{Prints};
+ghost use Rattle.tabled_size.specs.Effective.{effective};
+ghost use Rattle.tabled_size.specs.Sheet.{Sheet};
+ghost use Rattle.tabled_size.specs.Stored.{widths_of};
+ghost use Rattle.tabled_size.specs.Totals.{total_width};
+ghost use Rattle.tabview_print.specs.Fitted.{IsFitted};
 
 use crate::floors::content_floors;
 use crate::layout::{Layout, Narrowing, settings};
-use std::alloc::Global;
+use std::alloc::{AllocError, Global};
 use tabled::builder::Builder;
 use tabled::grid::config::{ColoredConfig, Position, SpannedConfig};
-use tabled::grid::dimension::{CompleteDimension, Estimate};
+use tabled::grid::dimension::{CompleteDimension};
 use tabled::grid::print_standing;
 use tabled::grid::records::{ExactRecords, JoinedRecords, PeekableRecords, Text, VecRecords};
 use tabled::settings::width::{Truncate, Wrap};
 use tabled::settings::TableOption;
 use tabled::{TableError, TextSink};
-use tabled_size::total_width;
+use tabled_size::{estimate_widths, total_width};
 use tabview_cells::AboveFloors;
 
 /// The mark of a text that is cut.
@@ -29,58 +35,107 @@ pub fn print_table<S: TextSink>(
 ) -> Result<bool, TableError> {
     let mut sizes = CompleteDimension::new(alloc);
     let floors = content_floors(alloc, records, &layout)?;
-    let Layout { style, width, narrowing, columns, .. } = layout;
-    let mut config = settings(alloc, style, &columns)?;
-    sizes.estimate(records, config.as_ref())?;
+    let config = settings(alloc, layout.style, &layout.columns)?;
     let total = total_width(records, config.as_ref(), &sizes)?;
-    let Some(width) = width else {
+    let Some(width) = layout.width.filter(|width| *width < total) else {
         print_standing(sink, records, config.as_ref(), &sizes)?;
         return Ok(true);
     };
-    if total <= width {
-        print_standing(sink, records, config.as_ref(), &sizes)?;
-        return Ok(true);
-    }
-    let (floors, spare) = padded(alloc, &floors, config.as_ref(), &sizes)?;
-    if total.saturating_sub(spare) > width {
+    let floors = padded(alloc, &floors, config.as_ref())?;
+    if least_total(alloc, records, config.as_ref(), &floors, total)? > width {
         return Ok(false);
     }
-    let priority = AboveFloors { floors: &floors };
-    match narrowing {
-        Narrowing::Wrap => {
-            let option = Wrap::new(width).drop_spaces().priority(priority);
-            let wrapped = option.narrowed(records, config.as_ref(), &mut sizes)?;
-            let cells = wrapped.as_ref().unwrap_or(records);
-            print_standing(sink, cells, config.as_ref(), &sizes)?;
-        }
-        Narrowing::Cut => {
-            let option = Truncate::new(width).suffix(MARK).multiline(false).priority(priority);
-            let mut cells = copied(alloc, records)?;
-            TableOption::change(option, &mut cells, &mut config, &mut sizes)?;
-            print_standing(sink, &cells, config.as_ref(), &sizes)?;
-        }
+    match layout.narrowing {
+        Narrowing::Wrap => print_wrapped(records, config.as_ref(), &floors, width, &mut sizes, sink)?,
+        Narrowing::Cut => print_cut(alloc, records, config, &floors, width, sink)?,
     }
     Ok(true)
 }
 
-/// Returns the floors with the padding of each column, and what the columns can give together.
+/// Wraps the cells of a table that is wider than `width`, so that it fits above the floors of its
+/// columns. Returns the cells, and stores the widths.
+fn wrapped(
+    records: &JoinedRecords,
+    config: &SpannedConfig,
+    floors: &[usize],
+    width: usize,
+    sizes: &mut CompleteDimension,
+) -> Result<Option<JoinedRecords>, TableError>
+    requires { widths_of sizes.old ≡ None }
+    ensures { let t = effective records.now config.now sizes.old in
+        IfOk result (λ cells. width < total_width t → IsFitted floors.now width t
+        (effective (unwrap_or cells records.now) config.now sizes.new)) }
+{
+    let priority = AboveFloors { floors };
+    let option = Wrap::new(width).drop_spaces().priority(priority);
+    option.narrowed(records, config, sizes)
+}
+
+/// Prints a table that is wider than `width`, with its cells wrapped.
+fn print_wrapped<S: TextSink>(
+    records: &JoinedRecords,
+    config: &SpannedConfig,
+    floors: &[usize],
+    width: usize,
+    sizes: &mut CompleteDimension,
+    sink: &mut S,
+) -> Result<(), TableError>
+    requires { widths_of sizes.old ≡ None }
+    ensures { let t = effective records.now config.now sizes.old in
+        OnOk result (width < total_width t → (fitted : Sheet) × IsFitted floors.now width t fitted
+        × Prints true fitted (S.sent sink.old) result (S.sent sink.new)) }
+{
+    let cells = wrapped(records, config, floors, width, sizes)?;
+    print_standing(sink, cells.as_ref().unwrap_or(records), config, sizes)
+}
+
+/// Prints a table that is wider than `width`, with its cells cut.
+fn print_cut<S: TextSink>(
+    alloc: Global,
+    records: &JoinedRecords,
+    mut config: ColoredConfig,
+    floors: &[usize],
+    width: usize,
+    sink: &mut S,
+) -> Result<(), TableError> {
+    let mut sizes = CompleteDimension::new(alloc);
+    let option = Truncate::new(width)
+        .suffix(MARK)
+        .priority(AboveFloors { floors });
+    let mut cells = copied(alloc, records)?;
+    TableOption::change(option, &mut cells, &mut config, &mut sizes)?;
+    print_standing(sink, &cells, config.as_ref(), &sizes)
+}
+
+/// Returns the floors with the padding of their columns.
 fn padded(
     alloc: Global,
     floors: &[usize],
     config: &SpannedConfig,
-    sizes: &CompleteDimension,
-) -> Result<(Vec<usize>, usize), TableError> {
-    let widths = sizes.get_widths().unwrap_or(&[]);
+) -> Result<Vec<usize>, AllocError> {
     let mut list = Vec::new(alloc);
-    let mut spare: usize = 0;
     for (column, floor) in floors.iter().enumerate() {
         let padding = config.get_padding(Position { row: 0, column });
-        let floor = floor.saturating_add(padding.left.size).saturating_add(padding.right.size);
-        let width = widths.get(column).copied().unwrap_or(0);
-        spare = spare.saturating_add(width.saturating_sub(floor));
-        list.push(floor)?;
+        let sides = padding.left.size.saturating_add(padding.right.size);
+        list.push(floor.saturating_add(sides))?;
     }
-    Ok((list, spare))
+    Ok(list)
+}
+
+/// Returns the total width of a table whose columns have given what they can.
+fn least_total(
+    alloc: Global,
+    records: &JoinedRecords,
+    config: &SpannedConfig,
+    floors: &[usize],
+    total: usize,
+) -> Result<usize, TableError> {
+    let mut spare: usize = 0;
+    let widths = estimate_widths(alloc, records, config)?;
+    for (floor, width) in floors.iter().zip(widths.iter()) {
+        spare = spare.saturating_add(width.saturating_sub(*floor));
+    }
+    Ok(total.saturating_sub(spare))
 }
 
 /// Copies records into ones whose cells can be changed.

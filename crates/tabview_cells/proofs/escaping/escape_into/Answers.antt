@@ -1,4 +1,4 @@
-use Rattle.std.proofs.Common.{◌∙◌, ◌++◌, ap, append-nil, append_assoc, rules, string_bytes, sym}
+use Rattle.std.proofs.Common.{◌∙◌, append-nil, append_assoc, sym}
 use Rattle.std.proofs.lemmas.Str.{IsUtf8-past_char}
 use Rattle.tabview_cells.proofs.Escapes.{escaped-empty, escaped-step}
 use Rattle.tabview_cells.proofs.escaping.escape_into.Goals as goal
