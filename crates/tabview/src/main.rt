@@ -32,11 +32,11 @@ fn main(rt: HostRuntime) -> Result<ExitCode> {
     };
     let options = Options::of(rt.alloc(), &matches, terminal_width(&rt))?;
     match run(&rt, &options) {
-        Err(error) if !is_closed(&error) => {
+        Ok(()) => Ok(ExitCode::SUCCESS),
+        Err(error) => {
             eprintln!(rt; "tabview: {error:#}")?;
             Ok(ExitCode::from(1))
         }
-        _ => Ok(ExitCode::SUCCESS),
     }
 }
 
@@ -50,11 +50,6 @@ fn run(rt: &HostRuntime, options: &Options<'_>) -> Result<()> {
         }
         _ => view(rt.alloc(), options, rt.stdin(), &mut out).context("standard input"),
     }
-}
-
-/// Whether the reader of standard output went away, as `head` does.
-fn is_closed(error: &anyhow::Error) -> bool {
-    false
 }
 
 /// Returns the columns of the terminal, by the variable `COLUMNS`.

@@ -1,9 +1,8 @@
 //! Records one below the other.
 
-ghost use Rattle.std.specs.Prelude.{◌<◌, length};
+use crate::rows::row_of;
 use std::alloc::Global;
-use tabled::grid::records::{ExactRecords, JoinedRecords, PeekableRecords};
-use tabled::grid::config::Position;
+use tabled::grid::records::{ExactRecords, JoinedRecords};
 use tabled::tables::{ExtendedTable, FnTemplate};
 use tabled::{TableError, TextSink};
 
@@ -33,14 +32,4 @@ fn rows_of(alloc: Global, records: &JoinedRecords) -> Result<Vec<Vec<&str>>, Tab
         rows.push(row_of(alloc, records, row)?)?;
     }
     Ok(rows)
-}
-
-fn row_of(alloc: Global, records: &JoinedRecords, row: usize) -> Result<Vec<&str>, TableError>
-    requires { row < length records.now }
-{
-    let mut cells = Vec::with_capacity(alloc, records.count_columns())?;
-    for column in 0..records.count_columns() {
-        cells.push(records.get_text(Position { row, column }))?;
-    }
-    Ok(cells)
 }

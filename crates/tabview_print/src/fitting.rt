@@ -1,5 +1,5 @@
 //! A table that is fitted to a width.
-ghost use Rattle.std.specs.Prelude.{◌≡◌, ◌<◌, IfOk, None, OnOk, length, true, unwrap_or};
+ghost use Rattle.std.specs.Prelude.{◌≡◌, ◌<◌, IfOk, None, OnOk, true, unwrap_or};
 ghost use Rattle.tabled_grid.specs.Printed.{Prints};
 ghost use Rattle.tabled_size.specs.Effective.{effective};
 ghost use Rattle.tabled_size.specs.Sheet.{Sheet};
@@ -9,12 +9,13 @@ ghost use Rattle.tabview_print.specs.Fitted.{IsFitted};
 
 use crate::floors::content_floors;
 use crate::layout::{Layout, Narrowing, settings};
+use crate::rows::row_of;
 use std::alloc::{AllocError, Global};
 use tabled::builder::Builder;
 use tabled::grid::config::{ColoredConfig, Position, SpannedConfig};
 use tabled::grid::dimension::{CompleteDimension};
 use tabled::grid::print_standing;
-use tabled::grid::records::{ExactRecords, JoinedRecords, PeekableRecords, Text, VecRecords};
+use tabled::grid::records::{ExactRecords, JoinedRecords, Text, VecRecords};
 use tabled::settings::width::{Truncate, Wrap};
 use tabled::settings::TableOption;
 use tabled::{TableError, TextSink};
@@ -68,7 +69,8 @@ fn wrapped(
 {
     let priority = AboveFloors { floors };
     let option = Wrap::new(width).drop_spaces().priority(priority);
-    option.narrowed(records, config, sizes)
+    let cells = option.narrowed(records, config, sizes)?;
+    Ok(cells)
 }
 
 /// Prints a table that is wider than `width`, with its cells wrapped.
@@ -145,18 +147,7 @@ fn copied(
 ) -> Result<VecRecords<Text<String>>, TableError> {
     let mut builder = Builder::with_capacity(alloc, records.count_rows(), records.count_columns())?;
     for row in 0..records.count_rows() {
-        push_row(&mut builder, records, row)?;
+        builder.add_record(row_of(alloc, records, row)?)?;
     }
     Ok(builder.build())
-}
-
-fn push_row(
-    builder: &mut Builder,
-    records: &JoinedRecords,
-    row: usize,
-) -> Result<(), TableError>
-    requires { row < length records.now }
-{
-    let columns = 0..records.count_columns();
-    builder.add_record(columns.map(|column| records.get_text(Position { row, column })))
 }

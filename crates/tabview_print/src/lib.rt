@@ -4,12 +4,14 @@
 //! - `floors`: the least widths of columns.
 //! - `fitting`: a table that is fitted to a width.
 //! - `expanded`: records one below the other.
+//! - `rows`: the cells of a row, by reference.
 #![tactic(auto)]
 
 mod expanded;
 mod fitting;
 mod floors;
 mod layout;
+mod rows;
 
 pub use expanded::print_expanded;
 pub use fitting::print_table;
