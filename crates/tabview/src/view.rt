@@ -30,7 +30,7 @@ pub fn view<R: Read + Drop, W: Write>(
             Ok(()) => bail!("the output can't be written"),
             failed => unless_closed(failed),
         },
-        Err(error) => Err(error.into()),
+        Err(error) => bail!("{error}"),
     }
 }
 

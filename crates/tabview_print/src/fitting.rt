@@ -1,5 +1,5 @@
 //! A table that is fitted to a width.
-ghost use Rattle.std.specs.Prelude.{◌≡◌, ◌<◌, IfOk, None, OnOk, true, unwrap_or};
+ghost use Rattle.std.specs.Prelude.{◌≡◌, ◌<◌, Bool, IfOk, None, OnOk, unwrap_or};
 ghost use Rattle.tabled_grid.specs.Printed.{Prints};
 ghost use Rattle.tabled_size.specs.Effective.{effective};
 ghost use Rattle.tabled_size.specs.Sheet.{Sheet};
@@ -34,20 +34,32 @@ pub fn print_table<S: TextSink>(
     layout: Layout,
     sink: &mut S,
 ) -> Result<bool, TableError> {
-    let mut sizes = CompleteDimension::new(alloc);
     let floors = content_floors(alloc, records, &layout)?;
-    let config = settings(alloc, layout.style, &layout.columns)?;
+    let Layout {
+        style,
+        width,
+        narrowing,
+        columns,
+        ..
+    } = layout;
+    let config = settings(alloc, style, &columns)?;
+    let mut sizes = CompleteDimension::new(alloc);
     let total = total_width(records, config.as_ref(), &sizes)?;
-    let Some(width) = layout.width.filter(|width| *width < total) else {
-        print_standing(sink, records, config.as_ref(), &sizes)?;
-        return Ok(true);
+    let width = match width {
+        Some(width) if width < total => width,
+        _ => {
+            print_standing(sink, records, config.as_ref(), &sizes)?;
+            return Ok(true);
+        }
     };
     let floors = padded(alloc, &floors, config.as_ref())?;
     if least_total(alloc, records, config.as_ref(), &floors, total)? > width {
         return Ok(false);
     }
-    match layout.narrowing {
-        Narrowing::Wrap => print_wrapped(records, config.as_ref(), &floors, width, &mut sizes, sink)?,
+    match narrowing {
+        Narrowing::Wrap => {
+            print_wrapped(records, config.as_ref(), &floors, width, &mut sizes, sink)?;
+        }
         Narrowing::Cut => print_cut(alloc, records, config, &floors, width, sink)?,
     }
     Ok(true)
@@ -84,8 +96,9 @@ fn print_wrapped<S: TextSink>(
 ) -> Result<(), TableError>
     requires { widths_of sizes.old ≡ None }
     ensures { let t = effective records.now config.now sizes.old in
-        OnOk result (width < total_width t → (fitted : Sheet) × IsFitted floors.now width t fitted
-        × Prints true fitted (S.sent sink.old) result (S.sent sink.new)) }
+        OnOk result (width < total_width t → (fitted : Sheet) × (estimates : Bool)
+        × IsFitted floors.now width t fitted
+        × Prints estimates fitted (S.sent sink.old) result (S.sent sink.new)) }
 {
     let cells = wrapped(records, config, floors, width, sizes)?;
     print_standing(sink, cells.as_ref().unwrap_or(records), config, sizes)
