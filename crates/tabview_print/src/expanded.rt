@@ -3,7 +3,7 @@
 use crate::rows::row_of;
 use std::alloc::Global;
 use tabled::grid::records::{ExactRecords, JoinedRecords};
-use tabled::tables::{ExtendedTable, FnTemplate};
+use tabled::tables::{ExtendedTable, FnTemplate, LabelFn};
 use tabled::{TableError, TextSink};
 
 /// Prints records one below the other, a line for each cell behind the name of its column. They are
@@ -19,11 +19,21 @@ pub fn print_expanded<S: TextSink>(
     if let Some(width) = width {
         let _fits = table.truncate(width, "…")?;
     }
-    let table = table.template(FnTemplate::new(|index: usize| {
+    print_under(table, sink, |index: usize| {
         let number = index.saturating_add(1);
         format!(in alloc; "[ RECORD {number} ]")
-    }));
-    table.write_to(sink)
+    })
+}
+
+/// Prints a table with a label for each record.
+fn print_under<S: TextSink, G: LabelFn + Drop>(
+    table: ExtendedTable,
+    sink: &mut S,
+    label: G,
+) -> Result<(), TableError>
+    requires { G.callable label }
+{
+    table.template(FnTemplate::new(label)).write_to(sink)
 }
 
 fn rows_of(alloc: Global, records: &JoinedRecords) -> Result<Vec<Vec<&str>>, TableError> {
