@@ -22,7 +22,7 @@ LINES = {
     "docs/PROVED.md": 150,
     "docs/DESIGN.md": 150,
     "docs/DECISIONS.md": 250,
-    "docs/GATE.md": 90,
+    "docs/GATE.md": 60,
     "bench/README.md": 150,
 }
 
