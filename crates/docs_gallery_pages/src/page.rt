@@ -231,7 +231,7 @@ fn add_boxes(page: &mut String) -> Result<(), TableError> {
 fn add_streams(page: &mut String) -> Result<(), TableError> {
     draw!(page;
         streams::whole, streams::sniffed, streams::marked, streams::sized, streams::limited,
-        streams::aligned, streams::fallible)
+        streams::aligned)
 }
 
 fn add_compact(page: &mut String) -> Result<(), TableError> {
@@ -241,7 +241,7 @@ fn add_compact(page: &mut String) -> Result<(), TableError> {
 }
 
 fn add_serialized(page: &mut String) -> Result<(), TableError> {
-    draw!(page; serialized::table, serialized::streamed)
+    draw!(page; serialized::table)
 }
 
 fn add_rows(page: &mut String) -> Result<(), TableError> {

@@ -2,10 +2,8 @@
 
 use serde::Serialize;
 use std::alloc::Global;
-use tabled::iter::TryRows;
-use tabled::tables::IterTable;
 use tabled::{Table, TableError};
-use tabled_serde::{RowError, ValueRows, builder};
+use tabled_serde::{RowError, builder};
 
 #[derive(Drop, Serialize)]
 struct City {
@@ -42,16 +40,4 @@ pub fn table(alloc: Global) -> Result<String, TableError> {
         Err(RowError::Memory) => Err(TableError::Memory),
         Err(error) => Ok(format!(in alloc; "{error}")?),
     }
-}
-
-/// A stream of them, with a text for what is `None`. An error would name the field.
-pub fn streamed(alloc: Global) -> Result<String, TableError> {
-    let rows = ValueRows::new(alloc, CITIES.into_iter(), "?");
-    let mut text = String::new(alloc);
-    let (printed, read) = IterTable::new(TryRows::new(rows)).try_fmt(alloc, &mut text);
-    printed?;
-    if let Err(error) = read {
-        write!(text, "\n{error}")?;
-    }
-    Ok(text)
 }

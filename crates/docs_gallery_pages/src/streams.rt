@@ -4,7 +4,6 @@
 
 use std::alloc::Global;
 use tabled::TableError;
-use tabled::iter::TryRows;
 use tabled::settings::{Alignment, Settings, Style};
 use tabled::tables::{CompactTable, IterTable};
 
@@ -53,19 +52,6 @@ pub fn aligned(alloc: Global) -> Result<String, TableError> {
     let mut table = IterTable::new(CITIES);
     table.with(Settings::new(Style::modern(), Alignment::right()))?;
     table.to_string(alloc)
-}
-
-/// Rows that may fail: those before the first error are printed, and the error is returned.
-pub fn fallible(alloc: Global) -> Result<String, TableError> {
-    let results = [Ok(CITIES[0]), Err("connection lost"), Ok(CITIES[2])];
-    let mut text = String::new(alloc);
-    let table = IterTable::new(TryRows::new(results.into_iter()));
-    let (printed, read) = table.try_fmt(alloc, &mut text);
-    printed?;
-    if let Err(error) = read {
-        write!(text, "\n{error}")?;
-    }
-    Ok(text)
 }
 
 /// An array is measured beforehand: each column is as wide as its widest cell.

@@ -81,8 +81,10 @@ pub mod tables {
 /// Rows that may fail, and where the batches of a range of rows begin.
 ///
 /// ```rust
-/// let table = IterTable::new(TryRows::new(results.into_iter()));
-/// let (printed, read) = table.try_fmt(alloc, &mut text);
+/// let mut table = IterTable::new(TryRows::new(answer));
+/// table.sniff(ahead);
+/// table.apply(Style::modern())?;
+/// let (printed, read) = table.try_build(alloc, out);
 /// printed?;
 /// ```
 ///
