@@ -21,8 +21,6 @@ const MIDDLE: [Row; 4] = [Ok(["a", "b"]), Ok(["cc", "d"]), Err(7), Ok(["e", "f"]
 
 const AT_ONCE: [Row; 3] = [Err(8), Ok(["a", "b"]), Err(9)];
 
-const LATER: [Row; 2] = [Ok(["a", "b"]), Err(3)];
-
 const NEVER: [Row; 2] = [Ok(["a", "b"]), Ok(["cc", "d"])];
 
 const TWO: &str = "+----+---+\n| a  | b |\n+----+---+\n| cc | d |\n+----+---+";
@@ -46,27 +44,5 @@ fn the_rows_before_the_first_error_are_printed(rt: HostRuntime) -> Result<(), Fa
         assert_eq!(rt; found, (Ok(()), read));
         assert_eq!(rt; out.as_slice(), text.as_bytes());
     }
-    Ok(())
-}
-
-// One row is read ahead, and the next row is an error.
-#[test]
-fn rows_that_are_read_later_may_fail(rt: HostRuntime) -> Result<(), Fail> {
-    let mut table = IterTable::new(rows(rt.alloc(), &LATER)?);
-    table.sniff(1);
-    let mut out = String::new(rt.alloc());
-    assert_eq!(rt; table.try_fmt(rt.alloc(), &mut out), (Ok(()), Err(3)));
-    assert_eq!(rt; out.as_str(), "+---+---+\n| a | b |\n+---+---+");
-    Ok(())
-}
-
-// Only the first row is shown, so the error is never reached.
-#[test]
-fn an_error_behind_the_last_row_is_not_reached(rt: HostRuntime) -> Result<(), Fail> {
-    let mut table = IterTable::new(rows(rt.alloc(), &LATER)?);
-    table.sniff(1).rows(1);
-    let mut out = String::new(rt.alloc());
-    assert_eq!(rt; table.try_fmt(rt.alloc(), &mut out), (Ok(()), Ok(())));
-    assert_eq!(rt; out.as_str(), "+---+---+\n| a | b |\n+---+---+");
     Ok(())
 }
