@@ -1,5 +1,9 @@
+pub mod Columns
 pub mod Counting
+pub mod Failing
 pub mod Placing
 pub mod Reading
+pub mod RowLengths
+pub mod Steps
 pub mod Stepping
 pub mod Yielding

@@ -20,7 +20,7 @@ pub enum RowError {
     NoName,
     /// The value writes what is no struct and no map, as no derived one does.
     Malformed,
-    /// A field that the first value doesn't have, so it has no column.
+    /// The first field without a column: the first value doesn't have it, or has it earlier.
     Unknown { field: String },
     /// The value itself fails, at a field or after it.
     Custom { field: String, message: String },

@@ -1,7 +1,9 @@
 //! The cells of a later value, below the names of the first.
-ghost use Rattle.std.specs.Prelude.{◌≡◌, ◌∷◌, IfOk, MatchOption, length, map, string_bytes};
+ghost use Rattle.std.specs.Prelude.{◌≡◌, ◌∷◌, [], IfErr, IfNone, IfOk, MatchOption, length, map};
+ghost use Rattle.std.specs.Prelude.{string_bytes};
 ghost use Rattle.std.specs.Vec.Iter.{into_iter_items};
 ghost use Rattle.tabled_serde.specs.Reader.{bytes_of};
+ghost use Rattle.tabled_serde.specs.RowErrors.{IsColumnError, IsNext};
 ghost use Rattle.tabled_serde.specs.Rows.{IsBelow};
 
 use crate::error::RowError;
@@ -25,6 +27,8 @@ impl Unplaced<'_> {
         ensures cells { MatchOption result
             (into_iter_items self.new.cells ≡ into_iter_items self.old.cells)
             (λ cell. into_iter_items self.old.cells ≡ cell ∷ into_iter_items self.new.cells) }
+        ensures other { IfNone result (IsNext self.old.names.now (string_bytes name.now)
+            → into_iter_items self.old.cells ≡ []) }
     {
         let (next, rest) = self.names.split_first()?;
         if next != name {
@@ -37,15 +41,17 @@ impl Unplaced<'_> {
 }
 
 /// Returns a row of cells below these names, where a name that doesn't come next has an empty cell.
-/// Fails with `Unknown` if a field has no column there.
+/// Fails with `Unknown` at the first field that has no column there.
 pub(crate) fn cells_below(
     alloc: Global,
     header: &[String],
     fields: Record,
 ) -> Result<Vec<String>, RowError>
     requires { length fields.names.items ≡ length fields.cells.items }
-    ensures { IfOk result (λ row. IsBelow (map string_bytes header.now) (bytes_of fields.names)
+    ensures ok { IfOk result (λ row. IsBelow (map string_bytes header.now) (bytes_of fields.names)
         (bytes_of fields.cells) (bytes_of row)) }
+    ensures failed { IfErr result
+        (IsColumnError (map string_bytes header.now) (bytes_of fields.names)) }
 {
     let Record { names, cells } = fields;
     let mut unplaced = Unplaced {

@@ -1,13 +1,17 @@
 //! The names and cells of a value, read from its events.
-ghost use Rattle.std.specs.Prelude.{◌≡◌, ◌++◌, ◌<◌, ◌≤◌, ◌∷◌, [], IfOk, IfSome, List};
-ghost use Rattle.std.specs.Prelude.{MatchOption, OnOk, OnSome, length};
-ghost use Rattle.std.specs.Prelude.{map, string_bytes};
+ghost use Rattle.std.specs.Prelude.{◌≡◌, ◌⊎◌, ◌++◌, ◌<◌, ◌≤◌, ◌∷◌, [], IfErr, IfOk, IfSome};
+ghost use Rattle.std.specs.Prelude.{IsSomeAnd, List, MatchOption, OnOk, OnSome, Option, length};
+ghost use Rattle.std.specs.Prelude.{map, string_bytes, ℕ, ⊤};
 ghost use Rattle.std.specs.List.{AllZip};
-ghost use Rattle.serde.specs.Event.{Event, key_ends, map_ends, seq_ends};
+ghost use Rattle.serde.specs.Event.{Event, key_ends, map_begins, map_ends, seq_ends};
 ghost use Rattle.serde.specs.Spelling.{spelled};
+ghost use Rattle.tabled_serde.specs.Errors.{HasCause, IsFieldError, IsNested};
+ghost use Rattle.tabled_serde.specs.Errors.{IsRecordError, NoCellFirst, NoItemsFirst, NoKeyFirst};
+ghost use Rattle.tabled_serde.specs.Errors.{NoMapFirst, NoNameFirst, NoStructFirst, NoTextIs};
 ghost use Rattle.tabled_serde.specs.Events.{event_of};
 ghost use Rattle.tabled_serde.specs.Records.{AreRecord, IsCell, IsName, IsScalar, IsText, joined};
 ghost use Rattle.tabled_serde.specs.Reader.{BeginsStruct, FieldRead, FieldsRead, bytes_of, left};
+ghost use Rattle.tabled_serde.specs.declared.error.RowError.TheVariants.{Malformed, Memory, NoFields, NoName};
 
 use crate::error::RowError;
 use crate::event::Step;
@@ -48,10 +52,9 @@ impl<'a> Reader<'a> {
             (bytes_of found.names) (bytes_of found.cells)) }
         ensures as_many { IfOk result
             (λ found. length found.names.items ≡ length found.cells.items) }
+        ensures failed { IfErr result (IsRecordError self.entry.none.now (left self.entry)) }
     {
-        let Some(Step::BeginMap(_)) = self.next() else {
-            return Err(RowError::NoFields);
-        };
+        self.begin()?;
         let mut record = Record {
             names: Vec::new(self.alloc),
             cells: Vec::new(self.alloc),
@@ -61,6 +64,19 @@ impl<'a> Reader<'a> {
             Ok(record)
         } else {
             Err(RowError::Malformed)
+        }
+    }
+
+    /// Takes the beginning of a struct or a map.
+    fn begin(&mut self) -> Result<(), RowError>
+        ensures none { self.new.none.now ≡ self.old.none.now }
+        ensures ok { OnOk result
+            ((n : Option ℕ) × (left self.old ≡ map_begins n ∷ left self.new)) }
+        ensures failed { IfErr result (λ e. (e ≡ NoFields) × NoMapFirst (left self.old)) }
+    {
+        match self.next() {
+            Some(Step::BeginMap(_)) => Ok(()),
+            _ => Err(RowError::NoFields),
         }
     }
 
@@ -84,6 +100,7 @@ impl<'a> Reader<'a> {
         ensures fewer { length self.new.steps.now ≤ length self.old.steps.now }
         ensures ok { OnOk result (FieldsRead self.old.none.now (left self.old)
             (map_ends ∷ left self.new) fields.old fields.new) }
+        ensures failed { IfErr result (IsFieldError self.old.none.now (left self.old)) }
     {
         'fields: while let Some(step) = self.next() {
             match step {
@@ -104,6 +121,7 @@ impl<'a> Reader<'a> {
         ensures none { self.new.none.now ≡ self.old.none.now }
         ensures fewer { length self.new.steps.now ≤ length self.old.steps.now }
         ensures ok { IfOk result (λ begins. BeginsStruct begins (left self.old) (left self.new)) }
+        ensures failed { IfErr result (λ e. (e ≡ Malformed) × NoStructFirst (left self.old)) }
     {
         match self.next() {
             Some(Step::BeginMap(_)) => Ok(true),
@@ -118,6 +136,8 @@ impl<'a> Reader<'a> {
         ensures fewer { length self.new.steps.now ≤ length self.old.steps.now }
         ensures ok { OnOk result (FieldRead self.old.none.now (event_of first.now ∷ left self.old)
             (left self.new) fields.old fields.new) }
+        ensures failed { IfErr result
+            (HasCause self.old.none.now NoNameFirst (event_of first.now ∷ left self.old)) }
     {
         let name = self.read_name(first)?;
         let cell = self.read_cell(&name)?;
@@ -133,6 +153,8 @@ impl<'a> Reader<'a> {
         ensures ok { IfOk result (λ name. (events : List Event)
             × IsName events (string_bytes name)
             × (event_of first.now ∷ left self.old ≡ events ++ left self.new)) }
+        ensures failed { IfErr result
+            (HasCause self.old.none.now NoNameFirst (event_of first.now ∷ left self.old)) }
     {
         match first {
             Step::Field(name, case) => spelling(self.alloc, NameKind::Field, name, *case),
@@ -148,6 +170,8 @@ impl<'a> Reader<'a> {
         ensures fewer { length self.new.steps.now ≤ length self.old.steps.now }
         ensures ok { IfOk result (λ name. (e : Event) × IsScalar e (string_bytes name)
             × (left self.old ≡ e ∷ key_ends ∷ left self.new)) }
+        ensures failed { IfErr result
+            (λ e. (e ≡ Memory) ⊎ ((e ≡ NoName) × NoKeyFirst (left self.old))) }
     {
         let Some(step) = self.next() else {
             return Err(RowError::NoName);
@@ -168,6 +192,8 @@ impl<'a> Reader<'a> {
         ensures ok { IfOk result (λ cell. (events : List Event)
             × IsCell self.old.none.now events (string_bytes cell)
             × (left self.old ≡ events ++ left self.new)) }
+        ensures failed { IfErr result
+            (IsNested name.now (NoCellFirst self.old.none.now (left self.old))) }
     {
         let Some(step) = self.next() else {
             return Err(self.nested(name));
@@ -189,6 +215,8 @@ impl<'a> Reader<'a> {
         ensures ok { IfOk result (λ items. (events : List Event)
             × AllZip (IsText self.old.none.now) events (bytes_of items)
             × (left self.old ≡ events ++ seq_ends ∷ left self.new)) }
+        ensures failed { IfErr result
+            (IsNested name.now (NoItemsFirst self.old.none.now (left self.old))) }
     {
         let mut items = Vec::new(self.alloc);
         'items: while let Some(step) = self.next() {
@@ -205,8 +233,10 @@ impl<'a> Reader<'a> {
 
     /// Returns the text of a scalar or of `None`, or none of another event.
     fn text_of(&self, step: &Step) -> Result<Option<String>, RowError>
-        ensures { IfOk result (λ some. IfSome some
+        ensures ok { IfOk result (λ some. MatchOption some
+            (NoTextIs (IsText self.now.none.now (event_of step.now)))
             (λ text. IsText self.now.none.now (event_of step.now) (string_bytes text))) }
+        ensures failed { IfErr result (λ e. e ≡ Memory) }
     {
         match step {
             Step::Unit => Ok(Some(String::from_str(self.alloc, self.none)?)),
@@ -215,7 +245,9 @@ impl<'a> Reader<'a> {
     }
 
     /// The error of the field of this name.
-    fn nested(&self, name: &str) -> RowError {
+    fn nested(&self, name: &str) -> RowError
+        ensures { IsNested name.now ⊤ result }
+    {
         match String::from_str(self.alloc, name) {
             Ok(field) => RowError::Nested { field },
             Err(_) => RowError::Memory,
@@ -225,8 +257,10 @@ impl<'a> Reader<'a> {
 
 /// Returns the text of a scalar, or none of another event.
 fn scalar_text(alloc: Global, step: &Step) -> Result<Option<String>, RowError>
-    ensures { IfOk result (λ some. IfSome some
+    ensures ok { IfOk result (λ some. MatchOption some
+        (NoTextIs (IsScalar (event_of step.now)))
         (λ text. IsScalar (event_of step.now) (string_bytes text))) }
+    ensures failed { IfErr result (λ e. e ≡ Memory) }
 {
     match step {
         Step::Bool(b) => shown(alloc, b),
@@ -242,14 +276,16 @@ fn scalar_text(alloc: Global, step: &Step) -> Result<Option<String>, RowError>
 }
 
 fn shown<T: Display>(alloc: Global, value: &T) -> Result<Option<String>, RowError>
-    ensures { IfOk result (λ some. IfSome some
+    ensures ok { IfOk result (λ some. IsSomeAnd some
         (λ text. IfSome (T.output value.now) (λ bytes. string_bytes text ≡ bytes))) }
+    ensures failed { IfErr result (λ e. e ≡ Memory) }
 {
     Ok(Some(value.to_string(alloc)?))
 }
 
 fn spelling(alloc: Global, kind: NameKind, name: &str, case: Case) -> Result<String, RowError>
-    ensures { IfOk result (λ text. string_bytes text ≡ spelled case kind name.now) }
+    ensures ok { IfOk result (λ text. string_bytes text ≡ spelled case kind name.now) }
+    ensures failed { IfErr result (λ e. e ≡ Memory) }
 {
     let mut text = String::new(alloc);
     case.append(kind, name, &mut text)?;
@@ -258,7 +294,8 @@ fn spelling(alloc: Global, kind: NameKind, name: &str, case: Case) -> Result<Str
 
 /// Joins texts with a comma and a space.
 fn joined_text(alloc: Global, texts: &[String]) -> Result<String, RowError>
-    ensures { IfOk result (λ text. string_bytes text ≡ joined (map string_bytes texts.now)) }
+    ensures ok { IfOk result (λ text. string_bytes text ≡ joined (map string_bytes texts.now)) }
+    ensures failed { IfErr result (λ e. e ≡ Memory) }
 {
     let mut all = String::new(alloc);
     let Some((first, others)) = texts.split_first() else {

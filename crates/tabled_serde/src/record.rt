@@ -1,5 +1,6 @@
 //! The names and cells of a value.
-ghost use Rattle.std.specs.Prelude.{◌≡◌, IfOk, length};
+ghost use Rattle.std.specs.Prelude.{◌≡◌, IfErr, IfOk, length};
+ghost use Rattle.tabled_serde.specs.Errors.{IsValueError};
 ghost use Rattle.tabled_serde.specs.Reader.{bytes_of};
 ghost use Rattle.tabled_serde.specs.Rows.{HasFields};
 
@@ -19,6 +20,7 @@ pub fn read_record<T: Serialize>(alloc: Global, value: &T, none: &str) -> Result
     ensures fields { IfOk result (λ found. HasFields T.writes none.now value.now
         (bytes_of found.names) (bytes_of found.cells)) }
     ensures as_many { IfOk result (λ found. length found.names.items ≡ length found.cells.items) }
+    ensures failed { IfErr result (IsValueError T.writes none.now value.now) }
 {
     let mut events = Events::new(alloc);
     value.serialize(&mut events)?;

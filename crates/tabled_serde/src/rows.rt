@@ -1,10 +1,11 @@
 //! Values as rows, one by one and all at once.
 ghost use Rattle.std.specs.Iterator.{IsFiniteIterable};
-ghost use Rattle.std.specs.Prelude.{◌≡◌, IfOk, List, None, OnErr, ℕ};
-ghost use Rattle.tabled_base.specs.Cells.{lengthened_rows};
+ghost use Rattle.std.specs.Prelude.{◌≡◌, IfErr, IfOk, List, None, OnErr, ℕ};
 ghost use Rattle.tabled_base.specs.Given.{Given};
 ghost use Rattle.tabled_serde.specs.Reader.{bytes_of};
-ghost use Rattle.tabled_serde.specs.Rows.{AreRows, GivesRow, row_steps, rows_left};
+ghost use Rattle.tabled_serde.specs.RowErrors.{IsSourceError};
+ghost use Rattle.tabled_serde.specs.RowSteps.{FailsAt, GivesRow, row_steps, rows_left};
+ghost use Rattle.tabled_serde.specs.Rows.{AreRows};
 
 use crate::error::RowError;
 use crate::placed::cells_below;
@@ -53,7 +54,8 @@ impl<'a, I> ValueRows<'a, I> {
     fn row_of<T: Serialize>(&mut self, value: &T) -> Result<Vec<String>, RowError>
         ensures gives { IfOk result
             (λ row. GivesRow T.writes self.old value.now (bytes_of row) self.new) }
-        ensures failed { OnErr result (self.new ≡ self.old) }
+        ensures unchanged { OnErr result (self.new ≡ self.old) }
+        ensures failed { IfErr result (FailsAt T.writes self.old value.now) }
     {
         let fields = read_record(self.alloc, value, self.none)?;
         if let Some(header) = &self.header {
@@ -85,7 +87,7 @@ impl<I: Iterator<Item = T>, T: Serialize + Drop> Iterator for ValueRows<'_, I> {
 }
 
 /// Returns a builder of values: a header of the names of their fields, and a row for each value.
-/// The cell of a `None` has the text `none`.
+/// The cell of a `None` has the text `none`. Fails at the first value that has no row.
 ///
 /// ```rust
 /// let table = Table::from(builder(alloc, cities, "")?);
@@ -96,10 +98,12 @@ pub fn builder<I: IntoIterator<Item = T>, T: Serialize + Drop>(
     none: &str,
 ) -> Result<Builder, RowError>
     requires { IsFiniteIterable I.into_iter_gives I.IntoIter.can_next I.IntoIter.remaining values }
-    ensures { IfOk result (λ builder. (items : List T)
+    ensures ok { IfOk result (λ builder. (items : List T)
         × (rows : List (List (List ℕ)))
         × Given I.into_iter_gives I.IntoIter.next_gives values items
-        × AreRows T.writes none.now items rows × (builder ≡ lengthened_rows rows)) }
+        × AreRows T.writes none.now items rows × (builder ≡ rows)) }
+    ensures failed { IfErr result
+        (IsSourceError I.into_iter_gives I.IntoIter.next_gives T.writes none.now values) }
 {
     let mut builder = Builder::new(alloc);
     'rows: for row in ValueRows::new(alloc, values.into_iter(), none) {

@@ -1,7 +1,10 @@
 use Rattle.std.proofs.Common.{ap, false, is_err, subst, sym, Some, ◌∙◌, ◌≡◌}
 use Rattle.tabled_base.specs.Cells.{with_record}
-use Rattle.tabled_serde.proofs.Yielding.{all-given, none-given, on-success, row-given, row-texts}
-use Rattle.tabled_serde.specs.Rows.{row_steps}
+use Rattle.tabled_serde.proofs.Failing.{passed}
+use Rattle.tabled_serde.proofs.RowLengths.{rows-stay}
+use Rattle.tabled_serde.proofs.Yielding.{all-given, at-failure, none-given, on-success, row-given, row-texts}
+use Rattle.tabled_serde.specs.RowErrors.{IsSourceError, no_memory}
+use Rattle.tabled_serde.specs.RowSteps.{row_steps}
 use Rattle.tabled_serde.proofs.rows.builder.Goals as goal
 
 pub rows-init : goal.rows-init
@@ -31,9 +34,23 @@ rows-preserved g c =
           (came.2 ∙ ap (λ r. with_record c.rows.builder r) (row-texts c.in_ok-row.row came.1.iterator came.0 came.1.made.0 came.1.drained));
     }
 
-pub returns : goal.returns
-returns g c =
+pub returns-clause-ok : goal.returns-clause-ok
+returns-clause-ok g c =
     let i = c.rows.invariant in
     let all = all-given g.I.IntoIter.Iterator.next_gives g.T.Described.writes c.args.none.now i.start c.rows.row-iterator c.next.new.self c.rows.builder
     i.so_far c.in-None.ensures.steps in
-    (i.so_far.items, i.so_far.rows, record { iterator = i.start; made = i.made; drained = all.0 }, all.1, i.so_far.built_are)
+    (i.so_far.items, i.so_far.rows, record { iterator = i.start; made = i.made; drained = all.0 }, all.1, i.so_far.built_are ∙ rows-stay g.T.Described.writes c.args.none.now i.so_far.items i.so_far.rows all.1)
+
+pub returns-in_err-row-clause-failed : goal.returns-in_err-row-clause-failed
+returns-in_err-row-clause-failed g c =
+    let steps = g.I.IntoIter.Iterator.next_gives in
+    let writes = g.T.Described.writes in
+    let becomes = g.I.IntoIterator.into_iter_gives in
+    let i = c.rows.invariant in
+    let e = c.in_err-row.field-0.0 in
+    passed (IsSourceError becomes steps writes c.args.none.now c.args.values) c.from_residual.result e c.from_residual.ensures.1
+    (at-failure steps writes c.args.none.now becomes c.args.values i.start c.rows.row-iterator c.next.new.self e c.rows.builder i.made i.so_far
+    (subst (λ o. row_steps steps writes c.rows.row-iterator (Some o) c.next.new.self) c.in_err-row.was c.in-Some.ensures.steps))
+
+pub returns-then-is_err-clause-failed : goal.returns-then-is_err-clause-failed
+returns-then-is_err-clause-failed g c = no_memory

@@ -1,0 +1,66 @@
+-- Why values have no rows.
+use Rattle.std.specs.Prelude.{◌≡◌, ℕ, List, [], ◌∷◌, ◌++◌, Option, Some, ⊤, string_bytes}
+use Rattle.std.specs.Iterator.{Yields}
+use Rattle.std.specs.List.{AllZip}
+use Rattle.std.specs.declared.alloc.Global.{Global}
+use Rattle.std.specs.declared.string.String.{String}
+use Rattle.serde.specs.Event.{Event}
+use Rattle.tabled_serde.specs.Errors.{IsValueError}
+use Rattle.tabled_serde.specs.Rows.{HasFields, IsBelow, IsRowOf}
+use Rattle.tabled_serde.specs.declared.error.RowError.{RowError}
+use Rattle.tabled_serde.specs.declared.error.RowError.TheVariants.{Memory, NoFields, NoName, Nested, Malformed, Unknown, Custom}
+
+-- this name comes next
+abbrev pub IsNext : List (String Global) → List ℕ → Type 0
+IsNext [] name = ⊥
+IsNext (next ∷ names) name = string_bytes next ≡ name
+
+-- below this header these names have columns, in their order
+abbrev pub HaveColumns : List (List ℕ) → List (List ℕ) → Type 0
+HaveColumns header names = (cells row : List (List ℕ)) × IsBelow header names cells row
+
+-- the first of the names without a column: those before it have columns, and with it they don't
+pub record HasNoColumn (header names : List (List ℕ)) (name : List ℕ) : Type 0 where
+  pub before : List (List ℕ)
+  pub after : List (List ℕ)
+  pub names_are : names ≡ before ++ name ∷ after
+  pub placed : HaveColumns header before
+  pub unplaced : ¬ (HaveColumns header (before ++ name ∷ []))
+
+-- an allocation failed, or this field has no column
+abbrev pub IsColumnError : List (List ℕ) → List (List ℕ) → RowError → Type 0
+IsColumnError header names Memory = ⊤
+IsColumnError header names (Unknown field) = HasNoColumn header names (string_bytes field)
+IsColumnError header names e = ⊥
+
+-- an error of a value below this header: its fields can't be read, or one of them has no column
+pub data IsRowError {T : Type 0} (writes : T → Option (List Event) → Option (List Event) → Type 0) (none : List ℕ) (header : List (List ℕ)) (value : T)
+    : RowError → Type 0 where
+  of_value : (e : RowError) → IsValueError writes none value e → IsRowError writes none header value e
+  of_columns : (names cells : List (List ℕ)) (e : RowError) → HasFields writes none value names cells → IsColumnError header names e
+      → IsRowError writes none header value e
+
+-- an error of the value that follows these. They have rows, below the names of the first
+abbrev pub FailsAfter : {T : Type 0} → (T → Option (List Event) → Option (List Event) → Type 0) → List ℕ → List T → T → RowError → Type 0
+FailsAfter writes none [] value e = IsValueError writes none value e
+FailsAfter writes none (first ∷ values) value e = (names cells : List (List ℕ)) × (later : List (List (List ℕ)))
+    × HasFields writes none first names cells × AllZip (IsRowOf writes none names) values later × IsRowError writes none names value e
+
+-- the source yields these values and then one that fails
+pub record FailsAtNext {U S T : Type 0} (becomes : U → S → Type 0) (steps : S → Option T → S → Type 0)
+    (writes : T → Option (List Event) → Option (List Event) → Type 0) (none : List ℕ) (source : U) (e : RowError) : Type 0 where
+  pub start : S
+  pub reached : S
+  pub rest : S
+  pub values : List T
+  pub value : T
+  pub made : becomes source start
+  pub yielded : Yields steps start values reached
+  pub next : steps reached (Some value) rest
+  pub fails : FailsAfter writes none values value e
+
+-- an error of the rows of a source: an allocation failed, or one of its values has no row
+pub data IsSourceError {U S T : Type 0} (becomes : U → S → Type 0) (steps : S → Option T → S → Type 0)
+    (writes : T → Option (List Event) → Option (List Event) → Type 0) (none : List ℕ) (source : U) : RowError → Type 0 where
+  no_memory : IsSourceError becomes steps writes none source Memory
+  at_value : (e : RowError) → FailsAtNext becomes steps writes none source e → IsSourceError becomes steps writes none source e
