@@ -7,6 +7,7 @@
 //! - `record.rt`: `read_record`, which reads those of a value.
 //! - `placed.rt`: the cells of a later value below the names of the first.
 //! - `rows.rt`: `ValueRows`, the rows of an iterator of values; `builder`, a builder of them.
+//! - `tables.rt`: `table`, a table of values.
 #![tactic(auto)]
 
 mod error;
@@ -15,8 +16,10 @@ mod placed;
 mod reader;
 mod record;
 mod rows;
+mod tables;
 
 pub use error::RowError;
 pub use reader::Record;
 pub use record::read_record;
 pub use rows::{ValueRows, builder};
+pub use tables::table;

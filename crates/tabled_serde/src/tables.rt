@@ -1,0 +1,35 @@
+//! Tables of values.
+ghost use Rattle.std.specs.Iterator.{IsFiniteIterable};
+ghost use Rattle.std.specs.Prelude.{IfErr, IfOk, List, [], ℕ};
+ghost use Rattle.tabled_base.specs.Given.{Given};
+ghost use Rattle.tabled_serde.specs.RowErrors.{IsSourceError};
+ghost use Rattle.tabled_serde.specs.Rows.{AreRows};
+ghost use Rattle.tabled_table.specs.NewTable.{IsNew};
+
+use crate::error::RowError;
+use crate::rows::builder;
+use serde::Serialize;
+use std::alloc::Global;
+use tabled_table::Table;
+
+/// Returns a table of values, as `Table::new` does of values that are `Tabled`: a header of the
+/// names of their fields, and a row for each value. The cell of a `None` is empty; `builder` takes
+/// another text. Without a value the table is empty, since no value says the names. Fails at the
+/// first value that has no row.
+///
+/// ```rust
+/// let table = tabled_serde::table(alloc, cities)?;
+/// ```
+pub fn table<I: IntoIterator<Item = T>, T: Serialize + Drop>(
+    alloc: Global,
+    values: I,
+) -> Result<Table, RowError>
+    requires { IsFiniteIterable I.into_iter_gives I.IntoIter.can_next I.IntoIter.remaining values }
+    ensures ok { IfOk result (λ table. (items : List T) × (rows : List (List (List ℕ)))
+        × Given I.into_iter_gives I.IntoIter.next_gives values items
+        × AreRows T.writes [] items rows × IsNew rows table) }
+    ensures failed { IfErr result
+        (IsSourceError I.into_iter_gives I.IntoIter.next_gives T.writes [] values) }
+{
+    Ok(Table::from(builder(alloc, values, "")?))
+}
