@@ -5,3 +5,5 @@
 mod fields;
 #[cfg(test)]
 mod rows;
+#[cfg(test)]
+mod tables;
