@@ -51,8 +51,9 @@ pub enum Plan {
     },
 }
 
+/// A priority that shrinks in an order chosen at run time.
 #[derive(Clone, Copy)]
-pub(crate) struct OrderPriority {
+pub struct OrderPriority {
     order: Order,
     /// Stores the next index for `Order::Round`.
     round: PriorityNone,

@@ -21,9 +21,9 @@ mod block_sink;
 mod program;
 mod rendering;
 
-pub use arguments::{Order, Plan};
+pub use arguments::{Order, OrderPriority, Plan};
 pub use program::run;
-pub use rendering::{render, render_styled};
+pub use rendering::{print_measured, render, render_styled};
 pub use tabled_base::{TableError, Text};
 pub use tabled_grid::{IoSink, TextSink};
 pub use tabled_line::WriterSink;

@@ -71,8 +71,8 @@ fn narrow<'r, 't>(
     }
 }
 
-/// Prints the table of some records and settings under a plan. Measures all of it first.
-fn print_measured<S: TextSink>(
+/// Prints the table of some rows and settings under a plan. Measures all of it first.
+pub fn print_measured<S: TextSink>(
     alloc: Global,
     rows: &LentRows<'_>,
     config: &SpannedConfig,

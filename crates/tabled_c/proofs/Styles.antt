@@ -1,4 +1,4 @@
--- The six styles keep the texts of cells apart: their lines are plain, and each text has padding on its left.
+-- The styles keep the texts of cells apart: their lines are plain, and each text has padding on its left.
 use Rattle.tabled_c.proofs.Names.{Some, Style, StyleName, inl, inr, new_config, refl, style_of, subst, true, with_style, ℕ, ◌≡◌}
 use Rattle.std.proofs.Common.{◌==◌, ◌&&◌, Bool, false, cond, Option, None, unwrap_or, lit<}
 use Rattle.std.specs.Ordering.{is_eq, nat_cmp}
@@ -9,7 +9,13 @@ use Rattle.tabled_config.specs.Lines.{line_set}
 use Rattle.tabled_config.specs.declared.borders.HorizontalLine.{HorizontalLine}
 use Rattle.tabled_config.specs.Options.{lines_below}
 use Rattle.tabled_config.specs.Settings.{in_place_of, rule_at, style_at}
-use Rattle.tabled_config.specs.Styles.{ascii, extended, line, markdown, modern, no_style, psql}
+use Rattle.tabled_config.specs.Styles.{ascii, ascii_rounded, blank, extended, line, markdown, modern, modern_rounded, no_style, psql, re_structured_text, rounded, sharp}
+use Rattle.tabled_config.specs.StyleChanges.{without_horizontals}
+use Rattle.tabled_config.specs.declared.alignment.AlignmentHorizontal.{AlignmentHorizontal}
+use Rattle.tabled_config.specs.declared.spanned.SpannedConfig.{SpannedConfig}
+use Rattle.tabled_entity.specs.Changes.{Changes, with_change}
+use Rattle.tabled_base.specs.declared.position.Entity.TheVariants.{Column}
+use Rattle.std.proofs.Common.{suc, List, [], ◌∷◌}
 use Rattle.tabled_line.specs.Apart.{ArePaddedLeft, IsApartStyle}
 use Rattle.tabled_line.specs.Plain.{IsPlainRule}
 use Rattle.tabled_text.specs.Measure.{char_columns}
@@ -19,7 +25,8 @@ use Rattle.tabled_text.proofs.PlainLines.{plain_column-printable, plain_column-s
 use Rattle.unicode_width.proofs.Computing.{unicode_width}
 use Rattle.unicode_width.proofs.Rules.{is_simple}
 use Rattle.tabled.specs.Headline.{KeepsApart}
-use Rattle.tabled_c.specs.Asked.{Ascii, Modern, Extended, Markdown, Psql, Empty}
+use Rattle.tabled_c.specs.Asked.{Ascii, Modern, Sharp, Rounded, ModernRounded, AsciiRounded, Extended, Markdown, Psql, ReStructuredText, Blank, Empty}
+use Rattle.tabled_c.specs.Asked.{alignment_numbered, headed, settings, with_alignments}
 
 -- ---- horizontal lines that may be there
 
@@ -111,43 +118,139 @@ boxes : (left main intersection right : ℕ) → is_listed_or_drawn left ≡ tru
 boxes left main intersection right l m i r cl cm ci cr =
     drawn left main intersection right (plain left l cl) (plain main m cm) (plain intersection i ci) (plain right r cr)
 
-ascii_apart : KeepsApart (with_style new_config ascii)
-ascii_apart =
+-- a line of = without ends
+double : HorizontalLine
+double = record { main = Some 0x3d; left = None; intersection = Some 0x20; right = None }
+
+equals : AreRules (Some double)
+unfolding double
+equals = a_rule double (record { main = plain_column-printable 0x3d refl; left = plain_column-space; intersection = plain_column-space; right = plain_column-space })
+
+-- with or without the line below the first row
+either : (header : Bool) (style : Style) → AreRules style.below_first → AreRules (if_any (top_line style.borders)) → AreRules (if_any (bottom_line style.borders))
+    → AreRules (if_any (inner_line style.borders)) → IsAdditiveColumn (unwrap_or style.borders.vertical 32) → IsAdditiveColumn (unwrap_or style.borders.left 32)
+    → IsAdditiveColumn (unwrap_or style.borders.right 32) → KeepsApart (with_style new_config (headed header style))
+either true style below top bottom inner vertical left right = keeps_apart style below top bottom inner vertical left right
+either false style below top bottom inner vertical left right = keeps_apart (without_horizontals style) no_rule top bottom inner vertical left right
+
+ascii_apart : (header : Bool) → KeepsApart (with_style new_config (headed header ascii))
+ascii_apart header =
     let rule = drawn 0x2b 0x2d 0x2b 0x2b plus dash plus plus in
-    keeps_apart ascii no_rule rule rule rule bar bar bar
+    either header ascii no_rule rule rule rule bar bar bar
 
-modern_apart : KeepsApart (with_style new_config modern)
+-- horizontal lines of boxes
+box_top : AreRules (Some (line 0x250c 0x2500 0x252c 0x2510))
 unfolding unicode_width
-modern_apart =
-    let side = plain 0x2502 refl refl in
-    keeps_apart modern no_rule (boxes 0x250c 0x2500 0x252c 0x2510 refl refl refl refl refl refl refl refl)
-    (boxes 0x2514 0x2500 0x2534 0x2518 refl refl refl refl refl refl refl refl) (boxes 0x251c 0x2500 0x253c 0x2524 refl refl refl refl refl refl refl refl)
-    side side side
+box_top = boxes 0x250c 0x2500 0x252c 0x2510 refl refl refl refl refl refl refl refl
 
-extended_apart : KeepsApart (with_style new_config extended)
+box_bottom : AreRules (Some (line 0x2514 0x2500 0x2534 0x2518))
 unfolding unicode_width
-extended_apart =
+box_bottom = boxes 0x2514 0x2500 0x2534 0x2518 refl refl refl refl refl refl refl refl
+
+box_inner : AreRules (Some (line 0x251c 0x2500 0x253c 0x2524))
+unfolding unicode_width
+box_inner = boxes 0x251c 0x2500 0x253c 0x2524 refl refl refl refl refl refl refl refl
+
+round_top : AreRules (Some (line 0x256d 0x2500 0x252c 0x256e))
+unfolding unicode_width
+round_top = boxes 0x256d 0x2500 0x252c 0x256e refl refl refl refl refl refl refl refl
+
+round_bottom : AreRules (Some (line 0x2570 0x2500 0x2534 0x256f))
+unfolding unicode_width
+round_bottom = boxes 0x2570 0x2500 0x2534 0x256f refl refl refl refl refl refl refl refl
+
+side : IsAdditiveColumn 0x2502
+unfolding unicode_width
+side = plain 0x2502 refl refl
+
+modern_apart : (header : Bool) → KeepsApart (with_style new_config (headed header modern))
+modern_apart header = either header modern no_rule box_top box_bottom box_inner side side side
+
+sharp_apart : (header : Bool) → KeepsApart (with_style new_config (headed header sharp))
+sharp_apart header = either header sharp box_inner box_top box_bottom no_rule side side side
+
+rounded_apart : (header : Bool) → KeepsApart (with_style new_config (headed header rounded))
+rounded_apart header = either header rounded box_inner round_top round_bottom no_rule side side side
+
+modern_rounded_apart : (header : Bool) → KeepsApart (with_style new_config (headed header modern_rounded))
+modern_rounded_apart header = either header modern_rounded no_rule round_top round_bottom box_inner side side side
+
+ascii_rounded_apart : (header : Bool) → KeepsApart (with_style new_config (headed header ascii_rounded))
+ascii_rounded_apart header =
+    let dot = plain_column-printable 0x2e refl in
+    let tick = plain_column-printable 0x27 refl in
+    either header ascii_rounded no_rule (drawn 0x2e 0x2d 0x2d 0x2e dot dash dash dot) (drawn 0x27 0x2d 0x2d 0x27 tick dash dash tick) no_rule bar bar bar
+
+extended_apart : (header : Bool) → KeepsApart (with_style new_config (headed header extended))
+unfolding unicode_width
+extended_apart header =
     let side = plain 0x2551 refl refl in
-    keeps_apart extended no_rule (boxes 0x2554 0x2550 0x2566 0x2557 refl refl refl refl refl refl refl refl)
+    either header extended no_rule (boxes 0x2554 0x2550 0x2566 0x2557 refl refl refl refl refl refl refl refl)
     (boxes 0x255a 0x2550 0x2569 0x255d refl refl refl refl refl refl refl refl) (boxes 0x2560 0x2550 0x256c 0x2563 refl refl refl refl refl refl refl refl)
     side side side
 
-markdown_apart : KeepsApart (with_style new_config markdown)
-markdown_apart = keeps_apart markdown (drawn 0x7c 0x2d 0x7c 0x7c bar dash bar bar) no_rule no_rule no_rule bar bar bar
+markdown_apart : (header : Bool) → KeepsApart (with_style new_config (headed header markdown))
+markdown_apart header = either header markdown (drawn 0x7c 0x2d 0x7c 0x7c bar dash bar bar) no_rule no_rule no_rule bar bar bar
 
-psql_apart : KeepsApart (with_style new_config psql)
-psql_apart =
+psql_apart : (header : Bool) → KeepsApart (with_style new_config (headed header psql))
+psql_apart header =
     let ruled : HorizontalLine = record { main = Some 0x2d; left = None; intersection = Some 0x2b; right = None } in
-    keeps_apart psql (a_rule ruled (record { main = dash; left = plain_column-space; intersection = plus; right = plain_column-space })) no_rule no_rule no_rule
+    either header psql (a_rule ruled (record { main = dash; left = plain_column-space; intersection = plus; right = plain_column-space })) no_rule no_rule no_rule
     bar plain_column-space plain_column-space
 
-empty_apart : KeepsApart (with_style new_config no_style)
-empty_apart = keeps_apart no_style no_rule no_rule no_rule no_rule plain_column-space plain_column-space plain_column-space
+re_structured_text_apart : (header : Bool) → KeepsApart (with_style new_config (headed header re_structured_text))
+unfolding double
+re_structured_text_apart header =
+    either header re_structured_text equals equals equals no_rule plain_column-space plain_column-space plain_column-space
 
-pub styles_apart : (name : StyleName) → KeepsApart (with_style new_config (style_of name))
-styles_apart Ascii = ascii_apart
-styles_apart Modern = modern_apart
-styles_apart Extended = extended_apart
-styles_apart Markdown = markdown_apart
-styles_apart Psql = psql_apart
-styles_apart Empty = empty_apart
+blank_apart : (header : Bool) → KeepsApart (with_style new_config (headed header blank))
+blank_apart header = either header blank no_rule no_rule no_rule no_rule plain_column-space plain_column-space plain_column-space
+
+empty_apart : (header : Bool) → KeepsApart (with_style new_config (headed header no_style))
+empty_apart header = either header no_style no_rule no_rule no_rule no_rule plain_column-space plain_column-space plain_column-space
+
+-- ---- alignments
+
+-- where texts are placed in their cells doesn't matter
+align_apart : (config : SpannedConfig) (style : Style) (alignments : Changes AlignmentHorizontal) → KeepsApart (with_style config style)
+    → KeepsApart (with_style (record config { alignment_horizontal = alignments }) style)
+unfolding style_at rule_at
+align_apart config style alignments h rows count =
+    let a = h rows count in
+    record {
+      margin_top = a.margin_top;
+      margin_bottom = a.margin_bottom;
+      rules = a.rules;
+      cells = λ row b.
+          let c = a.cells row b in
+          record {
+            styles = λ column k. let s = c.styles column k in record { left = s.left; right = s.right; top = s.top; bottom = s.bottom };
+            bars = c.bars;
+            gaps = c.gaps;
+          };
+      frame = a.frame;
+    }
+
+aligned_apart : (column : ℕ) (numbers : List ℕ) (config : SpannedConfig) (style : Style) → KeepsApart (with_style config style)
+    → KeepsApart (with_style (with_alignments column numbers config) style)
+aligned_apart column [] config style h = h
+aligned_apart column (number ∷ numbers) config style h =
+    let changed = with_change config.alignment_horizontal (Column column) (alignment_numbered number) in
+    aligned_apart (suc column) numbers (record config { alignment_horizontal = changed }) style (align_apart config style changed h)
+
+named_apart : (name : StyleName) (header : Bool) → KeepsApart (with_style new_config (headed header (style_of name)))
+named_apart Ascii = ascii_apart
+named_apart Modern = modern_apart
+named_apart Sharp = sharp_apart
+named_apart Rounded = rounded_apart
+named_apart ModernRounded = modern_rounded_apart
+named_apart AsciiRounded = ascii_rounded_apart
+named_apart Extended = extended_apart
+named_apart Markdown = markdown_apart
+named_apart Psql = psql_apart
+named_apart ReStructuredText = re_structured_text_apart
+named_apart Blank = blank_apart
+named_apart Empty = empty_apart
+
+pub styles_apart : (name : StyleName) (header : Bool) (alignments : List ℕ) → KeepsApart (settings name header alignments)
+styles_apart name header alignments = aligned_apart 0 alignments new_config (headed header (style_of name)) (named_apart name header)

@@ -1,3 +1,5 @@
 pub mod ReturnsText
 pub mod Asked
+pub mod Cells
+pub mod Sends
 pub mod Printed

@@ -1,15 +1,18 @@
 -- What a caller gets: a number, and a filled buffer.
 use Rattle.std.specs.Prelude.{◌≡◌, ◌⊎◌, ℕ, ℤ, pos, negsuc, List, ◌++◌, length, drop, nat_le, if◌then◌else◌}
 use Rattle.tabled_c.specs.declared.error_code.ErrorCode.{ErrorCode}
-use Rattle.tabled_c.specs.declared.error_code.ErrorCode.TheVariants.{Memory, Range, NoText, NoStyle, NoPlan}
+use Rattle.tabled_c.specs.declared.error_code.ErrorCode.TheVariants.{Memory, Range, NoText, NoStyle, NoPlan, Ends, Counts, NoAlignment}
 
--- -1 to -5
+-- -1 to -8
 abbrev pub code_of : ErrorCode → ℤ
 code_of Memory = negsuc 0
 code_of Range = negsuc 1
 code_of NoText = negsuc 2
 code_of NoStyle = negsuc 3
 code_of NoPlan = negsuc 4
+code_of Ends = negsuc 5
+code_of Counts = negsuc 6
+code_of NoAlignment = negsuc 7
 
 -- a buffer after a text was put into it: the text, and then the old bytes; unchanged if it is too
 -- small

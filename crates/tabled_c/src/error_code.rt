@@ -10,10 +10,16 @@ pub(crate) enum ErrorCode {
     Range,
     /// The text is not UTF-8.
     NoText,
-    /// No style has the name.
+    /// No style has the number.
     NoStyle,
     /// No plan has these numbers.
     NoPlan,
+    /// The ends of cells are not in order, not within the text, or within a character.
+    Ends,
+    /// The counts of rows, columns, cells and alignments don't go together.
+    Counts,
+    /// No alignment has the number.
+    NoAlignment,
 }
 
 impl ErrorCode {
@@ -27,6 +33,9 @@ impl ErrorCode {
             ErrorCode::NoText => -3,
             ErrorCode::NoStyle => -4,
             ErrorCode::NoPlan => -5,
+            ErrorCode::Ends => -6,
+            ErrorCode::Counts => -7,
+            ErrorCode::NoAlignment => -8,
         }
     }
 }

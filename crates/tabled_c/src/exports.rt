@@ -1,16 +1,17 @@
 //! The exported functions. A slice is a pointer and a length.
-ghost use Rattle.std.specs.Prelude.{◌<◌};
+ghost use Rattle.std.specs.Prelude.{◌<◌, MatchResult, string_bytes};
 ghost use Rattle.tabled_text.specs.Cut.{NeedsFill};
-ghost use Rattle.tabled_c.specs.ReturnsText.{ReturnsText, IsPut};
-ghost use Rattle.tabled_c.specs.Printed.{IsCutText, IsMeasured, IsTable, IsTableCause, IsTextCause};
-ghost use Rattle.tabled_c.specs.Printed.{IsWrappedText};
+ghost use Rattle.tabled_c.specs.ReturnsText.{IsFailure, IsPut, ReturnsText};
+ghost use Rattle.tabled_c.specs.Printed.{IsCellsCause, IsCellsTable, IsCutText, IsMeasured};
+ghost use Rattle.tabled_c.specs.Printed.{IsTextCause, IsTextTable, IsTextTableCause, IsWrappedText};
 
-use crate::arguments::{plan_of, style_named};
+use crate::cells::PackedCells;
 use crate::error_code::ErrorCode;
+use crate::formatting::{cells_table, text_table};
+use crate::layout::Layout;
 use simdutf8::compat::from_utf8;
 use std::alloc::Global;
 use tabled::grid::util::string::{cut_str, text_width, wrap_text};
-use tabled::{TableError, render_styled};
 
 /// Copies a text into a buffer, unless the buffer is too small. Returns the number of bytes needed.
 fn put(text: &str, buffer: &mut [u8]) -> isize
@@ -23,48 +24,52 @@ fn put(text: &str, buffer: &mut [u8]) -> isize
     bytes.len() as isize
 }
 
-/// Prints tab-separated rows as a table into `buffer`. Returns the number of bytes needed, or an
-/// error code below 0. If `buffer` is too small, nothing is written.
-///
-/// - `style`: `ascii`, `modern`, `extended`, `markdown`, `psql` or `empty`.
-/// - `kind`: 0 prints the table as it is. Wider tables are fitted into `columns`: 1 wraps their
-///   cells, 2 wraps them between words, 3 truncates them.
-/// - `order`: which columns shrink first: 0 each in turn, 1 the narrowest, 2 the widest, 3 from the
-///   left, 4 from the right. Must be valid for kind 0, too.
+/// Copies a text into a buffer, as `put` does, or returns the number of an error.
+fn put_or_fail(made: Result<String, ErrorCode>, buffer: &mut [u8]) -> isize
+    ensures { MatchResult made
+        (λ text. IsPut (string_bytes text) buffer.old result buffer.new)
+        (λ error. IsFailure error buffer.old result buffer.new) }
+{
+    match made {
+        Ok(text) => put(text.as_str(), buffer),
+        Err(error) => error.code(),
+    }
+}
+
+/// Formats a table of cells into `buffer`. Returns the number of bytes needed, or an error code
+/// below 0. If `buffer` is too small, nothing is written.
 #[unsafe(no_mangle)]
-pub extern "C" fn fanlightnard_print(
+pub extern "C" fn fanlightnard_core_cells(
     alloc: Global,
-    text: &[u8],
-    style: &[u8],
-    kind: u32,
-    order: u32,
-    columns: usize,
+    cells: &PackedCells<'_>,
+    layout: &Layout<'_>,
     buffer: &mut [u8],
 ) -> isize
-    ensures { ReturnsText (IsTable text.now style.now kind order columns)
-        (IsTableCause text.now style.now kind order columns)
+    ensures { ReturnsText (IsCellsTable cells.now layout.now) (IsCellsCause cells.now layout.now)
         buffer.old result buffer.new }
 {
-    let Some(style) = style_named(style) else {
-        return ErrorCode::NoStyle.code();
-    };
-    let Some(plan) = plan_of(kind, order, columns) else {
-        return ErrorCode::NoPlan.code();
-    };
-    let Ok(text) = from_utf8(text) else {
-        return ErrorCode::NoText.code();
-    };
-    let mut out = String::new(alloc);
-    match render_styled(alloc, text, style, plan, &mut out) {
-        Ok(()) => put(out.as_str(), buffer),
-        Err(TableError::Range) => ErrorCode::Range.code(),
-        Err(_) => ErrorCode::Memory.code(),
-    }
+    put_or_fail(cells_table(alloc, cells, layout), buffer)
+}
+
+/// Formats tab-separated rows as a table into `buffer`. Returns the number of bytes needed, or an
+/// error code below 0. If `buffer` is too small, nothing is written. Alignments of columns that the
+/// rows lack are allowed.
+#[unsafe(no_mangle)]
+pub extern "C" fn fanlightnard_core_text(
+    alloc: Global,
+    text: &[u8],
+    layout: &Layout<'_>,
+    buffer: &mut [u8],
+) -> isize
+    ensures { ReturnsText (IsTextTable text.now layout.now) (IsTextTableCause text.now layout.now)
+        buffer.old result buffer.new }
+{
+    put_or_fail(text_table(alloc, text, layout), buffer)
 }
 
 /// Returns the width of a text in columns, or an error code below 0. The widest line counts.
 #[unsafe(no_mangle)]
-pub extern "C" fn fanlightnard_measure(text: &[u8]) -> isize
+pub extern "C" fn fanlightnard_core_measure(text: &[u8]) -> isize
     ensures { IsMeasured text.now result }
 {
     let Ok(text) = from_utf8(text) else {
@@ -77,10 +82,10 @@ pub extern "C" fn fanlightnard_measure(text: &[u8]) -> isize
     columns as isize
 }
 
-/// Cuts a text to `columns` and writes it to `buffer`. Returns the number of bytes needed, or an
-/// error code below 0. If `buffer` is too small, nothing is written.
+/// Truncates a text to `columns` and writes it to `buffer`. Returns the number of bytes needed, or
+/// an error code below 0. If `buffer` is too small, nothing is written.
 #[unsafe(no_mangle)]
-pub extern "C" fn fanlightnard_cut(
+pub extern "C" fn fanlightnard_core_truncate(
     alloc: Global,
     text: &[u8],
     columns: usize,
@@ -103,7 +108,7 @@ pub extern "C" fn fanlightnard_cut(
 ///
 /// - `words`: wrap between words where possible.
 #[unsafe(no_mangle)]
-pub extern "C" fn fanlightnard_wrap(
+pub extern "C" fn fanlightnard_core_wrap(
     alloc: Global,
     text: &[u8],
     columns: usize,

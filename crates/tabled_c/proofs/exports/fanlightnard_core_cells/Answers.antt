@@ -1,0 +1,14 @@
+use Rattle.std.proofs.Common.{arith, of_z, rules, subst, sym, to_z, w64, ℤ, ◌≡◌}
+use Rattle.std.proofs.lemmas.Int.{ints, to_z-of_z}
+use Rattle.tabled_c.specs.Printed.{IsCellsCause, IsCellsTable}
+use Rattle.tabled_c.specs.ReturnsText.{ReturnsText}
+use Rattle.tabled_c.proofs.Returning.{returns_made}
+use Rattle.tabled_c.proofs.exports.fanlightnard_core_cells.Goals as goal
+
+pub returns : goal.returns
+returns c =
+    let asked = IsCellsTable c.args.cells.now c.args.layout.now in
+    let cause = IsCellsCause c.args.cells.now c.args.layout.now in
+    let same : to_z w64 (of_z w64 c.put_or_fail.result) ≡ c.put_or_fail.result = first_of (search rules, grind (arith, ints, to_z-of_z)) in
+    subst (λ (answer : ℤ). ReturnsText asked cause c.args.buffer.now answer c.put_or_fail.new.buffer) (sym same)
+    (returns_made asked cause c.cells_table.result c.args.buffer.now c.put_or_fail.result c.put_or_fail.new.buffer c.cells_table.ensures.ok c.cells_table.ensures.err c.put_or_fail.ensures)
