@@ -235,6 +235,8 @@ static void errors(void) {
     options.align = align;
     options.align_len = 2;
     fails(FANLIGHTNARD_NO_ALIGN, &good, &options);
+    const uint8_t three[] = {FANLIGHTNARD_LEFT, FANLIGHTNARD_LEFT, FANLIGHTNARD_LEFT};
+    options.align = three;
     options.align_len = 3;
     fails(FANLIGHTNARD_BAD_COUNTS, &good, &options);
     options.align = NULL;

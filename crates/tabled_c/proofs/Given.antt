@@ -1,5 +1,5 @@
 -- What is given of a table that was asked for, by what printing it leaves.
-use Rattle.tabled_c.proofs.Names.{IsAsked, IsTable, Some, Style, StyleName, new_config, refl, style_of, subst, true, with_style, ℕ, ◌≡◌}
+use Rattle.tabled_c.proofs.Names.{IsTable, Some, Style, new_config, refl, subst, true, with_style, ℕ, ◌≡◌}
 use Rattle.std.proofs.Common.{◌∙◌, List, [], ◌++◌, Err, Ok, Result, ap, ⊎_elim, String, Global, string_bytes}
 use Rattle.std.specs.Prelude.{IfErr, IfOk}
 use Rattle.std.specs.Str.{IsUtf8}
@@ -15,10 +15,10 @@ use Rattle.tabled.specs.declared.arguments.Plan.TheVariants.{Buffered, Streamed,
 use Rattle.tabled.specs.Headline.{IsBestOf}
 use Rattle.tabled.specs.Planned.{Cells, IsPlannedOf, measured}
 use Rattle.tabled.specs.Rendered.{IsRenderedOf, PassesRange, SendsTable}
-use Rattle.tabled_c.specs.Asked.{Asks, headed, with_alignments}
+use Rattle.tabled_c.specs.Asked.{Asks, with_alignments}
 use Rattle.tabled_c.specs.Cells.{IsTextsCause}
 use Rattle.tabled_c.specs.Printed.{AreCells, IsCellsCause, IsCellsTable, IsLayoutCause, IsRead, IsTableCause, IsTextTable, IsTextTableCause, cells_of, whole_table}
-use Rattle.tabled_c.specs.Sends.{HasPrinted, HasPassedRange, IsPrintCause, IsPrintedAs}
+use Rattle.tabled_c.specs.Sends.{HasPrinted, IsPrintCause, IsPrintedAs}
 use Rattle.tabled_c.specs.declared.error_code.ErrorCode.{ErrorCode}
 use Rattle.tabled_c.specs.declared.cells.PackedCells.{PackedCells}
 use Rattle.tabled_c.specs.declared.error_code.ErrorCode.TheVariants.{Memory, Range, NoText, NoStyle, NoPlan, Ends, Counts, NoAlignment}

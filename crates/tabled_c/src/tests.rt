@@ -55,8 +55,8 @@ fn aligns_columns(rt: HostRuntime) {
     let layout = rounded(&[0, 1], b"");
     let count = fanlightnard_core_cells(rt.alloc(), &cells, &layout, &mut buffer);
     assert_eq!(rt; count, PICTURE.len() as isize);
-    assert_eq!(rt; &buffer[..PICTURE.len()], PICTURE.as_bytes());
-    assert_eq!(rt; buffer[PICTURE.len()], b'#');
+    assert!(rt; buffer.starts_with(PICTURE.as_bytes()));
+    assert_eq!(rt; buffer.get(PICTURE.len()).copied(), Some(b'#'));
 }
 
 #[test]
@@ -71,7 +71,7 @@ fn shows_cells_without_values(rt: HostRuntime) {
     let layout = rounded(&[], b"n/a");
     let count = fanlightnard_core_cells(rt.alloc(), &cells, &layout, &mut buffer);
     assert_eq!(rt; count, WITHOUT_VALUES.len() as isize);
-    assert_eq!(rt; &buffer[..WITHOUT_VALUES.len()], WITHOUT_VALUES.as_bytes());
+    assert!(rt; buffer.starts_with(WITHOUT_VALUES.as_bytes()));
 }
 
 #[test]
@@ -93,7 +93,7 @@ fn fits_without_a_header(rt: HostRuntime) {
     };
     let count = fanlightnard_core_cells(rt.alloc(), &cells, &layout, &mut buffer);
     assert_eq!(rt; count, FITTED.len() as isize);
-    assert_eq!(rt; &buffer[..FITTED.len()], FITTED.as_bytes());
+    assert!(rt; buffer.starts_with(FITTED.as_bytes()));
     let rows = b"Name\tNote\nAda\tfirst program\n";
     let mut other = [b'#'; 400];
     let count = fanlightnard_core_text(rt.alloc(), rows, &layout, &mut other);

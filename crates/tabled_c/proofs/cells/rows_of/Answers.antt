@@ -1,4 +1,4 @@
-use Rattle.std.proofs.Common.{arith, map, length, take, drop, ◌-◌, ◌+◌, ◌≡◌, ◌++◌, ◌∷◌, ◌≤◌, min, [], ap, sym, ◌∙◌}
+use Rattle.std.proofs.Common.{arith, map, length, take, drop, ◌-◌, ◌+◌, ◌≡◌, ◌++◌, min, ap, sym, ◌∙◌}
 use Rattle.tabled_base.specs.Cells.{row_texts}
 use Rattle.tabled_c.specs.Cells.{in_rows}
 use Rattle.tabled_c.proofs.CellEnds.{now, rows_more, rows_pushed}

@@ -1,6 +1,5 @@
 use Rattle.std.proofs.Common.{refl}
 use Rattle.std.proofs.lemmas.Str.{IsCharBoundary-start}
-use Rattle.tabled_c.proofs.CellEnds.{pushed, later_ends, earlier_ends}
 use Rattle.tabled_c.proofs.cells.texts_at.Goals as goal
 
 pub ends-init : goal.ends-init

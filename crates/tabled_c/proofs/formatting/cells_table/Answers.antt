@@ -1,4 +1,4 @@
-use Rattle.std.proofs.Common.{Bor, List, ap, arith, length, map, rules, subst, sym, ◌*◌, ◌∙◌, ◌≡◌, ℕ}
+use Rattle.std.proofs.Common.{ap, arith, length, map, rules, subst, sym, ◌∙◌, ◌≡◌}
 use Rattle.std.specs.List.{All}
 use Rattle.std.specs.Str.{IsUtf8}
 use Rattle.std.proofs.lemmas.Grind.{common_steps}

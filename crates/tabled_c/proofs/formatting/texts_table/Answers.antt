@@ -1,9 +1,9 @@
-use Rattle.std.proofs.Common.{ap, subst, sym, ◌∙◌, ◌≡◌, ◌*◌, length, map, string_bytes}
+use Rattle.std.proofs.Common.{subst, sym, ◌∙◌, ◌≡◌, ◌*◌, length, map, string_bytes}
 use Rattle.std.specs.Prelude.{IfErr, IfOk}
 use Rattle.std.proofs.lemmas.List.{length-map}
 use Rattle.tabled_base.specs.Cells.{IsRectangular}
 use Rattle.tabled_config.specs.Options.{with_style}
-use Rattle.tabled_size.specs.Sheet.{Sheet, estimated}
+use Rattle.tabled_size.specs.Sheet.{Sheet}
 use Rattle.tabled_size.specs.TextCells.{AreTexts}
 use Rattle.tabled_table.specs.NewConfig.{new_config}
 use Rattle.tabled_c.specs.Asked.{with_alignments}
