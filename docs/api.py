@@ -26,8 +26,9 @@ HEAD = """# API
 
 Each public module of `tabled` with its items, as `docs/api.py` finds them. Signatures are without
 their clauses: what a call promises is in its source, behind the link, and in words in
-[what is proved](PROVED.md). Calls that return a `Result` with `TableError` or `AllocError` allocate;
-the error `Memory` says that this failed. A type has a link to an example that the gate runs.
+[what is proved](PROVED.md). Calls that return a `Result` with `TableError` or `AllocError`
+allocate; the error `Memory` says that this failed. A type has a link to an example that the gate
+runs.
 """
 
 # Types that programs seldom name, each with a call that makes one.
@@ -148,7 +149,8 @@ def signature(lines, at):
         told.append(short)
         if short.endswith((" {", ";")):
             break
-    text = re.sub(r"\s+", " ", " ".join(told)).replace("( ", "(").replace(", )", ")").replace(",)", ")")
+    text = re.sub(r"\s+", " ", " ".join(told))
+    text = text.replace("( ", "(").replace(", )", ")").replace(",)", ")")
     text = re.sub(r",?\s+>", ">", re.sub(r"<\s+", "<", text))
     text = re.sub(r"^pub ", "", text).rstrip("{; ").strip()
     return re.sub(r" = .*", "", text) if text.startswith("const ") else text
@@ -208,10 +210,10 @@ def sentence_at(lines, file, at):
 
 
 def entries(crate, module, path, name):
-    """The entries of an item, with a link to its file, and of its methods, in whichever files of its crate they are."""
+    """The entries of an item, with a link to its file, and of its methods, in all of its crate."""
     lines, file, at = found_at(crate, module, path, name)
     kind = ITEM.match(lines[at])[1]
-    example = f" Example: {example_of(name)}." if kind in ("struct", "enum", "trait", "type") else ""
+    example = "" if kind in ("const", "fn") else f" Example: {example_of(name)}."
     where = file.relative_to(TOP)
     yield f"- [`{signature(lines, at)}`](../{where}): {sentence_at(lines, file, at)}{example}"
     if kind == "trait":
@@ -228,7 +230,7 @@ def entries(crate, module, path, name):
 
 
 def modules():
-    """The public modules of crates/tabled, each with the sentence above it and what it re-exports."""
+    """The public modules of crates/tabled, each with its sentence and what it re-exports."""
     lines = (CRATES / "tabled/src/lib.rt").read_text().split("\n")
     stack = []
     found = {"tabled": ("The names that most programs use.", [])}
@@ -265,8 +267,8 @@ def page():
 
 def main():
     if "--names" in sys.argv:
-        found = {name for module, (_, items) in modules().items() if module != "tabled::laws" for _, name in items}
-        print("\n".join(sorted(found)))
+        shown = [items for module, (_, items) in modules().items() if module != "tabled::laws"]
+        print("\n".join(sorted({name for items in shown for _, name in items})))
         return
     made = page()
     if lost:

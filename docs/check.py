@@ -1,8 +1,8 @@
 #!/usr/bin/env python3
 """Checks what can be checked of the pages and the doc comments without a proof, in seconds.
 
-- docs/gallery.py and docs/api.py would write the pages that stand, and the examples of the pages are
-  run by the gate.
+- docs/gallery.py and docs/api.py would write their pages as they are, and the gate runs the examples
+  of the pages.
 - Each link of a page leads to a file, or to a heading of one. Each file that a page names in
   backticks exists.
 - No page is longer than its limit, and no line of a page or a source is wider than its limit.
@@ -93,8 +93,9 @@ def tell(path, number, what):
 
 def tracked(*patterns):
     """The files of these patterns that git tracks, or would."""
-    words = ["git", "-C", TOP, "ls-files", "-z", "--cached", "--others", "--exclude-standard", *patterns]
-    names = subprocess.run(words, capture_output=True, text=True, check=True).stdout.split("\0")
+    command = ["git", "-C", TOP, "ls-files", "-z", "--cached", "--others", "--exclude-standard"]
+    listed = subprocess.run([*command, *patterns], capture_output=True, text=True, check=True)
+    names = listed.stdout.split("\0")
     return [TOP / it for it in sorted(set(names)) if it and (TOP / it).is_file()]
 
 
@@ -121,7 +122,7 @@ def anchors(path):
 
 
 def check_names():
-    """Each public name outside of `laws` is one of the crate's, or a page of differences names it."""
+    """Each public name except those of `laws` is the crate's, or is in the page of differences."""
     words = [sys.executable, TOP / "docs/api.py", "--names"]
     names = subprocess.run(words, capture_output=True, text=True, check=True).stdout.split()
     page = TOP / "docs/DIFFERENCES.md"
@@ -144,12 +145,22 @@ def check_links(path):
                 tell(path, number, f"{target}: no such heading")
 
 
+def is_source(name):
+    """Whether a name such as `tabled_line/placement` or `tabled_line/specs/Row` is that of a source."""
+    crate, _, rest = name.partition("/")
+    paths = (f"src/{rest}.rt", f"src/{rest}", f"{rest}.antt", rest)
+    return any((TOP / "crates" / crate / it).exists() for it in paths)
+
+
 def check_files(path):
     """Files that are named in backticks, from the top. NAME is any name; out/ has what is built."""
     for number, line in prose(path):
         for name in re.findall(r"`((?:crates|docs|bench|bindings|include|data)/[\w./-]+)`", line):
             if "/out/" not in name and "NAME" not in name and not (TOP / name.rstrip("/")).exists():
                 tell(path, number, f"{name} doesn't exist")
+        for name in re.findall(r"`((?:tabled|test)_?\w*/[\w./]+)`", line):
+            if not is_source(name):
+                tell(path, number, f"{name} is no source")
 
 
 def check_lines(path):
@@ -216,7 +227,8 @@ def check_counts():
 
 def main():
     for script in ("gallery.py", "api.py"):
-        ran = subprocess.run([sys.executable, TOP / "docs" / script, "--check"], capture_output=True, text=True)
+        command = [sys.executable, TOP / "docs" / script, "--check"]
+        ran = subprocess.run(command, capture_output=True, text=True)
         if ran.returncode:
             found.append((ran.stdout + ran.stderr).strip())
     check_names()

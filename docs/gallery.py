@@ -4,8 +4,8 @@ crates/docs_gallery.
 
 With --check it writes nothing, and fails if
 - the page isn't what would be written,
-- an example of the README, of a page of TOLD or of a module of crates/tabled isn't among the lines of
-  the programs that the gate runs, or imports what none of them imports,
+- an example of a page of SHOWN isn't among the lines of the programs that the gate runs, or imports
+  what none of them imports,
 - a picture that follows an example isn't among what these programs print,
 - a public module of crates/tabled has no example.
 """
@@ -19,8 +19,9 @@ TOP = pathlib.Path(__file__).resolve().parent.parent
 PAGES = TOP / "crates/docs_gallery_pages/src"
 GALLERY = TOP / "docs/GALLERY.md"
 
-# What is compared with what is run: the programs with a stored output, and the library below the gallery.
-TOLD = ["README.md", "docs/GUIDE.md", "docs/FROM_TABLED.md", "crates/tabled/src/lib.rt"]
+# The pages whose examples are compared with what is run: the programs that have a recorded output, and
+# the library below the gallery.
+SHOWN = ["README.md", "docs/GUIDE.md", "docs/FROM_TABLED.md", "crates/tabled/src/lib.rt"]
 
 # The modules of which the page has a part, in its order.
 PARTS = [
@@ -141,11 +142,11 @@ def used(lines, found):
     for name, path in found.items():
         if re.search(rf"\b{name}\b", text) or METHODS.get(name, "\0") in text:
             by_path.setdefault(path, []).append(name)
-    told = []
+    lines = []
     for path, names in sorted(by_path.items()):
         listed = names[0] if len(names) == 1 else "{" + ", ".join(sorted(names)) + "}"
-        told.append(f"use {path}::{listed};")
-    return [*told, ""] if told else []
+        lines.append(f"use {path}::{listed};")
+    return [*lines, ""] if lines else []
 
 
 def heading(name):
@@ -214,7 +215,7 @@ def anchor(title, seen):
 
 
 def anchors():
-    """Each part, with its title and its anchor, and its pictures: the heading, the anchor, the code."""
+    """Each part: its title, anchor and source, and the heading, anchor and code of its pictures."""
     seen = {"gallery": 0, "the-rows": 0}
     for module in PARTS:
         title = said(module)[0]
@@ -259,7 +260,7 @@ def page():
 
 
 def blocks(path):
-    """The fenced blocks of a page, or of the documentation of a module: the line, the kind, the lines."""
+    """The fenced blocks of a page, or of doc comments: the line, the kind, the lines."""
     kind = None
     for number, line in enumerate(path.read_text().splitlines(), 1):
         if path.suffix == ".rt":
@@ -277,7 +278,7 @@ def blocks(path):
 
 
 def without_imports(lines):
-    """An example without the imports that it begins with, since those of a file are told together."""
+    """An example without its first imports: a file has those of all of its examples."""
     while lines and (not lines[0] or lines[0].startswith("use ")):
         lines = lines[1:]
     return lines
@@ -301,7 +302,7 @@ def stand_in(lines, texts):
 
 
 def spans(path):
-    """What stands between backticks in the last column of a page's tables: the line, and the text."""
+    """What is in backticks in the last column of a page's tables: the line, and the text."""
     for number, line in enumerate(path.read_text().splitlines(), 1):
         if line.startswith("| ") and not line.endswith("here |"):
             for span in re.findall(r"`([^`]+)`", line.strip("| ").rpartition(" | ")[2]):
@@ -349,7 +350,7 @@ def check():
         if not any(span in text for text in joined):
             missing.append(f"docs/FROM_TABLED.md:{number}: {span} is not run")
     count = 0
-    for name in TOLD:
+    for name in SHOWN:
         wrong, examples = check_examples(name, code, known, printed)
         missing += wrong
         count += examples
