@@ -183,8 +183,8 @@ def trait_methods(lines, at):
 def examples():
     """Texts that the gate runs, each with a link and its name: pictures, programs, then tests."""
     found = list(gallery.examples())
-    for kind in ("docs", "example", "tabview", "tabprint", "test"):
-        for file in sorted(CRATES.glob(f"{kind}_*/src/**/*.rt")):
+    for crates in ("docs_*", "example_*", "tabview*", "tabprint", "test_*", "tabled_c"):
+        for file in sorted(CRATES.glob(f"{crates}/src/**/*.rt")):
             text = gallery.without_uses(file.read_text())
             name = f"{file.parent.parent.name}/{file.name}"
             found.append((text, f"../{file.relative_to(TOP)}", name))
