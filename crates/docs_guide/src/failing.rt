@@ -1,27 +1,41 @@
-//! A stream that may fail: lines of a text, of which one may be bad.
+//! A stream that may fail: rows of a source that breaks off.
 
 use std::alloc::Global;
+use std::vec::IntoIter;
 use tabled::TableError;
 use tabled::iter::TryRows;
 use tabled::tables::IterTable;
 
-/// A row of a line `name=value`. Any other line is an error.
-fn pair_of(line: &str) -> Result<[&str; 2], &str> {
-    match line.split_once('=') {
-        Some((name, value)) => Ok([name, value]),
-        None => Err(line),
+/// A row, or why it couldn't be read.
+type Row = Result<[&'static str; 2], &'static str>;
+
+/// What a source gives that breaks off.
+pub const RESULTS: [Row; 3] = [
+    Ok(["Rome", "2746984"]),
+    Err("connection lost"),
+    Ok(["Oslo", "717710"]),
+];
+
+/// Rows up to the first error.
+fn rows(
+    alloc: Global,
+    results: &[Row],
+) -> Result<TryRows<IntoIter<Row>, &'static str>, TableError> {
+    let mut copied = Vec::new(alloc);
+    for row in results {
+        copied.push(*row)?;
     }
+    Ok(TryRows::new(copied.into_iter()))
 }
 
-/// Prints the lines before the first bad one, and then that one.
-pub fn pairs(alloc: Global, text: &str) -> Result<String, TableError> {
+/// Prints the rows before the first error, and then the error.
+pub fn printed(alloc: Global, results: &[Row]) -> Result<String, TableError> {
     let mut out = String::new(alloc);
-    let rows = text.lines().map(pair_of);
-    let table = IterTable::new(TryRows::new(rows));
+    let table = IterTable::new(rows(alloc, results)?);
     let (printed, read) = table.try_fmt(alloc, &mut out);
     printed?;
-    if let Err(line) = read {
-        write!(out, "\nnot a pair: {line}")?;
+    if let Err(error) = read {
+        write!(out, "\n{error}")?;
     }
     Ok(out)
 }
