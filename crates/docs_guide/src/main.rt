@@ -12,7 +12,8 @@ use anyhow::Result;
 fn main(rt: HostRuntime) -> Result<()> {
     let alloc = rt.alloc();
     println!(rt; "{}\n", cities::cities(alloc)?)?;
-    println!(rt; "{}\n", failing::printed(alloc, &failing::RESULTS)?)?;
+    let pairs = "Rome=2746984\nParis\nOslo=717710";
+    println!(rt; "{}\n", failing::printed(alloc, pairs)?)?;
     println!(rt; "{}\n", disk::printed(alloc)?)?;
     println!(rt; "{}\n", column_first::narrowed(alloc)?)?;
     println!(rt; "{}", numbers_last::narrowed(alloc)?)?;
