@@ -1,15 +1,22 @@
 #!/usr/bin/env python3
-"""Writes docs/API.md: each public module of crates/tabled and its items, with signatures and first sentences.
+"""Writes docs/API.md: each public module of crates/tabled and its items, with signatures, first
+sentences and examples.
 
-An item is found by the `pub use` lines from crates/tabled down to the file that declares it. Its signature is what stands there without
-the clauses, and its sentence is the first one of its doc comment. Methods that a type has in impls of its own are listed under it,
-those of a trait under the trait. The script fails where an item or a method has no doc comment. With --check it writes nothing, and
-fails if the page isn't what would be written. With --names it prints the public names but those of laws, a line each.
+An item is found by the `pub use` lines from crates/tabled down to the file that declares it. Its
+signature is what stands there without the clauses, and its sentence is the first one of its doc
+comment. Methods that a type has in impls of its own are listed under it, those of a trait under the
+trait. The example of a type is the first picture of the gallery, program or test that uses it; the
+gate runs all of these. The script fails where an item or a method has no doc comment, or a type no
+example. With --check it writes nothing, and fails if the page isn't what would be written. With
+--names it prints the public names except those of laws, a line each.
 """
 
+import functools
 import pathlib
 import re
 import sys
+
+import gallery
 
 TOP = pathlib.Path(__file__).resolve().parent.parent
 CRATES = TOP / "crates"
@@ -17,13 +24,53 @@ PAGE = TOP / "docs/API.md"
 
 HEAD = """# API
 
-Each public module of `tabled` with its items, as `docs/api.py` finds them. A signature stands without its clauses: what a call
-promises is in its source, behind the link, and in [what is proved](PROVED.md) in words. Calls that return a `Result` with
-`TableError` or `AllocError` allocate; the error `Memory` says that this failed.
+Each public module of `tabled` with its items, as `docs/api.py` finds them. Signatures are without
+their clauses: what a call promises is in its source, behind the link, and in words in
+[what is proved](PROVED.md). Calls that return a `Result` with `TableError` or `AllocError`
+allocate; the error `Memory` says that this failed. A type has a link to an example that the gate
+runs.
 """
 
-# Where an item or a method has no doc comment.
+# Types that programs seldom name, each with a call that makes one.
+MADE = {
+    "CellHeightIncrease": "Height::increase(",
+    "CellHeightLimit": "Height::limit(",
+    "CellStyle": ".style_at(",
+    "ColoredConfig": ".get_config_mut()",
+    "CompleteDimension": ".get_dimension_mut()",
+    "CutCell": "cell.text(alloc)",
+    "Dimension": ".has_width(",
+    "Estimate": ".estimate(",
+    "ExactRecords": ".count_rows()",
+    "HeightList": "Height::list(",
+    "JoinedRecords": ".finish()",
+    "LentRows": "text_rows(",
+    "LinedStyle": ".horizontals(",
+    "MinWidth": "Width::increase(",
+    "ModifyBy": "Modify::new(",
+    "NarrowedRows": ".narrowed(",
+    "PriorityLeft": "Priority::left(",
+    "PriorityMax": "Priority::max(",
+    "PriorityMin": "Priority::min(",
+    "PriorityNone": "Priority::none(",
+    "PriorityRight": "Priority::right(",
+    "RecordTemplate": "ExtendedTable::from_rows(",
+    "RecordsMut": "records.set(",
+    "TableHeightIncrease": "Height::increase(",
+    "TableHeightLimit": "Height::limit(",
+    "TextLines": " lines(",
+    "Truncate": "Width::truncate(",
+    "Union": ".and(",
+    "VecRecords": ".as_rows()",
+    "WidthList": "Width::list(",
+    "WordWrap": ".drop_spaces()",
+    "Wrap": "Width::wrap(",
+    "ZeroDimension": "CompactTable::new(",
+}
+
+# Where an item or a method has no doc comment, and the types that have no example.
 lost = []
+unused = []
 
 ITEM = re.compile(r"^pub (struct|enum|trait|type|const|fn) (\w+)")
 CLAUSE = re.compile(r"^(requires|ensures|ghost)\b")
@@ -102,7 +149,8 @@ def signature(lines, at):
         told.append(short)
         if short.endswith((" {", ";")):
             break
-    text = re.sub(r"\s+", " ", " ".join(told)).replace("( ", "(").replace(", )", ")").replace(",)", ")")
+    text = re.sub(r"\s+", " ", " ".join(told))
+    text = text.replace("( ", "(").replace(", )", ")").replace(",)", ")")
     text = re.sub(r",?\s+>", ">", re.sub(r"<\s+", "<", text))
     text = re.sub(r"^pub ", "", text).rstrip("{; ").strip()
     return re.sub(r" = .*", "", text) if text.startswith("const ") else text
@@ -131,6 +179,28 @@ def trait_methods(lines, at):
             yield below
 
 
+@functools.cache
+def examples():
+    """Texts that the gate runs, each with a link and its name: pictures, programs, then tests."""
+    found = list(gallery.examples())
+    for crates in ("docs_*", "example_*", "tabview*", "tabprint", "test_*", "tabled_c"):
+        for file in sorted(CRATES.glob(f"{crates}/src/**/*.rt")):
+            text = gallery.without_uses(file.read_text())
+            name = f"{file.parent.parent.name}/{file.name}"
+            found.append((text, f"../{file.relative_to(TOP)}", name))
+    return found
+
+
+def example_of(name):
+    """A link to an example of a type, which its name or a call shows. One without is noted."""
+    wanted = re.compile(rf"\b{name}\b|" + re.escape(MADE.get(name, "\0")))
+    for text, link, title in examples():
+        if wanted.search(text):
+            return f"[{title}]({link})"
+    unused.append(name)
+    return ""
+
+
 def sentence_at(lines, file, at):
     """The sentence of an item or a method. One that has none is noted."""
     sentence = doc_above(lines, at)
@@ -140,10 +210,13 @@ def sentence_at(lines, file, at):
 
 
 def entries(crate, module, path, name):
-    """The entries of an item, with a link to its file, and of its methods, in whichever files of its crate they are."""
+    """The entries of an item, with a link to its file, and of its methods, in all of its crate."""
     lines, file, at = found_at(crate, module, path, name)
-    yield f"- [`{signature(lines, at)}`](../{file.relative_to(TOP)}): {sentence_at(lines, file, at)}"
-    if ITEM.match(lines[at])[1] == "trait":
+    kind = ITEM.match(lines[at])[1]
+    example = "" if kind in ("const", "fn") else f" Example: {example_of(name)}."
+    where = file.relative_to(TOP)
+    yield f"- [`{signature(lines, at)}`](../{where}): {sentence_at(lines, file, at)}{example}"
+    if kind == "trait":
         places = [(lines, file, below) for below in trait_methods(lines, at)]
     else:
         top = file
@@ -157,7 +230,7 @@ def entries(crate, module, path, name):
 
 
 def modules():
-    """The public modules of crates/tabled, each with the sentence above it and what it re-exports."""
+    """The public modules of crates/tabled, each with its sentence and what it re-exports."""
     lines = (CRATES / "tabled/src/lib.rt").read_text().split("\n")
     stack = []
     found = {"tabled": ("The names that most programs use.", [])}
@@ -194,12 +267,14 @@ def page():
 
 def main():
     if "--names" in sys.argv:
-        found = {name for module, (_, items) in modules().items() if module != "tabled::laws" for _, name in items}
-        print("\n".join(sorted(found)))
+        shown = [items for module, (_, items) in modules().items() if module != "tabled::laws"]
+        print("\n".join(sorted({name for items in shown for _, name in items})))
         return
     made = page()
     if lost:
         fail("no doc comment at " + ", ".join(lost))
+    if unused:
+        fail("no example that the gate runs has " + ", ".join(unused))
     if "--check" not in sys.argv:
         PAGE.write_text(made)
     elif not PAGE.is_file() or PAGE.read_text() != made:

@@ -1,11 +1,14 @@
 #!/usr/bin/env python3
 """Checks what can be checked of the pages and the doc comments without a proof, in seconds.
 
-- docs/gallery.py and docs/api.py would write the pages that stand, and the examples of the pages are run.
-- Each link of a page leads to a file, or to a heading of one. Each file that a page names in backticks exists.
+- docs/gallery.py and docs/api.py would write their pages as they are, and the gate runs the examples
+  of the pages.
+- Each link of a page leads to a file, or to a heading of one. Each file that a page names in
+  backticks exists.
 - No page is longer than its limit, and no line of a page or a source is wider than its limit.
 - Each public name of crates/tabled that the Rust crate lacks is in docs/DIFFERENCES.md.
-- No word of WORDS, which docs/DESIGN.md's glossary replaces, stands in a page or a doc comment.
+- The numbers of crates, programs and edits in docs/GATE.md are right.
+- No word of WORDS, for which there is a plainer one, is in a page or a doc comment.
 """
 
 import pathlib
@@ -21,29 +24,64 @@ LINES = {
     "CONTRIBUTING.md": 60,
     "docs/PROVED.md": 150,
     "docs/DESIGN.md": 150,
-    "docs/DECISIONS.md": 250,
+    "docs/DECISIONS.md": 200,
     "docs/GATE.md": 60,
     "bench/README.md": 150,
 }
 
-# The most columns of a line of a page, and of a comment. Tables, links and what a script writes may be wider.
-COLUMNS = {".md": 112, ".rt": 100}
-WRITTEN = ("docs/GALLERY.md", "docs/API.md")
+# The most columns of a line of a page, and of a comment. Tables, links, fenced blocks, and what
+# docs/api.py writes may be wider. docs/wrap.py wraps a page.
+COLUMNS = 100
+WRITTEN = ("docs/API.md",)
 
-# What a reader would have to parse twice, or what has another word here.
-WORDS = re.compile(
-    r"\bso many (?:columns|lines|bytes|rows|characters)\b|\bis told\b|\bare told\b|\ba no is\b|\brefused memory\b|\blet go\b"
-    r"|\banswers (?:the|how|yes|no|a|an|what|whether)\b|\bwant of memory\b|\bstored run\b|\bbare box\b|\bled line\b"
-    r"|\btakes memory\b|\bmakes in memory\b|\bis lent\b",
+# Words that a reader would have to parse twice, each with the one to write.
+WORDS = {
+    r"answers": "returns",
+    r"refus(?:e|es|ed|ing|al|als)": "fails, rejects, error",
+    r"takes memory|makes in memory|want of memory|growth": "allocates, allocation failure",
+    r"rooms?": "buffer, content width",
+    r"judge[ds]?": "checked",
+    r"stored run": "recorded output",
+    r"lent": "borrowed",
+    r"let go": "dropped",
+    r"so many": "n",
+    r"keeps? texts apart": "separates cells",
+    r"tells?|told": "says, known, cached",
+    r"aims?|spreads?": "placement",
+    r"spots?": "slot",
+    r"gaps?": "separator",
+    r"laid|blank row laid": "row template",
+    r"led": "with a line feed before it",
+    r"series": "dense run",
+    r"standing": "effective",
+    r"handed": "inherited, passed",
+    r"bare": "zero-width",
+    r"shorten(?:s|ed|ing)?": "truncate",
+    r"stands?": "is",
+    r"a no is": "returning false is",
+    r"but for": "except",
+    r"by itself|by themselves": "alone",
+    r"as (?:it|they) comes?": "at once",
+    r"what is set": "the settings",
+    r"beside it": "next to it",
+}
+WORD = re.compile(r"\b(?:" + "|".join(WORDS) + r")\b", re.IGNORECASE)
+
+# The same for doc comments.
+IN_SOURCES = re.compile(
+    r"\bso many (?:columns|lines|bytes|rows|characters)\b|\b(?:is|are) told\b|\ba no is\b"
+    r"|\brefused memory\b|\blet go\b|\banswers (?:the|how|yes|no|a|an|what|whether)\b|\bis lent\b"
+    r"|\bwant of memory\b|\bstored run\b|\bbare box\b|\bled line\b|\btakes memory\b",
     re.IGNORECASE,
 )
 
 # Public names that the Rust crate has too, and that no page of differences has to name.
 OF_THE_CRATE = """
-ANSIStr AlignmentHorizontal AlignmentVertical Cell Columns CompactConfig CompactMultilineConfig ConstDimension ConstSize
-DimensionPriority DimensionValue Entity ExactRecords Formatting Height HeightList Indent IntoRecords LayoutIterator LimitColumns
-LimitRows Margin Max Measurement Min MinWidth Padding Percent PoolTableDimension Position Priority PriorityLeft PriorityMax
-PriorityNone Records Rows Sides SkipRows StaticDimension SuffixLimit TableOption WidthList ZeroDimension
+ANSIStr AlignmentHorizontal AlignmentVertical Cell Columns CompactConfig CompactMultilineConfig
+ConstDimension ConstSize DimensionPriority DimensionValue Entity ExactRecords Formatting Height
+HeightList Indent IntoRecords LayoutIterator LimitColumns LimitRows Margin Max Measurement Min
+MinWidth Padding Percent PoolTableDimension Position Priority PriorityLeft PriorityMax PriorityNone
+Records Rows Sides SkipRows StaticDimension SuffixLimit TableOption WidthList ZeroDimension
 """.split()
 
 found = []
@@ -55,8 +93,9 @@ def tell(path, number, what):
 
 def tracked(*patterns):
     """The files of these patterns that git tracks, or would."""
-    words = ["git", "-C", TOP, "ls-files", "-z", "--cached", "--others", "--exclude-standard", *patterns]
-    names = subprocess.run(words, capture_output=True, text=True, check=True).stdout.split("\0")
+    command = ["git", "-C", TOP, "ls-files", "-z", "--cached", "--others", "--exclude-standard"]
+    listed = subprocess.run([*command, *patterns], capture_output=True, text=True, check=True)
+    names = listed.stdout.split("\0")
     return [TOP / it for it in sorted(set(names)) if it and (TOP / it).is_file()]
 
 
@@ -71,12 +110,19 @@ def prose(path):
 
 
 def anchors(path):
-    """The anchors of a page's headings."""
-    return {re.sub(r"[^\w\- ]", "", line.lstrip("# ").lower()).replace(" ", "-") for _, line in prose(path) if line.startswith("#")}
+    """The anchors of a page's headings. One that comes again has a number behind it."""
+    found = {}
+    for _, line in prose(path):
+        if line.startswith("#"):
+            name = re.sub(r"[^\w\- ]", "", line.lstrip("# ").lower()).replace(" ", "-")
+            count = found[name] = found.get(name, -1) + 1
+            if count:
+                found[f"{name}-{count}"] = 0
+    return found
 
 
 def check_names():
-    """Each public name outside of `laws` is one of the crate's, or a page of differences names it."""
+    """Each public name except those of `laws` is the crate's, or is in the page of differences."""
     words = [sys.executable, TOP / "docs/api.py", "--names"]
     names = subprocess.run(words, capture_output=True, text=True, check=True).stdout.split()
     page = TOP / "docs/DIFFERENCES.md"
@@ -99,12 +145,22 @@ def check_links(path):
                 tell(path, number, f"{target}: no such heading")
 
 
+def is_source(name):
+    """Whether a name such as `tabled_line/placement` or `tabled_line/specs/Row` is that of a source."""
+    crate, _, rest = name.partition("/")
+    paths = (f"src/{rest}.rt", f"src/{rest}", f"{rest}.antt", rest)
+    return any((TOP / "crates" / crate / it).exists() for it in paths)
+
+
 def check_files(path):
-    """Files that are named in backticks, from the top. NAME stands for any name; what is built into out/ may not be there."""
+    """Files that are named in backticks, from the top. NAME is any name; out/ has what is built."""
     for number, line in prose(path):
         for name in re.findall(r"`((?:crates|docs|bench|bindings|include|data)/[\w./-]+)`", line):
             if "/out/" not in name and "NAME" not in name and not (TOP / name.rstrip("/")).exists():
                 tell(path, number, f"{name} doesn't exist")
+        for name in re.findall(r"`((?:tabled|test)_?\w*/[\w./]+)`", line):
+            if not is_source(name):
+                tell(path, number, f"{name} is no source")
 
 
 def check_lines(path):
@@ -114,28 +170,69 @@ def check_lines(path):
         tell(path, len(lines), f"longer than {LINES[name]} lines")
     if name in WRITTEN:
         return
-    for number, line in enumerate(lines, 1):
-        is_free = line.lstrip().startswith("|") or "](" in line
-        is_free = is_free or path.suffix == ".rt" and not line.lstrip().startswith("//")
-        if len(line) > COLUMNS[path.suffix] and not is_free:
-            tell(path, number, f"wider than {COLUMNS[path.suffix]} columns")
+    if path.suffix == ".md":
+        told = ((it, line) for it, line in prose(path) if not line.lstrip().startswith("|"))
+        told = ((it, line) for it, line in told if "](" not in line)
+    else:
+        told = ((it, line) for it, line in enumerate(lines, 1) if line.lstrip().startswith("//"))
+    for number, line in told:
+        if len(line) > COLUMNS:
+            tell(path, number, f"wider than {COLUMNS} columns")
+
+
+def plainer(word):
+    """What to write for a word."""
+    return next(to for it, to in WORDS.items() if re.fullmatch(it, word, re.IGNORECASE))
+
+
+def comments(path):
+    """The lines of a source's doc comments outside of their examples, with their numbers."""
+    fenced = False
+    for number, line in enumerate(path.read_text().splitlines(), 1):
+        text = line.lstrip()
+        if not text.startswith(("///", "//!")):
+            fenced = False
+        elif "```" in text:
+            fenced = not fenced
+        elif not fenced:
+            yield number, text
 
 
 def check_words(path):
-    lines = prose(path) if path.suffix == ".md" else enumerate(path.read_text().splitlines(), 1)
-    for number, line in lines:
-        if path.suffix == ".rt" and not line.lstrip().startswith(("///", "//!")):
-            continue
-        for word in WORDS.findall(line):
-            tell(path, number, f"'{word}'")
+    """Names in backticks may be made of such words."""
+    if path.suffix == ".rt":
+        for number, line in comments(path):
+            for word in IN_SOURCES.findall(line):
+                tell(path, number, f"'{word}'")
+    elif str(path.relative_to(TOP)) not in WRITTEN:
+        for number, line in prose(path):
+            for word in WORD.findall(re.sub(r"`[^`]*`|\]\([^)]*\)", "", line)):
+                tell(path, number, f"'{word}': write {plainer(word)}")
+
+
+def check_counts():
+    """The numbers of docs/GATE.md are those of this state."""
+    page = TOP / "docs/GATE.md"
+    crates = re.findall(r"^\w+.*:", (TOP / "crates.txt").read_text(), re.MULTILINE)
+    wanted = {
+        "proves every crate, and its tests": len(crates),
+        "tries the must-fail edits": len(tracked("crates/*/must-fail/*.edit")),
+        "runs each program": len(tracked("crates/*/stdout")),
+    }
+    for number, line in enumerate(page.read_text().splitlines(), 1):
+        for what, count in wanted.items():
+            if line.startswith(f"| {what}") and not line.endswith(f"| {count} |"):
+                tell(page, number, f"{what}: {count}")
 
 
 def main():
     for script in ("gallery.py", "api.py"):
-        ran = subprocess.run([sys.executable, TOP / "docs" / script, "--check"], capture_output=True, text=True)
+        command = [sys.executable, TOP / "docs" / script, "--check"]
+        ran = subprocess.run(command, capture_output=True, text=True)
         if ran.returncode:
             found.append((ran.stdout + ran.stderr).strip())
     check_names()
+    check_counts()
     pages = tracked("*.md")
     for path in pages:
         check_links(path)

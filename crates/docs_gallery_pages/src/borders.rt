@@ -1,11 +1,11 @@
-//! Borders and lines. A line is there if one of its characters is; what is missing of it is a
-//! space.
+//! Borders and lines. A line is drawn if one of its characters is set; characters that aren't
+//! set are spaces.
 
 use tabled::grid::config::{AlignmentHorizontal, Borders, CompactConfig, HorizontalLine};
 use tabled::settings::Style;
 use tabled::{Table, TableError};
 
-/// The borders of a style, one of them changed.
+/// The borders of a style, with one character changed.
 pub fn changed(table: &mut Table) -> Result<(), TableError> {
     let config = table.get_config_mut().as_mut();
     config.set_borders(Borders {
@@ -15,7 +15,7 @@ pub fn changed(table: &mut Table) -> Result<(), TableError> {
     Ok(())
 }
 
-/// Lines above and below, and between columns.
+/// Lines above, below and between columns, of your own characters.
 pub fn own(table: &mut Table) -> Result<(), TableError> {
     let config = table.get_config_mut().as_mut();
     config.set_borders(Borders {
@@ -27,8 +27,8 @@ pub fn own(table: &mut Table) -> Result<(), TableError> {
     Ok(())
 }
 
-/// A line above the row of an index, from 0. The count of rows is the index of the line below the
-/// last row.
+/// A line above the row of an index, counted from 0. The number of rows is the index of the line
+/// below the last row.
 pub fn line(table: &mut Table) -> Result<(), TableError> {
     let config = table.get_config_mut().as_mut();
     let double = HorizontalLine {
@@ -40,14 +40,14 @@ pub fn line(table: &mut Table) -> Result<(), TableError> {
     config.insert_horizontal_line(1, double)
 }
 
-/// A style puts its own lines in place of all that were set; only these are taken out here.
+/// `remove_horizontal_lines` removes the lines that were set by index, here by the style.
 pub fn without_lines(table: &mut Table) -> Result<(), TableError> {
     table.with(Style::markdown())?;
     table.get_config_mut().as_mut().remove_horizontal_lines();
     Ok(())
 }
 
-/// A configuration takes the place of the table's own. A new one has no borders and no padding.
+/// A whole configuration replaces the table's own. A new one has no borders and no padding.
 pub fn configured(table: &mut Table) -> Result<(), TableError> {
     let config = CompactConfig::new()
         .set_borders(Style::modern().get_borders())

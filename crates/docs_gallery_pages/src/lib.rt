@@ -1,5 +1,5 @@
-//! The pictures of the gallery: each is made by a function of a few lines, which the page shows
-//! beside it.
+//! The pictures of the gallery. Each is made by a function of a few lines, which the page shows
+//! above it.
 #![tactic(auto)]
 
 mod alignments;
@@ -9,6 +9,7 @@ mod from_tabled;
 mod given;
 mod heights;
 mod objects;
+mod own;
 mod page;
 mod printers;
 mod rows;

@@ -2,8 +2,8 @@
 
 use crate::given::{Sample, table_of};
 use crate::{
-    alignments, borders, cell_widths, from_tabled, heights, objects, printers, rows, serialized,
-    spaces, streams, styles, texts, widths,
+    alignments, borders, cell_widths, from_tabled, heights, objects, own, printers, rows,
+    serialized, spaces, streams, styles, texts, widths,
 };
 use std::alloc::Global;
 use tabled::{Table, TableError};
@@ -112,7 +112,9 @@ fn add_printers(page: &mut String) -> Result<(), TableError> {
     add_compact(page)?;
     add_serialized(page)?;
     add_rows(page)?;
-    add_texts(page)
+    add_texts(page)?;
+    add_own(page)?;
+    add_own_rows(page)
 }
 
 fn add_styles(page: &mut String, table: &mut Table) -> Result<(), TableError> {
@@ -131,7 +133,7 @@ fn add_removals(page: &mut String, table: &mut Table) -> Result<(), TableError> 
 
 fn add_alignments(page: &mut String, table: &mut Table) -> Result<(), TableError> {
     show!(page, table, Sample::Cities;
-        alignments::right, alignments::right_setting, alignments::latest)
+        alignments::right, alignments::by_setting, alignments::last_one_wins)
 }
 
 fn add_center(page: &mut String, table: &mut Table) -> Result<(), TableError> {
@@ -145,7 +147,7 @@ fn add_block_alignments(page: &mut String, table: &mut Table) -> Result<(), Tabl
 
 fn add_paddings(page: &mut String, table: &mut Table) -> Result<(), TableError> {
     show!(page, table, Sample::Cities;
-        spaces::padding, spaces::zero, spaces::filled, spaces::expanded, spaces::of_a_column,
+        spaces::padding, spaces::no_padding, spaces::filled, spaces::expanded, spaces::of_a_column,
         spaces::configured)
 }
 
@@ -155,7 +157,7 @@ fn add_margins(page: &mut String, table: &mut Table) -> Result<(), TableError> {
 
 fn add_widths(page: &mut String, table: &mut Table) -> Result<(), TableError> {
     show!(page, table, Sample::Notes;
-        widths::wrapped, widths::widest, widths::words, widths::spaces_dropped,
+        widths::wrapped, widths::widest_wrapped, widths::words, widths::spaces_dropped,
         widths::truncated)
 }
 
@@ -208,14 +210,14 @@ fn add_objects(page: &mut String, table: &mut Table) -> Result<(), TableError> {
 
 fn add_segments(page: &mut String, table: &mut Table) -> Result<(), TableError> {
     show!(page, table, Sample::Cities;
-        objects::whole, objects::segment, objects::outside, objects::union, objects::modified,
+        objects::whole_table, objects::segment, objects::outside, objects::union, objects::modified,
         objects::settings)
 }
 
 fn add_tables(page: &mut String) -> Result<(), TableError> {
     draw!(page;
-        printers::asked_for, printers::titled, printers::titled_wrapped, printers::titled_cut,
-        printers::named, printers::floats)
+        printers::at_least_as_wide, printers::totals, printers::titled, printers::titled_wrapped,
+        printers::titled_cut, printers::named, printers::floats)
 }
 
 fn add_records(page: &mut String) -> Result<(), TableError> {
@@ -224,8 +226,8 @@ fn add_records(page: &mut String) -> Result<(), TableError> {
 
 fn add_boxes(page: &mut String) -> Result<(), TableError> {
     draw!(page;
-        printers::pool, printers::pool_centered, printers::boxes, printers::boxes_last,
-        printers::marked)
+        printers::rows_of_boxes, printers::boxes_centered, printers::boxes, printers::boxes_last,
+        printers::colours)
 }
 
 fn add_streams(page: &mut String) -> Result<(), TableError> {
@@ -245,12 +247,23 @@ fn add_serialized(page: &mut String) -> Result<(), TableError> {
 }
 
 fn add_rows(page: &mut String) -> Result<(), TableError> {
-    draw!(page; rows::viewed, rows::given, rows::kept, rows::printed, rows::batches)
+    draw!(page; rows::viewed, rows::declared, rows::stored, rows::printed, rows::batches)
 }
 
 fn add_texts(page: &mut String) -> Result<(), TableError> {
     write!(page, "== texts::counted\n{}\n", texts::counted("北京"))?;
     draw!(page; texts::measured, texts::wrapped, texts::cut)
+}
+
+fn add_own(page: &mut String) -> Result<(), TableError> {
+    draw!(page;
+        own::labels, own::title_fields, own::borrowed_writer, own::formatting, own::plan,
+        own::cell_style)
+}
+
+fn add_own_rows(page: &mut String) -> Result<(), TableError> {
+    draw!(page;
+        own::stored_sizes, own::cut_rows, own::narrowed_rows, own::cut_cells, own::text_lines)
 }
 
 fn add_written(page: &mut String) -> Result<(), TableError> {

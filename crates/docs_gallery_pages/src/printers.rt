@@ -1,5 +1,5 @@
-//! Printers. A `Table` keeps its rows and prints them to any sink; `ExtendedTable` shows records
-//! one below the other, a line a field; `PoolTable` draws boxes in boxes.
+//! Printers. A `Table` stores its rows and prints them to any sink. An `ExtendedTable` prints
+//! a line for each field of a record, a `PoolTable` boxes inside boxes.
 
 use std::alloc::Global;
 use tabled::grid::ansi::ANSIStr;
@@ -27,14 +27,30 @@ fn pair(
     Ok(Vec::from_array(alloc, [first, second])?)
 }
 
-/// As wide as is asked for: missing columns become a margin, here on both sides and of `*`. The
-/// table itself stays.
-pub fn asked_for(alloc: Global) -> Result<String, TableError> {
+/// At least 18 columns wide: a margin fills the rest, here of `*` on both sides. The table doesn't
+/// change.
+pub fn at_least_as_wide(alloc: Global) -> Result<String, TableError> {
     let table = Table::nohead(alloc, [("a", "bb"), ("ccc", "")])?;
     let mut text = String::new(alloc);
     let centered = Some(AlignmentHorizontal::Center);
     table.print_with(&mut text, Some(18), centered, '*')?;
     Ok(text)
+}
+
+/// How large a table is, without printing it, and whether its edges are straight whatever the cells
+/// hold.
+pub fn totals(alloc: Global) -> Result<String, TableError> {
+    let table = Table::nohead(alloc, CITIES)?;
+    let (rows, cells) = table.shape();
+    let (columns, lines) = (table.total_width()?, table.total_height()?);
+    let edges = if table.is_apart() {
+        "straight"
+    } else {
+        "maybe not straight"
+    };
+    Ok(format!(in alloc;
+        "{rows} rows of {cells} cells: {columns} columns, {lines} lines, {edges}"
+    )?)
 }
 
 /// A title above a table, in the middle of its total width.
@@ -43,7 +59,7 @@ pub fn titled(alloc: Global) -> Result<String, TableError> {
     table.to_titled_text(Title::new("Two capitals").center())
 }
 
-/// A wider title is wrapped between words. `write_titled` prints to a sink.
+/// A title that is wider than its table is wrapped between words. `write_titled` prints to a sink.
 pub fn titled_wrapped(alloc: Global) -> Result<String, TableError> {
     let table = Table::nohead(alloc, [("Paris", "France"), ("Rome", "Italy")])?;
     let mut text = String::new(alloc);
@@ -51,45 +67,46 @@ pub fn titled_wrapped(alloc: Global) -> Result<String, TableError> {
     Ok(text)
 }
 
-/// Or it is cut. A new title is at the left.
+/// Or the title is cut. A new title is at the left.
 pub fn titled_cut(alloc: Global) -> Result<String, TableError> {
     let table = Table::nohead(alloc, [("Paris", "France"), ("Rome", "Italy")])?;
     table.to_titled_text(Title::new("Two capitals of Europe").cut())
 }
 
-/// `Table::new` puts names above values.
+/// `Table::new` puts the names of the fields above the values.
 pub fn named(alloc: Global) -> Result<String, TableError> {
     let table = Table::new(alloc, [("Ada", 1815u16), ("Grace", 1906u16)])?;
     table.to_text()
 }
 
-/// A number is shown as by `Display`, one with a fraction too.
+/// Numbers are shown as by `Display`, fractions too.
 pub fn floats(alloc: Global) -> Result<String, TableError> {
     let table = Table::new(alloc, [("Paris", 105.4f64), ("Oslo", 480.75)])?;
     table.to_text()
 }
 
-/// `Table::kv` has a row of name and text for each field.
+/// `Table::kv` has a row for each field, with its name and its text.
 pub fn key_values(alloc: Global) -> Result<String, TableError> {
     let table = Table::kv(alloc, [("Ada", 1815u16)])?;
     table.to_text()
 }
 
-/// Records of rows, the first of which names the fields.
+/// Records, of rows. The first row names the fields.
 pub fn records(alloc: Global) -> Result<String, TableError> {
     let table = ExtendedTable::from_rows(alloc, CITIES)?;
     table.to_string()
 }
 
-/// Cut to a width. If the width is too small for that, it returns `false` and changes nothing.
+/// Records cut to a width. Where the width is too small for that, `truncate` returns `false` and
+/// changes nothing.
 pub fn narrow_records(alloc: Global) -> Result<String, TableError> {
     let mut table = ExtendedTable::from_rows(alloc, CITIES)?;
     let _is_cut = table.truncate(15, "~")?;
     table.to_string()
 }
 
-/// Rows needn't have as many cells as one another.
-pub fn pool(alloc: Global) -> Result<String, TableError> {
+/// Rows with different numbers of cells.
+pub fn rows_of_boxes(alloc: Global) -> Result<String, TableError> {
     let mut rows = Vec::new(alloc);
     rows.push(vec![in alloc; "Paris", "Rome", "Oslo"]?)?;
     rows.push(vec![in alloc; "three capitals of Europe"]?)?;
@@ -98,8 +115,8 @@ pub fn pool(alloc: Global) -> Result<String, TableError> {
     table.to_text()
 }
 
-/// Texts in the middle of their boxes, under a style.
-pub fn pool_centered(alloc: Global) -> Result<String, TableError> {
+/// Texts in the middle of their boxes.
+pub fn boxes_centered(alloc: Global) -> Result<String, TableError> {
     let mut rows = Vec::new(alloc);
     rows.push(vec![in alloc; "Paris", "Rome"]?)?;
     rows.push(vec![in alloc; "two capitals of Europe"]?)?;
@@ -108,8 +125,8 @@ pub fn pool_centered(alloc: Global) -> Result<String, TableError> {
     table.to_text()
 }
 
-/// Boxes side by side in a `Row`, one below the other in a `Column`. What a row has too much of
-/// goes to all of its parts.
+/// Boxes side by side in a `Row`, and one below the other in a `Column`. Columns that are left over
+/// go to all boxes of a row.
 pub fn boxes(alloc: Global) -> Result<String, TableError> {
     let beside = pair(alloc, cell(alloc, "Paris")?, cell(alloc, "Rome")?)?;
     let title = cell(alloc, "capitals of two countries")?;
@@ -119,7 +136,8 @@ pub fn boxes(alloc: Global) -> Result<String, TableError> {
     table.to_text()
 }
 
-/// It goes to the last part; `DimensionPriority::First` is there as well.
+/// Columns that are left over go to the last box. `DimensionPriority::First` gives them to the
+/// first.
 pub fn boxes_last(alloc: Global) -> Result<String, TableError> {
     let beside = pair(alloc, cell(alloc, "Paris")?, cell(alloc, "Rome")?)?;
     let title = cell(alloc, "capitals of two countries")?;
@@ -130,9 +148,9 @@ pub fn boxes_last(alloc: Global) -> Result<String, TableError> {
     table.to_text()
 }
 
-/// Marks of colours around padding; they take no columns. In a terminal they would be escape
+/// Marks of colours around padding. They take no columns; in a terminal they would be escape
 /// sequences.
-pub fn marked(alloc: Global) -> Result<String, TableError> {
+pub fn colours(alloc: Global) -> Result<String, TableError> {
     let mut config = CompactMultilineConfig::new();
     config.set_borders(Style::ascii().get_borders());
     config.set_padding(Padding::new(2, 2, 0, 0).fill('.', '.', ' ', ' ').into());

@@ -1,5 +1,5 @@
-//! Rows and records. What a table is made of: values, rows of a `Builder`, or whatever else gives
-//! rows; records are what it keeps.
+//! Rows and records. A table is made of values, of rows of a `Builder`, or of any other source
+//! of rows. Records are the rows that it stores.
 
 use std::alloc::Global;
 use tabled::TableError;
@@ -19,23 +19,23 @@ const CITIES: [[&str; 2]; 3] = [
     ["Oslo", "717710"],
 ];
 
-/// Views of rows: all but the first, of these the first one, and of each the first cell.
+/// Views of rows: all but the first, of these the first one, and of that the first cell.
 pub fn viewed(alloc: Global) -> Result<String, TableError> {
     let rows = LimitRows::new(SkipRows::new(CITIES, 1), 1);
     let table = IterTable::new(LimitColumns::new(rows, 1));
     table.to_string(alloc)
 }
 
-/// Whatever gives rows, with its count of columns.
-pub fn given(alloc: Global) -> Result<String, TableError> {
+/// Rows of any source, with their number of columns.
+pub fn declared(alloc: Global) -> Result<String, TableError> {
     let records = IterRecords::new(CITIES, 2, None);
     let sizes = StaticDimension::new(DimensionValue::Exact(9), DimensionValue::Exact(1));
     let table = CompactTable::with_dimension(records, sizes);
     table.columns(2).rows(1).to_string(alloc)
 }
 
-/// What a table keeps: rectangular rows of measured texts.
-pub fn kept(alloc: Global) -> Result<String, TableError> {
+/// The records of a table: rows of equal length, of measured texts.
+pub fn stored(alloc: Global) -> Result<String, TableError> {
     let records = Builder::from_iter(alloc, CITIES)?.build();
     let mut names = String::new(alloc);
     for row in records.as_rows() {
@@ -47,7 +47,7 @@ pub fn kept(alloc: Global) -> Result<String, TableError> {
     Ok(names)
 }
 
-/// Records, settings and sizes printed without a table. All columns are 9 wide, and all rows have
+/// Records, settings and sizes, printed without a table. All columns are 9 wide, and all rows have
 /// one line.
 pub fn printed(alloc: Global) -> Result<String, TableError> {
     let records = Builder::from_iter(alloc, CITIES)?.build();
@@ -59,7 +59,7 @@ pub fn printed(alloc: Global) -> Result<String, TableError> {
     Ok(text)
 }
 
-/// Where batches of two begin in five.
+/// The first index of each batch of two, of five.
 pub fn batches(alloc: Global) -> Result<String, TableError> {
     let mut begins = Vec::new(alloc);
     for begin in LayoutIterator::new(0, 5, 2) {

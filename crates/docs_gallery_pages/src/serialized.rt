@@ -33,7 +33,7 @@ fn cities(alloc: Global) -> Result<Table, RowError> {
     Ok(Table::from(builder(alloc, CITIES, "")?))
 }
 
-/// A table of the values, below the names of their fields.
+/// A table of values, with the names of their fields above.
 pub fn table(alloc: Global) -> Result<String, TableError> {
     match cities(alloc) {
         Ok(table) => table.to_text(),

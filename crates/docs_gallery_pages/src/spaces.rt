@@ -1,4 +1,4 @@
-//! Padding and margins. Sides come in the order left, right, top, bottom.
+//! Padding and margins. The sides come in the order left, right, top, bottom.
 
 use tabled::grid::config::{Entity, Indent, Sides};
 use tabled::settings::object::Columns;
@@ -6,25 +6,25 @@ use tabled::settings::padding_expand::PaddingExpand;
 use tabled::settings::{Margin, Padding};
 use tabled::{Table, TableError};
 
-/// Around the texts of all cells.
+/// Padding around the texts of all cells.
 pub fn padding(table: &mut Table) -> Result<(), TableError> {
     table.with(Padding::new(3, 1, 1, 0))?;
     Ok(())
 }
 
-/// None.
-pub fn zero(table: &mut Table) -> Result<(), TableError> {
+/// No padding.
+pub fn no_padding(table: &mut Table) -> Result<(), TableError> {
     table.with(Padding::zero())?;
     Ok(())
 }
 
-/// Of other characters.
+/// Padding of other characters than spaces.
 pub fn filled(table: &mut Table) -> Result<(), TableError> {
     table.with(Padding::new(2, 2, 1, 0).fill('>', '<', '.', ' '))?;
     Ok(())
 }
 
-/// In one direction.
+/// Padding in a direction that is chosen at run time.
 pub fn expanded(table: &mut Table) -> Result<(), TableError> {
     let padding = match Padding::expand(false) {
         PaddingExpand::Horizontal => Padding::new(3, 3, 0, 0),
@@ -34,13 +34,13 @@ pub fn expanded(table: &mut Table) -> Result<(), TableError> {
     Ok(())
 }
 
-/// Of a part.
+/// Padding in one column.
 pub fn of_a_column(table: &mut Table) -> Result<(), TableError> {
     table.modify(Columns::one(1), Padding::new(4, 0, 0, 0))?;
     Ok(())
 }
 
-/// The same by the configuration.
+/// The same as a setting of the configuration.
 pub fn configured(table: &mut Table) -> Result<(), TableError> {
     let none = Indent::zero();
     let padding = Sides::new(Indent::spaced(4), none, none, none);
@@ -48,13 +48,13 @@ pub fn configured(table: &mut Table) -> Result<(), TableError> {
     config.set_padding(Entity::Column(1), padding)
 }
 
-/// Around the frame.
+/// A margin around the frame.
 pub fn margin(table: &mut Table) -> Result<(), TableError> {
     table.with(Margin::new(4, 0, 0, 0))?;
     Ok(())
 }
 
-/// Of other characters.
+/// A margin of other characters than spaces.
 pub fn filled_margin(table: &mut Table) -> Result<(), TableError> {
     table.with(Margin::new(2, 2, 1, 1).fill('>', '<', 'v', '^'))?;
     Ok(())

@@ -1,6 +1,6 @@
-//! Printers of rows as they come. `IterTable` reads some rows ahead, measures them, and cuts each
-//! cell to its column. `CompactTable` prints each row as it comes, so it needs its columns and
-//! their widths first: from you, or from an array.
+//! Printers that read row by row. An `IterTable` reads some rows ahead, measures them, and
+//! cuts each cell to its column. A `CompactTable` reads no row ahead, so its widths come
+//! first: from you, or from an array.
 
 use std::alloc::Global;
 use tabled::TableError;
@@ -19,7 +19,7 @@ pub fn whole(alloc: Global) -> Result<String, TableError> {
     table.to_string(alloc)
 }
 
-/// One row is.
+/// One row is read ahead. Later cells are cut to its widths.
 pub fn sniffed(alloc: Global) -> Result<String, TableError> {
     let mut table = IterTable::new(CITIES);
     table.sniff(1);
@@ -47,14 +47,14 @@ pub fn limited(alloc: Global) -> Result<String, TableError> {
     table.to_string(alloc)
 }
 
-/// Two options as one: a style, and all texts at the right.
+/// A style, and all texts at the right.
 pub fn aligned(alloc: Global) -> Result<String, TableError> {
     let mut table = IterTable::new(CITIES);
     table.with(Settings::new(Style::modern(), Alignment::right()))?;
     table.to_string(alloc)
 }
 
-/// An array is measured beforehand: each column is as wide as its widest cell.
+/// A `CompactTable` of an array: each column is as wide as its widest cell.
 pub fn fitting(alloc: Global) -> Result<String, TableError> {
     let table = CompactTable::from(CITIES);
     table.with(Style::psql())?.to_string(alloc)
@@ -80,7 +80,7 @@ pub fn window(alloc: Global) -> Result<String, TableError> {
     table.to_string(alloc)
 }
 
-/// One width for all columns. A text wider than its column is whole.
+/// One width for all columns. A wider text is printed whole.
 pub fn overfull(alloc: Global) -> Result<String, TableError> {
     let table = CompactTable::new(CITIES).columns(2).rows(2);
     table.width(6).to_string(alloc)

@@ -1,4 +1,4 @@
-//! Styles. `with` takes one, of a table or of another printer.
+//! Styles. `with` gives a style to a table, or to another printer.
 
 use tabled::settings::Style;
 use tabled::settings::style::HorizontalLine;
@@ -10,13 +10,13 @@ pub fn rounded(table: &mut Table) -> Result<(), TableError> {
     Ok(())
 }
 
-/// A new table has it.
+/// The style of a new table.
 pub fn ascii(table: &mut Table) -> Result<(), TableError> {
     table.with(Style::ascii())?;
     Ok(())
 }
 
-/// Thin lines.
+/// Thin lines around all cells.
 pub fn modern(table: &mut Table) -> Result<(), TableError> {
     table.with(Style::modern())?;
     Ok(())
@@ -40,13 +40,13 @@ pub fn extended(table: &mut Table) -> Result<(), TableError> {
     Ok(())
 }
 
-/// A table of Markdown. The line is below the first row.
+/// A table to paste into a page of Markdown.
 pub fn markdown(table: &mut Table) -> Result<(), TableError> {
     table.with(Style::markdown())?;
     Ok(())
 }
 
-/// In the style of `psql`.
+/// The style of the program `psql`.
 pub fn psql(table: &mut Table) -> Result<(), TableError> {
     table.with(Style::psql())?;
     Ok(())
@@ -58,19 +58,19 @@ pub fn re_structured_text(table: &mut Table) -> Result<(), TableError> {
     Ok(())
 }
 
-/// A frame with points for corners.
+/// A frame with dots and quotes for corners.
 pub fn ascii_rounded(table: &mut Table) -> Result<(), TableError> {
     table.with(Style::ascii_rounded())?;
     Ok(())
 }
 
-/// Spaces between columns.
+/// Spaces between columns, and no lines.
 pub fn blank(table: &mut Table) -> Result<(), TableError> {
     table.with(Style::blank())?;
     Ok(())
 }
 
-/// No line at all.
+/// No lines, and nothing between columns.
 pub fn empty(table: &mut Table) -> Result<(), TableError> {
     table.with(Style::empty())?;
     Ok(())
@@ -82,7 +82,7 @@ pub fn without_horizontal(table: &mut Table) -> Result<(), TableError> {
     Ok(())
 }
 
-/// A style without the line below the first row.
+/// A style without its line below the first row.
 pub fn without_horizontals(table: &mut Table) -> Result<(), TableError> {
     table.with(Style::rounded().remove_horizontals())?;
     Ok(())
@@ -100,19 +100,19 @@ pub fn without_frame(table: &mut Table) -> Result<(), TableError> {
     Ok(())
 }
 
-/// Each side can be taken by itself.
+/// A style without its left and right edge. Each side has a call.
 pub fn without_sides(table: &mut Table) -> Result<(), TableError> {
     table.with(Style::ascii().remove_left().remove_right())?;
     Ok(())
 }
 
-/// Or the lines above and below.
+/// A style without its lines above and below.
 pub fn without_ends(table: &mut Table) -> Result<(), TableError> {
     table.with(Style::extended().remove_top().remove_bottom())?;
     Ok(())
 }
 
-/// Lines above the rows of some indices, from 0.
+/// A line above the row of each index, counted from 0.
 pub fn horizontals(table: &mut Table) -> Result<(), TableError> {
     let line = HorizontalLine::inherit(Style::modern()).horizontal('═');
     let style = Style::modern().horizontals([(1, line)]);
@@ -120,7 +120,7 @@ pub fn horizontals(table: &mut Table) -> Result<(), TableError> {
     Ok(())
 }
 
-/// A line of characters of one's own.
+/// Lines of your own characters.
 pub fn own_line(table: &mut Table) -> Result<(), TableError> {
     let line = HorizontalLine::new('=')
         .left('[')

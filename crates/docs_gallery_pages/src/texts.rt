@@ -1,4 +1,4 @@
-//! Texts. How they are measured, wrapped and cut is there for itself as well.
+//! Texts. The functions that measure, wrap and cut a text are public too.
 ghost use Rattle.std.specs.Prelude.{◌≤◌, chars};
 ghost use Rattle.tabled_text.specs.Measure.{count_of};
 
@@ -7,25 +7,25 @@ use tabled::TableError;
 use tabled::grid::util::string::{cut_str, line_width, text_width, wrap_text};
 use tabled::laws::count_is_bound;
 
-/// The columns of texts, of several lines those of the widest.
+/// The columns of texts. A text of several lines is as wide as the widest.
 pub fn measured(alloc: Global) -> Result<String, TableError> {
     let columns = [text_width("Paris"), text_width("北京"), text_width("a\nbc")];
     Ok(format!(in alloc; "{columns:?}")?)
 }
 
-/// Wrapped in 12 columns, with words kept.
+/// A text wrapped to 12 columns, with words kept whole.
 pub fn wrapped(alloc: Global) -> Result<String, TableError> {
     Ok(wrap_text(alloc, "goes to the next field", 12, true)?)
 }
 
-/// Cut to 12 columns.
+/// A text cut to 12 columns.
 pub fn cut(alloc: Global) -> Result<String, TableError> {
     let beginning = cut_str(alloc, "goes to the next field", 12)?;
     Ok(beginning.into_owned(alloc)?)
 }
 
-/// The columns of a line, by a contract that rests on a law: they are no more than its characters
-/// count.
+/// A function with a contract that follows from a law: a line takes at most as many columns as its
+/// characters count.
 pub fn counted(line: &str) -> usize
     ensures { result ≤ count_of (chars line.now) }
 {

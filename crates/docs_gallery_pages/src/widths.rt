@@ -1,5 +1,5 @@
-//! Widths of whole tables. A wider table is wrapped or cut to as many columns as are asked for, or
-//! to what it takes with empty cells where that is more; a narrower one is increased.
+//! Widths of whole tables. A wider table is wrapped or cut to n columns, unless its borders
+//! and padding alone need more. A narrower one is widened.
 
 use tabled::settings::Width;
 use tabled::settings::measurement::Percent;
@@ -7,20 +7,19 @@ use tabled::settings::peaker::Priority;
 use tabled::settings::width::SuffixLimit;
 use tabled::{Table, TableError};
 
-/// Wrapped. Columns shrink one after the other, each by one, until the table fits; words are
-/// broken.
+/// Wrapped to 30 columns. Each column in turn gives one, until the table fits. Words are broken.
 pub fn wrapped(table: &mut Table) -> Result<(), TableError> {
     table.with(Width::wrap(30))?;
     Ok(())
 }
 
-/// The widest column gives way first.
-pub fn widest(table: &mut Table) -> Result<(), TableError> {
+/// The widest column gives first.
+pub fn widest_wrapped(table: &mut Table) -> Result<(), TableError> {
     table.with(Width::wrap(24).priority(Priority::max(true)))?;
     Ok(())
 }
 
-/// Words that find room on a line of their own are kept.
+/// Words that fit on a line of their own are kept whole.
 pub fn words(table: &mut Table) -> Result<(), TableError> {
     let narrow = Width::wrap(24).keep_words(true);
     table.with(narrow.priority(Priority::max(true)))?;
@@ -34,13 +33,13 @@ pub fn spaces_dropped(table: &mut Table) -> Result<(), TableError> {
     Ok(())
 }
 
-/// Cut.
+/// Cut instead of wrapped.
 pub fn truncated(table: &mut Table) -> Result<(), TableError> {
     table.with(Width::truncate(24).priority(Priority::max(true)))?;
     Ok(())
 }
 
-/// With a suffix where something was cut off.
+/// A suffix marks each cell that is cut.
 pub fn suffixed(table: &mut Table) -> Result<(), TableError> {
     let narrow = Width::truncate(24).suffix("..");
     table.with(narrow.priority(Priority::max(true)))?;
@@ -54,7 +53,7 @@ pub fn suffix_cut(table: &mut Table) -> Result<(), TableError> {
     Ok(())
 }
 
-/// Such a suffix is ignored.
+/// Such a suffix is left out.
 pub fn suffix_ignored(table: &mut Table) -> Result<(), TableError> {
     let narrow = Width::truncate(12).suffix(" and so on");
     let narrow = narrow.suffix_limit(SuffixLimit::Ignore);
@@ -62,7 +61,7 @@ pub fn suffix_ignored(table: &mut Table) -> Result<(), TableError> {
     Ok(())
 }
 
-/// A character stands in all columns in place of such a suffix.
+/// Such a suffix is replaced by copies of a character.
 pub fn suffix_replaced(table: &mut Table) -> Result<(), TableError> {
     let narrow = Width::truncate(12).suffix(" and so on");
     let narrow = narrow.suffix_limit(SuffixLimit::Replace('~'));
@@ -70,50 +69,50 @@ pub fn suffix_replaced(table: &mut Table) -> Result<(), TableError> {
     Ok(())
 }
 
-/// A share of the table's own columns.
+/// A share of the table's own columns, in percent.
 pub fn share(table: &mut Table) -> Result<(), TableError> {
     let narrow = Width::truncate(Percent(75));
     table.with(narrow.priority(Priority::max(true)))?;
     Ok(())
 }
 
-/// One column after the other gives one. This is what stands without a priority.
+/// Each column in turn gives one. This is the default.
 pub fn in_turn(table: &mut Table) -> Result<(), TableError> {
     table.with(Width::truncate(52).priority(Priority::none()))?;
     Ok(())
 }
 
-/// The narrowest gives first, but nothing of its padding.
+/// The narrowest column gives first, and keeps its padding.
 pub fn narrowest_first(table: &mut Table) -> Result<(), TableError> {
     table.with(Width::truncate(52).priority(Priority::min(true)))?;
     Ok(())
 }
 
-/// The widest gives first; of equal ones the rightmost, by `true`.
+/// The widest column gives first; with `true`, of equal ones the rightmost.
 pub fn widest_first(table: &mut Table) -> Result<(), TableError> {
     table.with(Width::truncate(52).priority(Priority::max(true)))?;
     Ok(())
 }
 
-/// The leftmost gives first.
+/// The leftmost column gives first.
 pub fn leftmost_first(table: &mut Table) -> Result<(), TableError> {
     table.with(Width::truncate(52).priority(Priority::left()))?;
     Ok(())
 }
 
-/// The rightmost gives first.
+/// The rightmost column gives first.
 pub fn rightmost_first(table: &mut Table) -> Result<(), TableError> {
     table.with(Width::truncate(52).priority(Priority::right()))?;
     Ok(())
 }
 
-/// A narrower table grows, one column after the other.
+/// A narrower table grows: each column in turn gets one more.
 pub fn increased(table: &mut Table) -> Result<(), TableError> {
     table.with(Width::increase(26))?;
     Ok(())
 }
 
-/// The rightmost column grows alone.
+/// A narrower table grows in its rightmost column alone.
 pub fn last_increased(table: &mut Table) -> Result<(), TableError> {
     table.with(Width::increase(26).priority(Priority::right()))?;
     Ok(())
