@@ -43,7 +43,6 @@ MADE = {
     "Estimate": ".estimate(",
     "ExactRecords": ".count_rows()",
     "HeightList": "Height::list(",
-    "JoinedRecords": ".finish()",
     "LentRows": "text_rows(",
     "LinedStyle": ".horizontals(",
     "MinWidth": "Width::increase(",

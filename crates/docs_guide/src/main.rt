@@ -1,4 +1,5 @@
-//! The longer tasks of the guide: a stream that may fail, and a writer and a priority of your own.
+//! The longer tasks of the guide: records of your own type, a stream that may fail, and a writer
+//! and a priority of your own.
 #![tactic(auto)]
 
 mod cities;
@@ -6,6 +7,7 @@ mod column_first;
 mod disk;
 mod failing;
 mod numbers_last;
+mod orders;
 
 use anyhow::Result;
 
@@ -16,6 +18,7 @@ fn main(rt: HostRuntime) -> Result<()> {
     println!(rt; "{}\n", failing::printed(alloc, pairs)?)?;
     println!(rt; "{}\n", disk::printed(alloc)?)?;
     println!(rt; "{}\n", column_first::narrowed(alloc)?)?;
-    println!(rt; "{}", numbers_last::narrowed(alloc)?)?;
+    println!(rt; "{}\n", numbers_last::narrowed(alloc)?)?;
+    println!(rt; "{}", orders::records(alloc)?)?;
     Ok(())
 }
