@@ -1,0 +1,5 @@
+pub mod Escaping
+pub mod Choice
+pub mod Fitted
+pub mod Kinds
+pub mod Laws
