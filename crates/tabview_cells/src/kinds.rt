@@ -59,8 +59,8 @@ impl Kind {
         }
     }
 
-    /// Returns the kind of a column with one more cell, by its text. Cells that are like those before
-    /// take the fewest steps.
+    /// Returns the kind of a column with one more cell, by its text. A cell that is like those
+    /// before it takes the fewest steps.
     pub fn with_cell(self, cell: &str) -> Kind
         ensures { result ≡ joined self (kind_of cell.now) }
     {
