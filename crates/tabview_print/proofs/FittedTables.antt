@@ -1,8 +1,8 @@
 -- Tables whose columns gave their excess are fitted.
-use Rattle.tabled_set.proofs.Names.{AreChanged, CompleteDimension, IsAdditive, IsInside, List, MatchBool-at_true, Narrows, None, Option, Sheet, Shrinks, Some, SpannedConfig, ap, arith, at}
-use Rattle.tabled_set.proofs.Names.{cases_Bool, cell_at, columns, cond, effective, effective_sizes, estimated, estimated_heights, estimated_widths, false, filled_width, for_content_size}
-use Rattle.tabled_set.proofs.Names.{frame_width, heights_length, heights_of, if_sized, if◌then◌else◌, is_empty, le-leb, length, lt-leb, max, minimums, nat_le, nat_lt, refl, side_padding, subst, sum, sym, take, take-length}
-use Rattle.tabled_set.proofs.Names.{text_columns, total_width, true, widths_length, widths_of, ℕ, ⊎_elim, ◌+◌, ◌-◌, ◌<◌, ◌∙◌, ◌≡◌, ◌≤◌, ◌⊎◌, []}
+use Rattle.tabled_set.proofs.Names.{AreChanged, CompleteDimension, IsInside, List, Narrows, None, Sheet, Shrinks, Some, SpannedConfig, ap, arith, at}
+use Rattle.tabled_set.proofs.Names.{cases_Bool, cell_at, columns, cond, effective, effective_sizes, estimated, estimated_heights, estimated_widths, false, filled_width}
+use Rattle.tabled_set.proofs.Names.{frame_width, heights_length, heights_of, if_sized, is_empty, le-leb, length, lt-leb, minimums, nat_le, nat_lt, refl, side_padding, subst, sum, sym, take, take-length}
+use Rattle.tabled_set.proofs.Names.{text_columns, total_width, true, widths_length, widths_of, ℕ, ⊎_elim, ◌+◌, ◌-◌, ◌<◌, ◌∙◌, ◌≡◌, ◌≤◌, []}
 use Rattle.std.proofs.Common.{Bool, MatchBool, le_of_eq}
 use Rattle.std.proofs.lemmas.Bool.{MatchBool-at_false, and_from, le-ltb, lt-ltb}
 use Rattle.tabled_priority.specs.Permitted.{spare_total}
@@ -16,7 +16,7 @@ use Rattle.tabled_text.proofs.WordLaws.{kept-words}
 use Rattle.tabview_cells.specs.Fitted.{GivesToFloors}
 use Rattle.tabview_cells.specs.declared.fit.AboveFloors.{AboveFloors}
 use Rattle.tabview_print.proofs.FloorLemmas.{exact-given, fits-kept, floor-above, floor-below, floors-length, least-given}
-use Rattle.tabview_print.specs.Fitted.{IsCutTo, IsFitted, ShowsWithin, StaysIfFits, inner, narrowing}
+use Rattle.tabview_print.specs.Fitted.{IsCutTo, IsFitted, ShowsWithin, StaysIfFits, narrowing}
 use Rattle.tabview_print.specs.Floors.{floors_of, is_name, keeps_at}
 use Rattle.tabview_print.specs.declared.layout.Column.{Column}
 use Rattle.tabview_print.specs.declared.layout.Narrowing.{Narrowing}

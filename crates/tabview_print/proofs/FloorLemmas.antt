@@ -1,5 +1,5 @@
 -- The floors of columns, and lists that shrink to them.
-use Rattle.std.proofs.Common.{suc, Bool, List, [], map, ◌++◌, ◌∷◌, ap, arith, cond, false, length, max, min, refl, subst, sum, sym, true, ℕ, ⊎_elim, ◌+◌, ◌-◌, ◌<◌, ◌∙◌, ◌≡◌, ◌≤◌}
+use Rattle.std.proofs.Common.{suc, Bool, List, [], map, ◌++◌, ◌∷◌, ap, arith, cond, false, length, min, subst, sum, sym, true, ℕ, ⊎_elim, ◌+◌, ◌<◌, ◌∙◌, ◌≡◌, ◌≤◌}
 use Rattle.std.proofs.lemmas.Bool.{cases_lt}
 use Rattle.std.proofs.lemmas.List.{get_or_past}
 use Rattle.std.proofs.lemmas.List.FromFn.{get_or-map-range_with_len, length-map-range_with_len, map-range_with_len_more}
@@ -14,11 +14,10 @@ use Rattle.tabled_set.proofs.Emptied.{minimums-le, minimums-length, side_padding
 use Rattle.tabled_set.specs.Minimums.{minimums, side_padding}
 use Rattle.tabled_size.proofs.Greatest.{greatest_ge}
 use Rattle.tabled_size.proofs.ShrunkTotals.{spare_total-sum}
-use Rattle.tabled_size.proofs.Totalling.{widths_length}
 use Rattle.tabled_size.specs.Estimates.{estimated_widths}
-use Rattle.tabled_size.specs.Sheet.{Sheet, estimated}
+use Rattle.tabled_size.specs.Sheet.{estimated}
 use Rattle.tabled_text.specs.Measure.{text_columns}
-use Rattle.tabview_cells.specs.Fitted.{CanGive, GivesToFloors, NoneGives, floor_at}
+use Rattle.tabview_cells.specs.Fitted.{GivesToFloors, NoneGives, floor_at}
 use Rattle.tabview_cells.specs.Words.{longest_word}
 use Rattle.tabview_print.specs.Floors.{cell_floor, content_floor, floor_of, floors_of, is_name, keeps_at}
 use Rattle.tabview_print.specs.declared.floors.TheConstants.{WORD_COLUMNS}

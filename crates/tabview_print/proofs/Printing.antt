@@ -1,17 +1,16 @@
 -- What calls that print one of several tables leave.
-use Rattle.std.proofs.Common.{None, Option, Some, unwrap_or, Bool, Err, IfErr, IfOk, OnOk, List, Ok, Result, ap, arith, false, inl, inr, refl, subst, sym, true, ℕ, ⊎_elim, ◌∙◌, ◌≡◌, ◌⊎◌, ◌≤◌, ◌<◌}
+use Rattle.std.proofs.Common.{None, Option, Some, unwrap_or, Bool, Err, IfErr, IfOk, OnOk, List, Ok, Result, ap, false, inl, inr, refl, subst, sym, true, ℕ, ⊎_elim, ◌∙◌, ◌≡◌}
 use Rattle.std.specs.Borrow.{Bor}
 use Rattle.std.specs.Option.{option_copied}
 use Rattle.std.specs.Result.{IsErrAnd}
 use Rattle.tabled_base.specs.declared.error.TableError.{TableError}
-use Rattle.tabled_base.specs.declared.error.TableError.TheVariants.{Memory, Range}
 use Rattle.tabled_grid.specs.Printed.{Prints}
 use Rattle.tabled_line.specs.Sent.{Sent}
 use Rattle.tabled_config.specs.declared.spanned.SpannedConfig.{SpannedConfig}
 use Rattle.tabled_size.specs.Effective.{effective}
 use Rattle.tabled_size.specs.Sheet.{Sheet}
 use Rattle.tabled_size.specs.declared.complete_dimension.CompleteDimension.{CompleteDimension}
-use Rattle.tabview_print.specs.PrintedTables.{PrintsShown, SendsShown, StopsEarly, StopsPrinting}
+use Rattle.tabview_print.specs.PrintedTables.{PrintsShown, StopsEarly}
 
 -- an early error
 pub stopped-early : (shows : Sheet → Type 0) (none : Type 0) (t : Sheet) (old : Sent) (r : Result Bool TableError) (e : TableError)

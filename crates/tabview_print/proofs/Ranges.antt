@@ -1,6 +1,6 @@
 -- Errors before anything is sent: a total of the whole table passes the greatest `usize`.
-use Rattle.tabled_set.proofs.Names.{CompleteDimension, List, Some, SpannedConfig, [], ap, arith, cell_at, columns, cond, effective, emptied, estimated, estimated_heights, estimated_widths, filled_width}
-use Rattle.tabled_set.proofs.Names.{heights_of, inl, inr, is_empty, length, needed_width, subst, text_columns, total_width, widths_of, ℕ, ⊎_elim, ◌<◌, ◌^◌, ◌≡◌, ◌≤◌, ◌⊎◌, false, Memory, Range, TableError, Sheet}
+use Rattle.tabled_set.proofs.Names.{CompleteDimension, List, Some, SpannedConfig, [], ap, arith, columns, cond, effective, emptied, estimated, estimated_heights, estimated_widths, filled_width}
+use Rattle.tabled_set.proofs.Names.{heights_of, inl, inr, is_empty, length, subst, text_columns, total_width, widths_of, ℕ, ⊎_elim, ◌<◌, ◌^◌, ◌≡◌, ◌≤◌, ◌⊎◌, false, Memory, Range, TableError, Sheet}
 use Rattle.std.proofs.Common.{Bor, None, Option, option_map, unwrap_or, Err, IfErr, IfOk, Ok, Result, refl, sym, true, ◌∙◌}
 use Rattle.std.proofs.lemmas.Bool.{cases_Bool}
 use Rattle.tabled_grid.proofs.EstimatedSizes.{passes_too_high, passes_too_wide}

@@ -1,9 +1,9 @@
 -- Tables that are shown by the width of a layout.
-use Rattle.std.proofs.Common.{Bool, List, MatchOption, None, Option, Result, Some, subst, sym, ℕ, ◌≡◌}
+use Rattle.std.proofs.Common.{Bool, List, MatchOption, None, Result, Some, subst, sym, ℕ, ◌≡◌}
 use Rattle.tabled_base.specs.declared.error.TableError.{TableError}
 use Rattle.tabled_config.specs.declared.spanned.SpannedConfig.{SpannedConfig}
 use Rattle.tabled_line.specs.Sent.{Sent}
-use Rattle.tabled_size.specs.Sheet.{Sheet, estimated}
+use Rattle.tabled_size.specs.Sheet.{estimated}
 use Rattle.tabview_print.proofs.Printing.{shown-so}
 use Rattle.tabview_print.specs.Fitted.{IsTooNarrow, ShowsWithin}
 use Rattle.tabview_print.specs.Layouts.{settings_of}

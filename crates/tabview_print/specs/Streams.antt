@@ -1,5 +1,5 @@
 -- The settings of a table that is printed while its rows are read.
-use Rattle.std.specs.Prelude.{◌≡◌, ℕ, None, Some}
+use Rattle.std.specs.Prelude.{◌≡◌, ℕ, Some}
 use Rattle.tabled_config.specs.declared.compact.CompactConfig.{CompactConfig}
 use Rattle.tabled_config.specs.declared.style.Style.{Style}
 use Rattle.tabled_line.specs.NewConfig.{IsNewConfig}

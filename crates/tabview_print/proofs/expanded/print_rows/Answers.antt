@@ -6,7 +6,7 @@ use Rattle.tabled_extended.specs.PrintedRecords.{PrintsRecords}
 use Rattle.tabled_extended.specs.RecordLines.{record_label}
 use Rattle.tabled_extended.specs.Rows.{first_row, further_rows}
 use Rattle.tabview_print.proofs.ExpandedTables.{prints-expanded}
-use Rattle.tabview_print.specs.Expanded.{AreCutTo, AreShown}
+use Rattle.tabview_print.specs.Expanded.{AreCutTo}
 use Rattle.tabview_print.proofs.expanded.print_rows.Goals as goal
 
 pub returns : goal.returns

@@ -1,14 +1,11 @@
-use Rattle.std.proofs.Common.{List, inl, arith, rules, subst, sym, unwrap_or, ℕ, ◌∙◌, ◌≡◌, ◌≤◌, ◌⊎◌}
+use Rattle.std.proofs.Common.{inl, arith, rules, subst, sym, unwrap_or, ◌∙◌, ◌≡◌, ◌≤◌}
 use Rattle.std.proofs.lemmas.Grind.{common_steps}
-use Rattle.tabled_base.specs.declared.error.TableError.{TableError}
-use Rattle.tabled_base.specs.declared.error.TableError.TheVariants.{Memory, Range}
 use Rattle.tabled_set.specs.CellChanges.{word_wrapping}
-use Rattle.tabled_set.specs.Narrowed.{NarrowingOutOfRange, Narrows}
+use Rattle.tabled_set.specs.Narrowed.{Narrows}
 use Rattle.tabled_priority.specs.Permitted.{spare_total}
 use Rattle.tabled_size.specs.Effective.{effective}
 use Rattle.tabled_size.specs.Estimates.{estimated_widths}
 use Rattle.tabled_size.specs.Sheet.{estimated}
-use Rattle.tabled_size.specs.Totals.{total_width}
 use Rattle.tabview_cells.specs.Fitted.{GivesToFloors}
 use Rattle.tabview_print.proofs.FittedTables.{fitted-cut, gives-to, narrows-fitted}
 use Rattle.tabview_print.proofs.Printing.{if-err-so, if-ok-so}

@@ -1,10 +1,10 @@
-use Rattle.std.proofs.Common.{[], map, ap, arith, length, min, replicate, sym, ◌+◌, ◌∙◌, ◌≡◌}
+use Rattle.std.proofs.Common.{[], map, ap, arith, length, min, replicate, ◌+◌, ◌∙◌, ◌≡◌}
 use Rattle.std.specs.List.{range_with_len}
 use Rattle.tabled_base.specs.Cells.{columns}
 use Rattle.tabled_priority.specs.Permitted.{at}
 use Rattle.tabled_set.specs.Minimums.{emptied, minimums}
 use Rattle.tabled_size.proofs.Totalling.{widths_length}
-use Rattle.tabled_size.specs.Estimates.{IsTooWide, estimated_widths}
+use Rattle.tabled_size.specs.Estimates.{estimated_widths}
 use Rattle.tabled_size.specs.Sheet.{estimated}
 use Rattle.tabview_print.proofs.FloorLemmas.{floors-more}
 use Rattle.tabview_print.proofs.Printing.{error-only}

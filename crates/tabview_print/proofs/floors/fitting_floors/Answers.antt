@@ -1,4 +1,4 @@
-use Rattle.std.proofs.Common.{ap, arith, length, rules, sym, ◌∙◌, ◌≡◌}
+use Rattle.std.proofs.Common.{ap, arith, length, ◌∙◌}
 use Rattle.tabled_size.proofs.Totalling.{widths_length}
 use Rattle.tabled_size.specs.Estimates.{estimated_widths}
 use Rattle.tabview_print.proofs.FloorLemmas.{floors-length}

@@ -1,8 +1,7 @@
-use Rattle.std.proofs.Common.{ap, arith, drop, length, sym, ◌+◌, ◌∙◌, ◌≡◌, ◌≤◌}
+use Rattle.std.proofs.Common.{ap, arith, drop, length, sym, ◌+◌, ◌∙◌, ◌≤◌}
 use Rattle.std.proofs.lemmas.List.{drop_all}
 use Rattle.tabled_config.specs.Options.{colored, with_style}
 use Rattle.tabled_config.specs.declared.spanned.SpannedConfig.{SpannedConfig}
-use Rattle.tabled_table.specs.NewConfig.{new_config}
 use Rattle.tabview_print.proofs.Sides.{sides-more}
 use Rattle.tabview_print.specs.Layouts.{with_sides}
 use Rattle.tabview_print.proofs.layout.settings.Goals as goal
