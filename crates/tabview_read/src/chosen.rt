@@ -43,7 +43,7 @@ impl<'a> Chosen<'a> {
         Ok(())
     }
 
-    /// Shows all of so many columns, if none were wanted.
+    /// Shows all columns of a row of `count` cells, if none were wanted.
     pub fn widen(&mut self, count: usize) -> Result<(), AllocError> {
         if self.words.is_empty() {
             for column in self.columns.len()..count {

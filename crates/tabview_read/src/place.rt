@@ -24,8 +24,8 @@ fn place_behind(before: &[u8]) -> Place
     place
 }
 
-/// Returns bytes as text, without a byte-order mark. Bytes that are no UTF-8 are an error with their
-/// place, or U+FFFD if `lossy`.
+/// Returns bytes as text, without a byte-order mark. Bytes that are no UTF-8 are an error with
+/// their place, or U+FFFD if `lossy`.
 pub fn text_of(alloc: Global, bytes: &[u8], lossy: bool) -> Result<String, ReadError> {
     let bytes = without_mark(bytes);
     if lossy {

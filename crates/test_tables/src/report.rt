@@ -1,5 +1,5 @@
-//! A report of several pages on disks that fill up: what is done about each error, and that a page is
-//! whole or isn't there.
+//! A report of several pages on disks that fill up: what is done about each error, and that a page
+//! is whole or isn't there.
 
 use std::alloc::Global;
 use std::io::{self, ErrorKind, Write};
