@@ -140,7 +140,7 @@ fn sides<'a>(
     let mut list = Vec::new(alloc);
     for word in texts(alloc, matches, "align")? {
         match side_of(word) {
-            Some(side) => list.push(side)?,
+            Some(side) => list.push(side).map_err(AllocError::from)?,
             None => return Err(WrongOption::Align(String::from_str(alloc, word)?)),
         }
     }

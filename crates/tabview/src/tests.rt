@@ -144,7 +144,7 @@ fn control_characters_are_signs(rt: HostRuntime) -> Result<(), Fail> {
 fn sides_and_nulls(rt: HostRuntime) -> Result<(), Fail> {
     check(
         &rt,
-        &["tabview", "-s", "markdown", "-a", "b=right", "--null", "NA"],
+        &["tabview", "-s", "markdown", "-a", "bbb=right", "--null", "NA"],
         "aaa,bbb\n1,x\nNA,y\n",
         "| aaa | bbb |\n|-----|-----|\n|   1 |   x |\n|  NA |   y |\n",
     )
@@ -196,7 +196,7 @@ fn an_empty_input_prints_nothing(rt: HostRuntime) -> Result<(), Fail> {
 
 #[test]
 fn values_of_json(rt: HostRuntime) -> Result<(), Fail> {
-    let wanted = "| a   | b     |\n|-----|-------|\n| 1   | NULL  |\n| x   | [1,2] |\n";
+    let wanted = "| a | b     |\n|---|-------|\n| 1 | NULL  |\n| x | [1,2] |\n";
     let words = ["tabview", "-s", "markdown"];
     check(
         &rt,
@@ -240,7 +240,7 @@ fn null_has_a_text(rt: HostRuntime) -> Result<(), Fail> {
         &rt,
         &["tabview", "-s", "markdown", "--null", "-"],
         "{\"a\":10}\n{\"a\":null}\n{\"a\":\"\"}\n",
-        "| a  |\n|----|\n| 10 |\n|  - |\n|    |\n",
+        "|  a |\n|----|\n| 10 |\n|  - |\n|    |\n",
     )
 }
 
@@ -250,7 +250,7 @@ fn a_stream_cuts_what_is_wider(rt: HostRuntime) -> Result<(), Fail> {
         &rt,
         &["tabview", "--stream", "1", "-s", "psql", "-n"],
         "id,name\n1,Oslo\n2,Thiruvananthapuram\n",
-        " # | id | name \n---+----+------\n 1 | 1  | Oslo \n 2 | 2  | Thi… \n",
+        " # | id | name \n 1 | 1  | Oslo \n 2 | 2  | Thi… \n",
     )?;
     check(
         &rt,
