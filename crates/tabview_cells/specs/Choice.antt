@@ -1,6 +1,7 @@
 -- The cells that are shown of a row. A row is the list of its cells, and a cell that of its bytes.
-use Rattle.std.specs.Prelude.{ℕ, List, [], true, false, unwrap_or}
+use Rattle.std.specs.Prelude.{ℕ, List, [], ◌++◌, true, false, unwrap_or}
 use Rattle.csv.specs.Records.{field_at}
+use Rattle.tabled_records.specs.Joined.{Written}
 use Rattle.tabview_cells.specs.Escaping.{escaped}
 use Rattle.tabview_cells.specs.declared.choice.Shown.{Shown}
 use Rattle.tabview_cells.specs.declared.choice.Shown.TheVariants.{Lines, OneLine, Raw}
@@ -18,3 +19,7 @@ cell_of row column = unwrap_or (field_at row column) []
 -- that cell as it is shown
 abbrev pub shown_cell : Shown → List (List ℕ) → ℕ → List ℕ
 shown_cell shown row column = shown_text shown (cell_of row column)
+
+-- further texts are in the row that is begun
+abbrev pub with_texts : Written → List (List ℕ) → Written
+with_texts w texts = record { rows = w.rows; begun = w.begun ++ texts }

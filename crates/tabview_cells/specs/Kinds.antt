@@ -1,7 +1,11 @@
--- What the cells of a column are.
-use Rattle.std.specs.Prelude.{ℕ, ◌==◌, ◌&&◌, ◌||◌, Bool, true, false, List, if◌then◌else◌, length, map}
-use Rattle.std.specs.Int.{is_in_range}
-use Rattle.std.specs.List.{fold, list_all, zip}
+-- What the cells of a column are. A cell is the list of its bytes.
+use Rattle.std.specs.Prelude.{ℕ, ◌==◌, ◌&&◌, Bool, true, false, not, List, if◌then◌else◌, chars, length, nat_le}
+use Rattle.std.specs.Char.{is_whitespace}
+use Rattle.std.specs.List.{list_any}
+use Rattle.tabled_text.specs.Measure.{text_columns}
+use Rattle.tabview_cells.specs.Dates.{is_date}
+use Rattle.tabview_cells.specs.Numbers.{is_number}
+use Rattle.tabview_cells.specs.declared.kinds.TheConstants.{CODE_COLUMNS}
 use Rattle.tabview_cells.specs.declared.kinds.Kind.{Kind}
 use Rattle.tabview_cells.specs.declared.kinds.Kind.TheVariants.{Code, Date, Empty, Number, Text}
 
@@ -20,6 +24,12 @@ abbrev pub keeps_width : Kind → Bool
 keeps_width Text = false
 keeps_width kind = true
 
--- a byte that fits one of a shape: a digit for `0`, else the same byte
-abbrev pub fits_byte : ℕ → ℕ → Bool
-fits_byte byte shape = if shape == 48 then is_in_range 48 57 byte else byte == shape
+-- a code: a few columns, without white space
+abbrev pub is_code : List ℕ → Bool
+is_code cell = nat_le (text_columns cell) CODE_COLUMNS && not (list_any is_whitespace (chars cell))
+
+-- the kind of a cell: the first that it is of
+abbrev pub kind_of : List ℕ → Kind
+kind_of cell =
+    if length cell == 0 then Empty
+    else (if is_number cell then Number else (if is_date cell then Date else (if is_code cell then Code else Text)))

@@ -3,3 +3,6 @@ pub mod Choice
 pub mod Fitted
 pub mod Kinds
 pub mod Laws
+pub mod Words
+pub mod Numbers
+pub mod Dates

@@ -5,9 +5,10 @@ ghost use Rattle.tabled_priority.specs.Permitted.{lowered};
 ghost use Rattle.tabview_cells.specs.Fitted.{CanGive, GivesToFloors, IsWidest, NoneGives, floor_at};
 ghost use Rattle.tabview_cells.specs.Laws.{GivesToFloors-done, GivesToFloors-none};
 ghost use Rattle.tabview_cells.specs.Laws.{GivesToFloors-step};
+ghost use Rattle.tabview_cells.specs.Words.{longest_in_line, longest_word};
 
 use tabled_priority::Peaker;
-use tabled_text::text_width;
+use tabled_text::{line_width, lines};
 
 /// The widest column gives first, and none goes below its floor, its least width. A column whose
 /// floor is its width doesn't give. Columns without a floor have 0.
@@ -82,10 +83,23 @@ impl Peaker for AboveFloors<'_> {
 }
 
 /// Returns the columns of the widest word of a text. Spaces and line feeds end words.
-pub fn longest_word(text: &str) -> usize {
+pub fn longest_word(text: &str) -> usize
+    ensures { result ≡ longest_word text.now }
+{
     let mut most: usize = 0;
-    for word in text.split([' ', '\n']) {
-        most = most.max(text_width(word));
+    for line in lines(text) {
+        most = most.max(longest_in_line(line));
+    }
+    most
+}
+
+/// Returns the columns of the widest word of a line. Spaces end words.
+fn longest_in_line(line: &str) -> usize
+    ensures { result ≡ longest_in_line line.now }
+{
+    let mut most: usize = 0;
+    for word in line.split(' ') {
+        most = most.max(line_width(word));
     }
     most
 }
