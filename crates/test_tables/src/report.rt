@@ -18,16 +18,28 @@ const SIZE: usize = 450;
 
 /// A disk of limited size. A write to a full one fails.
 #[derive(Drop)]
-struct Disk(Vec<u8>);
+struct Disk {
+    held: Vec<u8>,
+    size: usize,
+}
+
+impl Disk {
+    fn new(alloc: Global) -> Disk {
+        Disk {
+            held: Vec::new(alloc),
+            size: SIZE,
+        }
+    }
+}
 
 impl Write for Disk {
     fn write(&mut self, bytes: &[u8]) -> io::Result<usize> {
-        let room = SIZE.saturating_sub(self.0.len());
+        let room = self.size.saturating_sub(self.held.len());
         let count = room.min(bytes.len());
         if count == 0 {
             return Err(io::Error::from(ErrorKind::StorageFull));
         }
-        self.0.extend_from_slice(&bytes[..count])?;
+        self.held.extend_from_slice(&bytes[..count])?;
         Ok(count)
     }
 
@@ -70,18 +82,18 @@ fn put_page(
         let Some(disk) = disks.last_mut() else {
             return Err(TableError::Writer);
         };
-        let whole = disk.0.len();
+        let whole = disk.held.len();
         let Err(error) = attempt(alloc, number, &page, disk) else {
             return Ok(());
         };
         // What came out of the page before the error.
-        disk.0.truncate(whole);
+        disk.held.truncate(whole);
         writeln!(log, "page {number}: {error}")?;
         match error {
             TableError::Narrow { .. } | TableError::ShortWidths => {
                 page.get_dimension_mut().clear();
             }
-            TableError::Writer => disks.push(Disk(Vec::new(alloc)))?,
+            TableError::Writer => disks.push(Disk::new(alloc))?,
             other => return Err(other),
         }
     }
@@ -149,7 +161,7 @@ Page 4
 fn pages_on_small_disks_are_whole(rt: HostRuntime) -> Result<(), Fail> {
     let alloc = rt.alloc();
     let mut log = String::new(alloc);
-    let mut disks = vec![in alloc; Disk(Vec::new(alloc))]?;
+    let mut disks = vec![in alloc; Disk::new(alloc)]?;
     let (header, rows) = INPUT.split_first().ok_or("no header")?;
     for (number, rows) in (1..=u64::MAX).zip(rows.chunks(ROWS)) {
         let page = page_of(alloc, header, rows)?;
@@ -158,7 +170,7 @@ fn pages_on_small_disks_are_whole(rt: HostRuntime) -> Result<(), Fail> {
     assert_eq!(rt; log.as_str(), LOG);
     assert_eq!(rt; disks.len(), DISKS.len());
     for (disk, wanted) in disks.iter().zip(DISKS) {
-        assert_eq!(rt; str::from_utf8(disk.0.as_slice())?, wanted);
+        assert_eq!(rt; str::from_utf8(disk.held.as_slice())?, wanted);
     }
     Ok(())
 }
