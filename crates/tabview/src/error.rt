@@ -16,6 +16,8 @@ pub enum ViewError {
     Output(io::Error),
     /// A database was given at standard input.
     Database,
+    /// There is a query, but no database.
+    NoDatabase,
 }
 
 impl fmt::Display for ViewError {
@@ -25,6 +27,7 @@ impl fmt::Display for ViewError {
             ViewError::Table(error) => write!(f, "{error}"),
             ViewError::Output(error) => write!(f, "the output can't be written: {error}"),
             ViewError::Database => f.write_str("a database of SQLite can only be read from a file"),
+            ViewError::NoDatabase => f.write_str("--query needs a database of SQLite"),
         }
     }
 }

@@ -78,6 +78,9 @@ pub fn show_input<R: Read + Drop, W: Write>(
     if format == Format::Sqlite {
         return Ok(false);
     }
+    if options.query.is_some() {
+        return Err(ViewError::NoDatabase);
+    }
     show_text(rt, options, format, head.as_slice().chain(input), out)?;
     Ok(true)
 }

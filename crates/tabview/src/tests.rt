@@ -144,7 +144,15 @@ fn control_characters_are_signs(rt: HostRuntime) -> Result<(), Fail> {
 fn sides_and_nulls(rt: HostRuntime) -> Result<(), Fail> {
     check(
         &rt,
-        &["tabview", "-s", "markdown", "-a", "bbb=right", "--null", "NA"],
+        &[
+            "tabview",
+            "-s",
+            "markdown",
+            "-a",
+            "bbb=right",
+            "--null",
+            "NA",
+        ],
         "aaa,bbb\n1,x\nNA,y\n",
         "| aaa | bbb |\n|-----|-----|\n|   1 |   x |\n|  NA |   y |\n",
     )
@@ -314,6 +322,17 @@ fn a_query_of_a_database(rt: HostRuntime) -> Result<(), Fail> {
     let wanted = "| people | name  |\n|--------|-------|\n|   5774 | Vaduz |\n|   NULL |       |\n";
     assert_eq!(rt; text.as_str(), wanted);
     Ok(())
+}
+
+#[test]
+fn a_query_needs_a_database(rt: HostRuntime) -> Result<(), Fail> {
+    check(
+        &rt,
+        &["tabview", "-q", "x"],
+        "a\n",
+        "--query needs a database of SQLite",
+    )?;
+    check(&rt, &["tabview"], "SQLite format 3\0", "a database")
 }
 
 #[test]
