@@ -20,7 +20,10 @@ pub struct Options<'a> {
     pub has_header: bool,
     pub fill: bool,
     pub lossy: bool,
-    pub null: Option<&'a str>,
+    /// What is shown for null.
+    pub null: &'a str,
+    /// The text of cells that count as empty.
+    pub blank: &'a str,
     pub columns: Vec<&'a str>,
     pub rows: Option<usize>,
     pub tail: Option<usize>,
@@ -51,7 +54,8 @@ impl<'a> Options<'a> {
             has_header: !matches.get_flag("no-header"),
             fill: matches.get_flag("fill"),
             lossy: matches.get_flag("lossy"),
-            null: matches.get_str("null"),
+            null: matches.get_str("null").unwrap_or("NULL"),
+            blank: matches.get_str("null").unwrap_or(""),
             columns: texts(alloc, matches, "columns")?,
             rows: matches.get_one::<usize>("rows"),
             tail: matches.get_one::<usize>("tail"),
@@ -76,8 +80,8 @@ impl<'a> Options<'a> {
             tail: self.tail,
             numbers: self.numbers,
             count: self.count,
-            null: self.null.unwrap_or("NULL"),
-            blank: self.null.unwrap_or(""),
+            null: self.null,
+            blank: self.blank,
             shown: self.shown,
         }
     }
