@@ -1,10 +1,11 @@
-//! Prints rows as a table that is fitted to a width, or one below the other.
+//! Prints rows as a table that is fitted to a width, one below the other, or while they are read.
 //!
 //! - `layout`: how rows are laid out, and what keeps its width.
-//! - `floors`: the least widths of columns.
+//! - `floors`: the widths below which columns don't shrink.
 //! - `fitting`: a table that is fitted to a width.
 //! - `expanded`: records one below the other.
-//! - `rows`: the cells of a row, by reference.
+//! - `stream`: rows that are printed while they are read.
+//! - `rows`: the rows of a table, by reference.
 #![tactic(auto)]
 
 mod expanded;
@@ -12,7 +13,9 @@ mod fitting;
 mod floors;
 mod layout;
 mod rows;
+mod stream;
 
 pub use expanded::print_expanded;
 pub use fitting::print_table;
 pub use layout::{Column, Layout, Narrowing};
+pub use stream::print_stream;
