@@ -33,8 +33,6 @@ mod reading;
 #[cfg(test)]
 mod records;
 #[cfg(test)]
-mod report;
-#[cfg(test)]
 mod rows;
 #[cfg(test)]
 mod runs;
