@@ -54,8 +54,8 @@ returns-in-Wrap-clause-only c =
     (λ e cause. early-narrowing o.size cells config before e c.requires.widths c.requires.heights cause)
     c.narrowed.ensures.only
 
-pub returns-clause-ok : goal.returns-clause-ok
-returns-clause-ok c =
+pub returns-in-Cut-clause-ok : goal.returns-in-Cut-clause-ok
+returns-in-Cut-clause-ok c =
     let fit = c.args.fit.now in
     let cells = c.args.records.now in
     let config = c.args.config.now in
@@ -68,6 +68,6 @@ returns-clause-ok c =
     (unwrap_or changed cells) after made))
     c.cut.ensures.ok
 
-pub returns-clause-only : goal.returns-clause-only
-returns-clause-only c =
+pub returns-in-Cut-clause-only : goal.returns-in-Cut-clause-only
+returns-in-Cut-clause-only c =
     if-err-so _ (StopsEarly (estimated c.args.records.now c.args.config.now)) c.cut.result (λ e m. inl m) c.cut.ensures.only

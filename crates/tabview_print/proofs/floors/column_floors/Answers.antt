@@ -56,3 +56,9 @@ returns-clause-ok g c =
     let e = ap length c.requires in
     let all : c.loop-column.column ≡ columns cells = omega (arith, e, widths_length cells c.args.config.now) in
     c.loop-column.invariant ∙ ap (λ n. map f (range_with_len 0 n)) all
+
+pub content_floor-content-requires : goal.content_floor-content-requires
+content_floor-content-requires g c =
+    let cells = g.R.ExactRecords.cells c.args.records.now in
+    let e = ap length c.requires in
+    omega (arith, e, widths_length cells c.args.config.now)
