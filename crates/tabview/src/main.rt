@@ -1,25 +1,24 @@
-//! Looks at tables: prints comma- or tab-separated values as a table that fits the terminal.
+//! Looks at tables: prints CSV, TSV, JSON, JSON lines or a query of SQLite as a table that fits the
+//! terminal.
 #![tactic(auto)]
 
-mod csv_rows;
+mod command;
+mod error;
+mod input;
+mod layout;
 mod options;
-mod reading;
+mod progress;
 #[cfg(test)]
 mod tests;
 mod view;
 
-use anyhow::{Context, Result};
-use options::{Options, command};
-use std::alloc::Global;
-use std::fs::File;
-use std::io::{self, BufWriter, Write};
+use anyhow::Result;
+use command::command;
+use input::show;
+use options::Options;
+use std::env;
 use std::process::ExitCode;
 use std::rt::Env;
-use std::env;
-use view::view;
-
-/// The bytes that are written at once.
-const BLOCK: usize = 65_536;
 
 fn main(rt: HostRuntime) -> Result<ExitCode> {
     let words: Vec<String> = env::args(&rt)?.collect(rt.alloc())?;
@@ -30,25 +29,20 @@ fn main(rt: HostRuntime) -> Result<ExitCode> {
             return Ok(ExitCode::from(error.exit_code() as u8));
         }
     };
-    let options = Options::of(rt.alloc(), &matches, terminal_width(&rt))?;
-    match run(&rt, &options) {
+    let options = match Options::of(rt.alloc(), &matches, terminal_width(&rt)) {
+        Ok(options) => options,
+        Err(error) => {
+            eprintln!(rt; "tabview: {error}")?;
+            return Ok(ExitCode::from(2));
+        }
+    };
+    match show(&rt, &options) {
         Ok(()) => Ok(ExitCode::SUCCESS),
         Err(error) => {
-            eprintln!(rt; "tabview: {error:#}")?;
+            let input = options.file.unwrap_or("standard input");
+            eprintln!(rt; "tabview: {input}: {error}")?;
             Ok(ExitCode::from(1))
         }
-    }
-}
-
-/// Shows the file, or standard input without one.
-fn run(rt: &HostRuntime, options: &Options<'_>) -> Result<()> {
-    let mut out = BufWriter::with_capacity(rt.alloc(), BLOCK, io::writer(rt))?;
-    match options.file {
-        Some(path) if path != "-" => {
-            let file = File::open(rt, path).context(format_args!("{path}"))?;
-            view(rt.alloc(), options, file, &mut out).context(format_args!("{path}"))
-        }
-        _ => view(rt.alloc(), options, rt.stdin(), &mut out).context("standard input"),
     }
 }
 

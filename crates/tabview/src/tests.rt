@@ -1,34 +1,44 @@
 //! Runs of the viewer: each option, and input that is wrong. The tables are worked out by hand.
 
-use crate::options::{Options, command};
-use crate::view::view;
-use anyhow::Result;
-use std::alloc::Global;
+use crate::command::command;
+use crate::input::{show_database, show_input};
+use crate::options::Options;
+use sqlite::Connection;
 use std::test::Fail;
 
 const CITIES: &str = "City,People,Census\nVaduz,5774,2021-12-31\n北京,21893095,2020-11-01\n";
 
 /// Returns what is printed for an input, or the message of the error.
-fn run(alloc: Global, words: &[&str], input: &str, columns: Option<usize>) -> Result<String> {
+fn run(rt: &HostRuntime, words: &[&str], input: &[u8]) -> Result<String, Fail> {
+    let alloc = rt.alloc();
     let matches = match command(alloc)?.try_get_matches_from(words) {
         Ok(matches) => matches,
         Err(error) => return Ok(format!(in alloc; "{error}")?),
     };
     let mut out = Vec::new(alloc);
-    let options = match Options::of(alloc, &matches, columns) {
+    let options = match Options::of(alloc, &matches, None) {
         Ok(options) => options,
-        Err(error) => return Ok(format!(in alloc; "{error:#}")?),
+        Err(error) => return Ok(format!(in alloc; "{error}")?),
     };
-    match view(alloc, &options, input.as_bytes(), &mut out) {
-        Ok(()) => Ok(String::from_utf8(out)?),
-        Err(error) => Ok(format!(in alloc; "{error:#}")?),
+    let shown = show_input(rt, &options, options.format, input, &mut out);
+    let mut text = String::from_utf8(out)?;
+    match shown {
+        Ok(true) => (),
+        Ok(false) => text.push_str("a database")?,
+        Err(error) => write!(text, "{error}")?,
     }
+    Ok(text)
 }
 
-/// Whether each input prints what it should, with the arguments before it.
+/// Fails with what an input prints, unless it is what is wanted.
 fn check(rt: &HostRuntime, words: &[&str], input: &str, wanted: &str) -> Result<(), Fail> {
-    let shown = run(rt.alloc(), words, input, None)?;
-    assert_eq!(rt; shown.as_str(), wanted, "by {words:?}");
+    let shown = run(rt, words, input.as_bytes())?;
+    let outcome: Result<(), String> = if shown.as_str() == wanted {
+        Ok(())
+    } else {
+        Err(shown)
+    };
+    outcome?;
     Ok(())
 }
 
@@ -134,7 +144,15 @@ fn control_characters_are_signs(rt: HostRuntime) -> Result<(), Fail> {
 fn sides_and_nulls(rt: HostRuntime) -> Result<(), Fail> {
     check(
         &rt,
-        &["tabview", "-s", "markdown", "-a", "b=right", "--null", "NA"],
+        &[
+            "tabview",
+            "-s",
+            "markdown",
+            "-a",
+            "bbb=right",
+            "--null",
+            "NA",
+        ],
         "aaa,bbb\n1,x\nNA,y\n",
         "| aaa | bbb |\n|-----|-----|\n|   1 |   x |\n|  NA |   y |\n",
     )
@@ -146,7 +164,7 @@ fn ragged_rows_fail_or_are_filled(rt: HostRuntime) -> Result<(), Fail> {
         &rt,
         &["tabview"],
         "a,b\n1\n",
-        "CSV error: record 1 (line: 2, byte: 4): found record with 1 fields, but the previous record has 2 fields",
+        "line 2: 1 cells, but 2 in the first record (record 1, byte 4)",
     )?;
     check(
         &rt,
@@ -159,17 +177,170 @@ fn ragged_rows_fail_or_are_filled(rt: HostRuntime) -> Result<(), Fail> {
 #[test]
 fn other_delimiters(rt: HostRuntime) -> Result<(), Fail> {
     let wanted = "| a | b |\n|---|---|\n| 1 | 2 |\n";
-    check(&rt, &["tabview", "-s", "markdown", "-f", "tsv"], "a\tb\n1\t2\n", wanted)?;
-    check(&rt, &["tabview", "-s", "markdown", "-d", ";"], "\u{feff}a;b\r\n1;2\r\n", wanted)?;
+    check(
+        &rt,
+        &["tabview", "-s", "markdown", "-f", "tsv"],
+        "a\tb\n1\t2\n",
+        wanted,
+    )?;
+    check(
+        &rt,
+        &["tabview", "-s", "markdown", "-d", ";"],
+        "\u{feff}a;b\r\n1;2\r\n",
+        wanted,
+    )?;
     check(
         &rt,
         &["tabview", "-d", "ab"],
         "a\n",
-        "--delimiter takes one ASCII character, or \\t",
+        "--delimiter takes one character of ASCII, or \\t",
     )
 }
 
 #[test]
 fn an_empty_input_prints_nothing(rt: HostRuntime) -> Result<(), Fail> {
     check(&rt, &["tabview"], "", "")
+}
+
+#[test]
+fn values_of_json(rt: HostRuntime) -> Result<(), Fail> {
+    let wanted = "| a | b     |\n|---|-------|\n| 1 | NULL  |\n| x | [1,2] |\n";
+    let words = ["tabview", "-s", "markdown"];
+    check(
+        &rt,
+        &words,
+        "[{\"a\": 1, \"b\": null}, {\"b\": [1, 2], \"a\": \"x\"}]",
+        wanted,
+    )?;
+    check(
+        &rt,
+        &words,
+        "{\"a\": 1, \"b\": null}\n{\"b\": [1, 2], \"a\": \"x\"}\n",
+        wanted,
+    )?;
+    check(
+        &rt,
+        &["tabview", "-s", "markdown", "-f", "json"],
+        "[[\"a\"],[1]]",
+        "| a |\n|---|\n| 1 |\n",
+    )
+}
+
+#[test]
+fn json_that_is_wrong(rt: HostRuntime) -> Result<(), Fail> {
+    check(
+        &rt,
+        &["tabview"],
+        "[{\"a\":1},\n {\"a\"}]",
+        "line 2, column 6: invalid JSON",
+    )?;
+    check(
+        &rt,
+        &["tabview"],
+        "{\"a\":1}\n{\"a\":1,\"a\":2}\n",
+        "line 2, column 1: an object has a key twice",
+    )
+}
+
+#[test]
+fn null_has_a_text(rt: HostRuntime) -> Result<(), Fail> {
+    check(
+        &rt,
+        &["tabview", "-s", "markdown", "--null", "-"],
+        "{\"a\":10}\n{\"a\":null}\n{\"a\":\"\"}\n",
+        "|  a |\n|----|\n| 10 |\n|  - |\n|    |\n",
+    )
+}
+
+#[test]
+fn a_stream_cuts_what_is_wider(rt: HostRuntime) -> Result<(), Fail> {
+    check(
+        &rt,
+        &["tabview", "--stream", "1", "-s", "psql", "-n"],
+        "id,name\n1,Oslo\n2,Thiruvananthapuram\n",
+        " # | id | name \n 1 | 1  | Oslo \n 2 | 2  | Thi… \n",
+    )?;
+    check(
+        &rt,
+        &["tabview", "--stream", "1", "-s", "empty"],
+        "{\"a\":1}\n{\"b\":1}\n",
+        " a \n 1 \nline 2, column 1: the key b is in none of the rows read ahead",
+    )?;
+    check(&rt, &["tabview", "--stream", "1"], "", "")
+}
+
+#[test]
+fn bytes_that_are_no_text(rt: HostRuntime) -> Result<(), Fail> {
+    let shown = run(&rt, &["tabview"], b"a,b\n1,\xFF\n")?;
+    assert_eq!(rt;
+        shown.as_str(),
+        "line 2, column 2: invalid UTF-8 (record 1)"
+    );
+    let shown = run(
+        &rt,
+        &["tabview", "-s", "markdown", "--lossy"],
+        b"a,b\n1,\xFF\n",
+    )?;
+    assert_eq!(rt; shown.as_str(), "| a | b |\n|---|---|\n| 1 | \u{fffd} |\n");
+    Ok(())
+}
+
+#[test]
+fn a_column_to_align_has_to_be_shown(rt: HostRuntime) -> Result<(), Fail> {
+    check(
+        &rt,
+        &["tabview", "-a", "Town=left"],
+        CITIES,
+        "there is no column Town",
+    )?;
+    check(
+        &rt,
+        &["tabview", "-a", "City"],
+        CITIES,
+        "--align takes COLUMN=left, COLUMN=right or COLUMN=center, not City",
+    )
+}
+
+#[test]
+fn a_query_of_a_database(rt: HostRuntime) -> Result<(), Fail> {
+    let alloc = rt.alloc();
+    let mut connection = Connection::open_in_memory(alloc)?;
+    connection.execute_batch("CREATE TABLE city (name TEXT, people INTEGER)")?;
+    connection.execute_batch("INSERT INTO city VALUES ('Vaduz', 5774), ('', NULL)")?;
+    let words = [
+        "tabview",
+        "-s",
+        "markdown",
+        "-q",
+        "SELECT people, name FROM city",
+    ];
+    let matches = command(alloc)?.try_get_matches_from(words.as_slice())?;
+    let options = Options::of(alloc, &matches, None)?;
+    let mut out = Vec::new(alloc);
+    show_database(&rt, &options, &mut connection, &mut out)?;
+    let text = String::from_utf8(out)?;
+    let wanted = "| people | name  |\n|--------|-------|\n|   5774 | Vaduz |\n|   NULL |       |\n";
+    assert_eq!(rt; text.as_str(), wanted);
+    Ok(())
+}
+
+#[test]
+fn a_query_needs_a_database(rt: HostRuntime) -> Result<(), Fail> {
+    check(
+        &rt,
+        &["tabview", "-q", "x"],
+        "a\n",
+        "--query needs a database of SQLite",
+    )?;
+    check(&rt, &["tabview"], "SQLite format 3\0", "a database")
+}
+
+#[test]
+fn progress_is_silent_at_first(rt: HostRuntime) -> Result<(), Fail> {
+    check(
+        &rt,
+        &["tabview", "-s", "empty", "--progress"],
+        "a\n1\n",
+        " a \n 1 \n",
+    )
 }
