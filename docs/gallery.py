@@ -15,7 +15,9 @@ TOP = pathlib.Path(__file__).resolve().parent.parent
 PAGES = TOP / "crates/docs_gallery_pages/src"
 GALLERY = TOP / "docs/GALLERY.md"
 
-# What is compared with what is run: the programs with a stored output, and the library below the gallery.
+# What is compared with what is run: the programs with a stored output, the library below the gallery, and these: a crate whose tests
+# the gate runs, and a library of `tabview`.
+RUN_TOO = ["test_tables", "tabview_cells"]
 TOLD = ["README.md", "docs/GUIDE.md", "docs/FROM_TABLED.md", "crates/tabled/src/lib.rt"]
 
 # The modules of which the page has a part, in its order.
@@ -188,7 +190,8 @@ def without_example(path):
 
 def check():
     programs = sorted(path.parent for path in (TOP / "crates").glob("*/stdout"))
-    code = [path.read_text().splitlines() for crate in [*programs, PAGES.parent] for path in sorted(crate.glob("src/**/*.rt"))]
+    run = [*programs, PAGES.parent, *(TOP / "crates" / name for name in RUN_TOO)]
+    code = [path.read_text().splitlines() for crate in run for path in sorted(crate.glob("src/**/*.rt"))]
     printed = [(crate / "stdout").read_text().splitlines() for crate in programs]
     joined = [" ".join(line.strip() for line in lines) for lines in code]
     missing = []
