@@ -78,13 +78,12 @@ pub mod tables {
     pub use tabled_table::{IterTable, Table};
 }
 
-/// Rows that may fail, and where the batches of a range of rows begin.
+/// Rows that may fail, here those of a vector of results, and where the batches of a range of rows
+/// begin.
 ///
 /// ```rust
-/// let mut table = IterTable::new(TryRows::new(answer));
-/// table.sniff(ahead);
-/// table.apply(Style::modern())?;
-/// let (printed, read) = table.try_build(alloc, out);
+/// let table = IterTable::new(TryRows::new(rows.into_iter()));
+/// let (printed, read) = table.try_fmt(alloc, &mut out);
 /// printed?;
 /// ```
 ///

@@ -74,7 +74,8 @@ impl<'a> Content<'a> {
     }
 }
 
-/// Records whose cells can be printed in any order. The texts needn't stand as they are printed.
+/// Records whose cells can be printed in any order. The stored texts may differ from the printed
+/// ones.
 pub trait ContentRecords: ExactRecords {
     /// Returns the text of a cell with its measures.
     fn content(&self, at: Position) -> Content<'_>

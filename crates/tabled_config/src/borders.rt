@@ -173,7 +173,7 @@ impl<T> Borders<T> {
 }
 
 impl<T: Copy> Borders<T> {
-    /// Returns what is set for the junction of lines that continue on the given sides. `None` on
+    /// Returns the character for the junction of lines that continue on the given sides. `None` on
     /// fewer than two sides and for a straight line, where no lines meet.
     pub fn junction(&self, left: bool, right: bool, up: bool, down: bool) -> Option<T>
         ensures { result ≡ junction self.now left right up down }

@@ -193,7 +193,7 @@ fn is_apart_around(frame: Frame) -> bool
 }
 
 /// Whether the settings of a table with `rows` and `columns` separate its cells: no text can join
-/// with what is beside it. Then all lines are equally wide, whatever the cells contain.
+/// with what is next to it. Then all lines are equally wide, whatever the cells contain.
 ///
 /// All of these must hold, also for characters that aren't drawn:
 /// - Padding and side margins are separators (`is_separator_column`).

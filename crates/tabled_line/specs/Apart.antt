@@ -1,4 +1,4 @@
--- Rows whose settings separate their cells: no text can join with what is beside it.
+-- Rows whose settings separate their cells: no text can join with what is next to it.
 use Rattle.std.specs.Prelude.{◌≡◌, ℕ, ◌+◌, ◌-◌, ◌*◌, ◌<◌, ◌≤◌, ◌⊎◌, true}
 use Rattle.std.specs.Str.{IsUtf8}
 use Rattle.tabled_text.specs.Measure.{text_columns}
@@ -47,7 +47,7 @@ HasSeparators frame count style =
     (frame.inner.there ≡ true)
     ⊎ (ArePaddedLeft count style ⊎ ((c : ℕ) → c < count → 0 < (style c).padding.right.size))
 
--- the cells of a row are separated: no text joins with what is beside it, and something is between
+-- the cells of a row are separated: no text joins with what is next to it, and something is between
 -- each two
 pub record AreApartCells (frame : Frame) (count : ℕ) (style : ℕ → CellStyle) : Type 0 where
   pub styles : (c : ℕ) → c < count → IsApartStyle (style c)

@@ -1,4 +1,4 @@
--- The block of a cell: its text, laid out in a width and a height.
+-- The block of a cell: the lines of its text, in a width and a height.
 use Rattle.std.specs.Prelude.{ℕ, ◌+◌, ◌-◌, ◌/◌, if◌then◌else◌, List, ◌++◌, length, take, map, replicate}
 use Rattle.tabled_text.specs.Measure.{line_columns, lines_of, text_columns}
 use Rattle.tabled_config.specs.declared.alignment.AlignmentHorizontal.{AlignmentHorizontal}

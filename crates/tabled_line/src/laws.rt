@@ -5,7 +5,7 @@ ghost use Rattle.tabled_line.specs.Apart.{HoldsTexts, IsApartRow, line_total};
 ghost use Rattle.tabled_line.specs.Row.{RowSheet, row_line};
 
 /// All lines of a row are equally wide, whatever its cells contain, if the settings separate the
-/// cells and the columns hold them. Separated means that no text can join with what is beside it.
+/// cells and the columns hold them. Separated means that no text can join with what is next to it.
 pub fn rows_of_any_text()
     ensures { (row : RowSheet) (index : ℕ) → IsApartRow row → HoldsTexts row → index < row.height
         → line_columns (row_line row index) ≡ line_total row.columns }

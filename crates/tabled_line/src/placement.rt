@@ -40,7 +40,7 @@ pub enum KnownPlacements<'a> {
     Cached(&'a [Placement]),
     /// One placement for all texts.
     Uniform(UniformPlacement),
-    /// One for all texts, but for the alignment.
+    /// One for all texts, except for the alignment.
     Aligned(AlignedCells<'a>),
     /// Nothing: each placement follows from the style of the cell.
     Styled,
@@ -89,7 +89,7 @@ impl UniformPlacement {
 /// The placements in a row whose cells share one padding, each with an alignment of its own.
 #[derive(Clone, Copy)]
 pub struct AlignedCells<'a> {
-    // The placement of all texts, but for the alignment.
+    // The placement of all texts, except for the alignment.
     uniform: UniformPlacement,
     horizontal: RowValues<'a, AlignmentHorizontal>,
 }

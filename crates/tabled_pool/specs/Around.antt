@@ -59,7 +59,7 @@ beside t r Inside = None
 beside t r Behind = if is_last_column t r then Some (alone t.line_marks.right) else None
 beside t r Outside = None
 
--- around a text: above it, beside it or below it
+-- around a text: above it, at its sides or below it
 abbrev pub around_text : DrawingPlan → Rectangle → RunSide → ℕ → Option Around
 around_text t r Before x =
     if has_top t.borders then across t t.line_marks.top_left t.line_marks.top t.line_marks.top_right r (run_side r.x r.width x) x else None

@@ -8,7 +8,7 @@ use Rattle.tabled_priority.specs.Shrunk.{IsBefore, comes_before, start, is_met}
 abbrev pub NoneAbove : List ℕ → List ℕ → Type 0
 NoneAbove values mins = (i : ℕ) → at values i ≤ at mins i
 
--- the index at a turn, of so many, from the right if `right`, else from the left
+-- the index at a turn, of `count`, from the right if `right`, else from the left
 abbrev pub place_at : Bool → ℕ → ℕ → ℕ
 place_at right count turn = if right then count - 1 - turn else turn
 

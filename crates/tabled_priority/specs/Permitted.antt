@@ -45,7 +45,7 @@ pub record IsPermitted (old mins new : List ℕ) : Type 0 where
   pub least : (i : ℕ) → low old mins i ≤ at new i
   pub most : (i : ℕ) → at new i ≤ at old i
 
--- permitted, and exactly the amount was taken; if nothing is taken, the list is the old one
+-- permitted, and the amount was taken, or all that can be taken where that is less
 pub record IsTakenFrom (old mins : List ℕ) (by : ℕ) (new : List ℕ) : Type 0 where
   pub permitted : IsPermitted old mins new
   pub total : sum new + taken old mins by ≡ sum old

@@ -24,8 +24,8 @@ cut_rows widths rows = sized_rows cuts widths rows
 abbrev pub ArePrintable : List (List (List ℕ)) → Type 0
 ArePrintable rows = (row column : ℕ) → IsPrintable (cell_at rows row column)
 
--- a number of bytes, and 1, tell a text that is cut where it stands. Another second number tells one
--- of which U+FFFD alone is left. Of one that isn't wider nothing has to be told
+-- a number of bytes, and 1, describe a text that is cut without a copy. Another second number
+-- describes one of which U+FFFD alone is left. One that isn't wider needs no numbers
 abbrev pub tells_cut : ℕ → List ℕ → ℕ × ℕ → Type 0
 tells_cut n text told = n < text_columns text → MatchBool (told.1 == 1) (IsCutAt n text told.0 0) (IsCutAt n text 0 1)
 

@@ -46,7 +46,7 @@ pub record AreKept (gap : ℕ) (whole : List ℕ) (places : List (ℕ × ℕ)) (
   pub joined : AreJoined gap whole 0 places
   pub told : AreLines (texts_from gap whole 0 places) lines
 
--- the texts make up the whole, without gaps
+-- the texts make up the whole, with nothing between them
 pub record AreFilled (whole : List ℕ) (places : List (ℕ × ℕ)) (lines : List ℕ) : Type 0 where
   pub kept : AreKept 0 whole places lines
   pub filled : behind 0 0 places ≡ length whole
@@ -117,7 +117,7 @@ with_text w text = record { rows = w.rows; begun = w.begun ++ text ∷ [] }
 abbrev pub with_row_ended : Written → Written
 with_row_ended w = record { rows = w.rows ++ w.begun ∷ []; begun = [] }
 
--- the rows of texts, of which so many are in rows that are ended
+-- the rows of texts, of which the first `ended` are in rows that are ended
 abbrev pub written_in : List (List ℕ) → List (ℕ × ℕ) → ℕ → Written
 written_in texts ranges ended = record { rows = parts texts ranges; begun = drop ended texts }
 

@@ -1,6 +1,6 @@
 -- What is known of the texts of rows that are narrowed to the widths of their columns: of each two
 -- numbers, the second one at least 1; or, if it had to be made, its index among those that were made,
--- and 0. `makes` is the narrowed text, and `tells` says when two numbers tell one.
+-- and 0. `makes` is the narrowed text, and `tells` says when two numbers describe one.
 use Rattle.std.specs.Prelude.{◌≡◌, ◌<◌, ◌≤◌, ◌+◌, ◌==◌, ℕ, List, [], ◌∷◌, ◌++◌, Option, None, length, MatchBool, IfSome, slice_index_or}
 use Rattle.tabled_base.specs.Cells.{IsInside, cell_at}
 use Rattle.tabled_records.specs.declared.narrowed_texts.Narrowed.{Narrowed}
@@ -25,7 +25,7 @@ abbrev pub IsNarrowed : Makes → Tells → ℕ → List ℕ → List ℕ → Na
 IsNarrowed makes tells n line out (Told first second) = (0 < second) × tells n line (first, second)
 IsNarrowed makes tells n line out (Made columns lines) = IsMade makes n line out columns lines
 
--- what is told of a text that is narrowed to n columns is right
+-- the numbers that describe a text that is narrowed to n columns are right
 abbrev pub IsTold : Makes → Tells → ℕ → List ℕ → ℕ × ℕ → List (List ℕ) → Type 0
 IsTold makes tells n text told made = MatchBool (told.1 == 0)
     ((told.0 < length made) × (slice_index_or made told.0 [] ≡ makes n text))
@@ -35,7 +35,7 @@ IsTold makes tells n text told made = MatchBool (told.1 == 0)
 abbrev pub IsToldFor : Makes → Tells → Option ℕ → List ℕ → ℕ × ℕ → List (List ℕ) → Type 0
 IsToldFor makes tells width text told made = IfSome width (λ n. 0 < n → IsTold makes tells n text told made)
 
--- a text was added with what is told of it
+-- a text was added with the numbers that describe it
 pub record AddsTold (makes : Makes) (tells : Tells) (width : Option ℕ) (text : List ℕ) (old new : NarrowedTexts) : Type 0 where
   pub told : ℕ × ℕ
   pub added : new.told ≡ old.told ++ told ∷ []
@@ -43,8 +43,8 @@ pub record AddsTold (makes : Makes) (tells : Tells) (width : Option ℕ) (text :
   pub made : new.made ≡ old.made ++ more
   pub is_told : IsToldFor makes tells width text told new.made
 
--- what is told of the cell in a row and a column, of the texts in a range: right, or the cell is
--- empty and only fills up its row
+-- the numbers that describe the cell in a row and a column, of the texts in a range, are right, or
+-- the cell is empty and only fills up its row
 abbrev pub IsKnownIn : Makes → Tells → List (Option ℕ) → List (List (List ℕ)) → NarrowedTexts → ℕ × ℕ → ℕ → ℕ → Type 0
 IsKnownIn makes tells widths rows texts range row column =
     (column < range.1 → (told : ℕ × ℕ) → IsToldFor makes tells (slice_index_or widths column None) (cell_at rows row column)

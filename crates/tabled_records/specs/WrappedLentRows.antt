@@ -18,7 +18,7 @@ wrapped_cell words width text = sized_text (wraps words) width text
 abbrev pub wrapped_rows : Bool → List (Option ℕ) → List (List (List ℕ)) → List (List (List ℕ))
 wrapped_rows words widths rows = sized_rows (wraps words) widths rows
 
--- the columns and the lines of a text tell it if it is wrapped where it stands
+-- the columns and the lines of a text describe it if it is wrapped without a copy
 abbrev pub tells_wrapped : Bool → ℕ → List ℕ → ℕ × ℕ → Type 0
 tells_wrapped words n text told = IsWrappedInPlace n words text told.0 told.1
 

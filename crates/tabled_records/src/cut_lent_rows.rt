@@ -55,8 +55,8 @@ impl Narrowing for Cutting {
 }
 
 /// Rows that borrow a text. Each cell that is wider than its column is cut to it when it is read,
-/// as `cut_str` does: its text stands where it stood, or is U+FFFD alone. Only letters that U+FFFD
-/// follows, and a text of other characters, are made beforehand.
+/// as `cut_str` does: its text isn't copied, or is U+FFFD alone. Only letters that U+FFFD follows,
+/// and a text of other characters, are made beforehand.
 ///
 /// ```rust
 /// let rows = text_rows(alloc, "Ada\t1815\nGrace\t1906\n")?;

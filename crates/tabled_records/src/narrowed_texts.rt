@@ -14,7 +14,7 @@ use tabled_base::{ExactRecords, Position, TableError};
 /// A line as it is narrowed to n columns.
 #[derive(Clone, Copy)]
 pub(crate) enum Narrowed {
-    /// It needn't be made: two numbers tell it, the second one at least 1.
+    /// It needn't be made: two numbers describe it, the second one at least 1.
     Told(usize, usize),
     /// It was made. The numbers are its columns and its lines.
     Made(usize, usize),
@@ -25,7 +25,7 @@ pub(crate) trait Narrowing {
     // The narrowed line.
     ghost makes: { Self → ℕ → List ℕ → List ℕ };
 
-    // Relates a line that needn't be made to two numbers that tell it.
+    // Relates a line that needn't be made to two numbers that describe it.
     ghost tells: { Self → ℕ → List ℕ → ℕ × ℕ → Type 0 };
 
     /// Narrows a line, whose width is `columns`. If it has to be made, `out` is replaced by it.
@@ -46,8 +46,7 @@ pub(crate) trait Narrowing {
 /// What is known of the narrowed texts of rows.
 #[derive(Debug, Drop)]
 pub(crate) struct NarrowedTexts {
-    /// Two numbers of each, as its narrowing tells them; or, if it had to be made, its index in
-    /// `made` and 0.
+    /// Two numbers that describe each; or, if it had to be made, its index in `made` and 0.
     pub told: Pairs,
     /// Those that had to be made.
     pub made: JoinedTexts,

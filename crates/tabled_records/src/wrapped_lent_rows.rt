@@ -44,7 +44,7 @@ impl Narrowing for Wrapping {
 }
 
 /// Rows that borrow a text. Each cell is wrapped to the width of its column when it is read: its
-/// text is broken where it stands, and only that of other characters than letters, or of several
+/// text is broken without a copy, and only that of other characters than letters, or of several
 /// words that are kept whole, is made beforehand.
 ///
 /// ```rust
@@ -95,7 +95,7 @@ fn printable_content(text: &str, n: usize) -> Content<'_>
     }
 }
 
-/// Returns what ends the lines of a cell that is wrapped to n columns where it stands.
+/// Returns what ends the lines of a cell that is wrapped to n columns without a copy.
 #[inline(always)]
 fn ends_in(rows: &LentRows<'_>, n: usize) -> LineEnds
     ensures { (result ≡ Columns n) ⊎ ((result ≡ Bytes n) × ArePrintable rows.now) }

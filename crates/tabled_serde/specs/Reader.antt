@@ -17,7 +17,7 @@ bytes_of texts = map string_bytes texts.items
 abbrev pub left : Reader → List Event
 left r = map event_of r.steps.now
 
--- a flattened struct begins, or `None` stands in its place
+-- a flattened struct begins, or `None` is in its place
 abbrev pub BeginsStruct : Bool → List Event → List Event → Type 0
 BeginsStruct true before after = (n : Option ℕ) × (before ≡ map_begins n ∷ after)
 BeginsStruct false before after = before ≡ nothing ∷ after

@@ -41,9 +41,10 @@ pub fn new_tables()
 {}
 
 /// A stream prints the same bytes as a `Table` of the same cells if
-/// - its rows are equally long and all of them are read ahead
-/// - each cell is a line whose characters count as many as its columns, as those of a plain line do
-/// - the numbers of columns and rows and the sizes aren't set.
+/// - it has a row and a column, its rows are equally long, and all of them are read ahead
+/// - each cell is one line, as wide as the sum of its characters, each counted as at least one
+///   column: a plain line is
+/// - no number of columns or rows is set, and no size.
 #[tactic(auto, using(tabled_text::proofs::ExactLines::plain_exact, crate::proofs::Stream::SameSheet::like_table))]
 pub fn streams_like_tables()
     ensures sheet { (settings : StreamSettings) (config : CompactConfig)

@@ -1,5 +1,5 @@
 -- Cutting a text to n columns, defined by comparing all beginnings of the text. Beginnings are
--- lists of characters; texts and answers are lists of bytes.
+-- lists of characters; texts and results are lists of bytes.
 use Rattle.std.specs.Prelude.{◌≡◌, ℕ, ◌+◌, ◌-◌, ◌<◌, ◌≤◌, ◌==◌, List, [], ◌∷◌, ◌++◌, chars, encode_utf8_all, length, nat_lt, take, drop, replicate, All, if◌then◌else◌}
 use Rattle.std.specs.Str.{IsCharBoundary, IsUtf8}
 use Rattle.tabled_text.specs.Measure.{char_count, count_of, lines_of, text_columns}
@@ -84,7 +84,7 @@ cut_behind n used (c ∷ cs) =
 abbrev pub cut_text : ℕ → List ℕ → List ℕ
 cut_text n text = encode_utf8_all (cut_behind n 0 (chars text))
 
--- what is left of a text is its first bytes and so many U+FFFD, and takes n columns
+-- what is left of a text is its first bytes and a number of U+FFFD, and takes n columns
 pub record IsCutAt (n : ℕ) (text : List ℕ) (bytes fills : ℕ) : Type 0 where
   pub boundary : IsCharBoundary text bytes
   pub same : cut_text n text ≡ take bytes text ++ encode_utf8_all (replicate fills 0xFFFD)

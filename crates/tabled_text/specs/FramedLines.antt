@@ -1,5 +1,5 @@
 -- Separators, which are characters around which columns add up, whatever the texts; lines of any
--- characters, and the frames around them. Separators stand in lists of characters; lines and frames
+-- characters, and the frames around them. Separators are in lists of characters; lines and frames
 -- are lists of bytes.
 use Rattle.std.specs.Prelude.{◌≡◌, ℕ, Bool, true, false, not, ◌==◌, List, chars, ◌&&◌, ◌||◌, [], ◌∷◌}
 use Rattle.std.specs.List.{list_all}

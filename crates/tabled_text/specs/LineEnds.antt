@@ -1,5 +1,5 @@
 -- Texts that are wrapped, as a function of the text, and what ends the lines of a text that is
--- wrapped where it stands.
+-- wrapped without a copy.
 use Rattle.std.specs.Prelude.{◌≡◌, ℕ, ◌<◌, ◌==◌, Bool, true, false, List, [], ◌∷◌, chars, encode_utf8_all, length, Option, Some, None, IfSome, nat_lt, ◌&&◌, if◌then◌else◌}
 use Rattle.std.specs.Borrow.{Bor}
 use Rattle.std.specs.Int.{is_in_range}
@@ -40,7 +40,7 @@ pub record IsFirstLine (ends : LineEnds) (text line : List ℕ) (columns : ℕ) 
   pub takes : columns ≡ line_columns line
   pub ends_are : IfSome rest (λ rest. AreEnds ends rest.now)
 
--- the wrapped text takes so many columns and lines. If it is one line, it is the text itself; else
+-- the wrapped text takes these columns and lines. If it is one line, it is the text itself; else
 -- the text is letters, and the lines of the wrapped text end after n columns
 pub record IsWrappedInPlace (n : ℕ) (words : Bool) (text : List ℕ) (columns lines : ℕ) : Type 0 where
   pub columns_are : columns ≡ text_columns (wrapped_text n words text)

@@ -1,4 +1,4 @@
--- The longest beginning of a line that fits. Beginnings are lists of characters; lines and answers
+-- The longest beginning of a line that fits. Beginnings are lists of characters; lines and results
 -- are lists of bytes.
 use Rattle.std.specs.Prelude.{◌≡◌, ℕ, ◌≤◌, ◌++◌, List, chars, length, take, replicate}
 use Rattle.tabled_text.specs.Measure.{columns_of}

@@ -1,5 +1,5 @@
 -- Word wrap: wrapping with words kept whole, where the space at which a line is broken is dropped.
--- Lines and units are lists of characters, texts and answers lists of bytes.
+-- Lines and units are lists of characters, texts and results lists of bytes.
 use Rattle.std.specs.Prelude.{◌≡◌, ◌⊎◌, ℕ, ◌+◌, ◌<◌, ◌≤◌, ◌==◌, nat_le, List, [], ◌∷◌, ◌++◌, All, MatchBool, chars, if◌then◌else◌, length, map, sum_by, ⊤}
 use Rattle.std.specs.List.{AllZip, flat_map, join_with_byte}
 use Rattle.std.specs.Str.{IsUtf8}

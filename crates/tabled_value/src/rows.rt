@@ -100,8 +100,8 @@ where
     Ok(VecRecords::new(rows))
 }
 
-/// Makes a row of the field names, then a row of each value. `room` is the number of rows, with the
-/// header, to allocate in advance. Fails only with `Memory`.
+/// Makes a row of the field names, then a row of each value. `room` is the number of rows to
+/// allocate in advance, the header included. Fails only with `Memory`.
 pub fn named_records<I: IntoIterator>(
     alloc: Global,
     iter: I,
