@@ -1,12 +1,12 @@
 #!/usr/bin/env python3
-"""Times `example_csv` over 100,000 rows beside `tabprint` on the same cells and a reader of comma-separated values alone.
+"""Times `tabview` over 1,000,000 rows beside `tabprint` on the same cells and a reader of comma-separated values alone.
 
-usage: uses.py CSV_TABLE TABPRINT
+usage: uses.py TABVIEW TABPRINT
 
-The words are the two built programs. 100,000 rows of six short cells, below a header, are written to a temporary folder, once with
+The words are the two built programs. 1,000,000 rows of six short cells, below a header, are written to a temporary folder, once with
 commas and once with tabs, and a small program that reads the former and keeps nothing of it is built there. Each program runs in
 interleaved rounds, its output to the null device. Printed are the shortest and the median of the processor times (user and system)
-in milliseconds, and whether the bar holds: `example_csv` takes at most one and a half times as long as `tabprint`, beside the
+in milliseconds, and whether the bar holds: `tabview` takes at most 1.25 times as long as `tabprint`, beside the
 time of the reader.
 """
 
@@ -20,8 +20,8 @@ import sys
 import tempfile
 
 TOP = pathlib.Path(__file__).resolve().parent.parent
-ROWS = 100_000
-ROUNDS = 21
+ROWS = 1_000_000
+ROUNDS = 7
 HEADER = ["id", "name", "place", "count", "share", "note"]
 WORDS = "amber basin cedar delta ember fjord grove haven inlet jetty knoll ledge mesa nook oasis".split()
 
@@ -84,13 +84,13 @@ def time_of(program, file):
 def main():
     if len(sys.argv) != 3:
         sys.exit(__doc__)
-    example_csv, tabprint = map(pathlib.Path, sys.argv[1:])
+    tabview, tabprint = map(pathlib.Path, sys.argv[1:])
     with tempfile.TemporaryDirectory() as temporary:
         folder = pathlib.Path(temporary)
         commas, tabs = folder / "rows.csv", folder / "rows.tsv"
         commas.write_text("".join(",".join(row) + "\n" for row in rows()))
         tabs.write_text("".join("\t".join(row) + "\n" for row in rows()))
-        runs = {"example_csv": (example_csv, commas), "tabprint": (tabprint, tabs), "reader": (build_reader(folder), commas)}
+        runs = {"tabview": (tabview, commas), "tabprint": (tabprint, tabs), "reader": (build_reader(folder), commas)}
         times = {name: [] for name in runs}
         for _ in range(ROUNDS):
             for name, (program, file) in runs.items():
@@ -98,9 +98,9 @@ def main():
     for name, all_times in times.items():
         print(f"{name:10} shortest {min(all_times):7.1f} ms  median {statistics.median(all_times):7.1f} ms")
     least = {name: min(all_times) for name, all_times in times.items()}
-    share = (least["example_csv"] - least["reader"]) / least["tabprint"]
-    print(f"beside the reader {share:.2f} times tabprint; at most 1.5: {'yes' if share <= 1.5 else 'NO'}")
-    sys.exit(0 if share <= 1.5 else 1)
+    share = (least["tabview"] - least["reader"]) / least["tabprint"]
+    print(f"beside the reader {share:.2f} times tabprint; at most 1.25: {'yes' if share <= 1.25 else 'NO'}")
+    sys.exit(0 if share <= 1.25 else 1)
 
 
 main()

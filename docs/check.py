@@ -8,7 +8,8 @@
 - No page is longer than its limit, and no line of a page or a source is wider than its limit.
 - Each public name of crates/tabled that the Rust crate lacks is in docs/DIFFERENCES.md.
 - The numbers of crates, programs and edits in docs/GATE.md are right.
-- No word of WORDS, for which there is a plainer one, is in a page or a doc comment.
+- No word of WORDS, for which there is a plainer one, is in a page, a doc comment of the library or a
+  comment of its specifications.
 """
 
 import pathlib
@@ -67,13 +68,8 @@ WORDS = {
 }
 WORD = re.compile(r"\b(?:" + "|".join(WORDS) + r")\b", re.IGNORECASE)
 
-# The same for doc comments.
-IN_SOURCES = re.compile(
-    r"\bso many (?:columns|lines|bytes|rows|characters)\b|\b(?:is|are) told\b|\ba no is\b"
-    r"|\brefused memory\b|\blet go\b|\banswers (?:the|how|yes|no|a|an|what|whether)\b|\bis lent\b"
-    r"|\bwant of memory\b|\bstored run\b|\bbare box\b|\bled line\b|\btakes memory\b",
-    re.IGNORECASE,
-)
+# The sources whose comments are checked for these words too.
+SOURCES = ("crates/tabled*/src/*.rt", "crates/docs_*/src/*.rt", "crates/tabled*/specs/*.antt")
 
 # Public names that the Rust crate has too, and that no page of differences has to name.
 OF_THE_CRATE = """
@@ -186,11 +182,12 @@ def plainer(word):
 
 
 def comments(path):
-    """The lines of a source's doc comments outside of their examples, with their numbers."""
+    """The lines of a source's doc comments outside of their examples, or of a specification's."""
+    marks = ("--",) if path.suffix == ".antt" else ("///", "//!")
     fenced = False
     for number, line in enumerate(path.read_text().splitlines(), 1):
         text = line.lstrip()
-        if not text.startswith(("///", "//!")):
+        if not text.startswith(marks):
             fenced = False
         elif "```" in text:
             fenced = not fenced
@@ -200,14 +197,9 @@ def comments(path):
 
 def check_words(path):
     """Names in backticks may be made of such words."""
-    if path.suffix == ".rt":
-        for number, line in comments(path):
-            for word in IN_SOURCES.findall(line):
-                tell(path, number, f"'{word}'")
-    elif str(path.relative_to(TOP)) not in WRITTEN:
-        for number, line in prose(path):
-            for word in WORD.findall(re.sub(r"`[^`]*`|\]\([^)]*\)", "", line)):
-                tell(path, number, f"'{word}': write {plainer(word)}")
+    for number, line in prose(path) if path.suffix == ".md" else comments(path):
+        for word in WORD.findall(re.sub(r"`[^`]*`|\]\([^)]*\)", "", line)):
+            tell(path, number, f"'{word}': write {plainer(word)}")
 
 
 def check_counts():
@@ -239,6 +231,8 @@ def main():
         check_files(path)
     for path in [*pages, *tracked("crates/*.rt")]:
         check_lines(path)
+    written = [it for it in pages if str(it.relative_to(TOP)) not in WRITTEN]
+    for path in [*written, *tracked(*SOURCES)]:
         check_words(path)
     if found:
         sys.exit("\n".join(found))

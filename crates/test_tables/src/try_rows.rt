@@ -3,18 +3,23 @@
 use std::alloc::Global;
 use std::test::Fail;
 use std::vec::IntoIter;
+use tabled::settings::Style;
 use tabled_base::TableError;
 use tabled_records::TryRows;
 use tabled_table::IterTable;
 
 type Row = Result<[&'static str; 2], u8>;
 
-fn rows(alloc: Global, rows: &[Row]) -> Result<TryRows<IntoIter<Row>, u8>, TableError> {
+fn copied(alloc: Global, rows: &[Row]) -> Result<IntoIter<Row>, TableError> {
     let mut copied = Vec::new(alloc);
     for row in rows {
         copied.push(*row)?;
     }
-    Ok(TryRows::new(copied.into_iter()))
+    Ok(copied.into_iter())
+}
+
+fn rows(alloc: Global, rows: &[Row]) -> Result<TryRows<IntoIter<Row>, u8>, TableError> {
+    Ok(TryRows::new(copied(alloc, rows)?))
 }
 
 const MIDDLE: [Row; 4] = [Ok(["a", "b"]), Ok(["cc", "d"]), Err(7), Ok(["e", "f"])];
@@ -44,5 +49,30 @@ fn the_rows_before_the_first_error_are_printed(rt: HostRuntime) -> Result<(), Fa
         assert_eq!(rt; found, (Ok(()), read));
         assert_eq!(rt; out.as_slice(), text.as_bytes());
     }
+    Ok(())
+}
+
+/// Prints rows in the widths of the first ones.
+fn put_rows(
+    alloc: Global,
+    answer: IntoIter<Row>,
+    ahead: usize,
+    out: &mut Vec<u8>,
+) -> Result<Result<(), u8>, TableError> {
+    let mut table = IterTable::new(TryRows::new(answer));
+    table.sniff(ahead);
+    table.apply(Style::modern())?;
+    let (printed, read) = table.try_build(alloc, out);
+    printed?;
+    Ok(read)
+}
+
+#[test]
+fn rows_that_fail_in_a_style(rt: HostRuntime) -> Result<(), Fail> {
+    let mut out = Vec::new(rt.alloc());
+    let read = put_rows(rt.alloc(), copied(rt.alloc(), &MIDDLE)?, 1, &mut out)?;
+    assert_eq!(rt; read, Err(7));
+    let wanted = "┌───┬───┐\n│ a │ b │\n├───┼───┤\n│ c │ d │\n└───┴───┘";
+    assert_eq!(rt; out.as_slice(), wanted.as_bytes());
     Ok(())
 }

@@ -1,0 +1,83 @@
+//! Why nothing is shown.
+
+use std::alloc::AllocError;
+use std::{error, fmt, io};
+use tabled::TableError;
+use tabview_read::ReadError;
+
+/// Why a table isn't shown, or not to its end.
+#[derive(Debug, Drop)]
+pub enum ViewError {
+    /// The rows can't be read.
+    Read(ReadError),
+    /// The table can't be laid out.
+    Table(TableError),
+    /// The output can't be written.
+    Output(io::Error),
+    /// A database was given at standard input.
+    Database,
+    /// There is a query, but no database.
+    NoDatabase,
+}
+
+impl fmt::Display for ViewError {
+    fn fmt<W: fmt::Write>(&self, f: &mut fmt::Formatter<W>) -> fmt::Result {
+        match self {
+            ViewError::Read(error) => write!(f, "{error}"),
+            ViewError::Table(error) => write!(f, "{error}"),
+            ViewError::Output(error) => write!(f, "the output can't be written: {error}"),
+            ViewError::Database => f.write_str("a database of SQLite can only be read from a file"),
+            ViewError::NoDatabase => f.write_str("--query needs a database of SQLite"),
+        }
+    }
+}
+
+impl error::Error for ViewError {}
+
+impl From<ReadError> for ViewError {
+    fn from(error: ReadError) -> ViewError {
+        ViewError::Read(error)
+    }
+}
+
+impl From<AllocError> for ViewError {
+    fn from(error: AllocError) -> ViewError {
+        ViewError::Read(ReadError::from(error))
+    }
+}
+
+/// A command line that asks for what can't be.
+#[derive(Debug, Drop)]
+pub enum WrongOption {
+    /// An allocation failed.
+    Memory,
+    /// `--delimiter` is no character of ASCII.
+    Delimiter,
+    /// `--align` has no side.
+    Align(String),
+}
+
+impl fmt::Display for WrongOption {
+    fn fmt<W: fmt::Write>(&self, f: &mut fmt::Formatter<W>) -> fmt::Result {
+        match self {
+            WrongOption::Memory => f.write_str("out of memory"),
+            WrongOption::Delimiter => f.write_str(
+                "--delimiter takes one character of ASCII, or \\t",
+            ),
+            WrongOption::Align(word) => {
+                write!(
+                    f,
+                    "--align takes COLUMN=left, COLUMN=right or COLUMN=center, not {word}"
+                )
+            }
+        }
+    }
+}
+
+impl error::Error for WrongOption {}
+
+impl From<AllocError> for WrongOption {
+    fn from(_error: AllocError) -> WrongOption {
+        WrongOption::Memory
+    }
+}

@@ -1,0 +1,5 @@
+pub mod Escapes
+pub mod Widest
+pub mod Choosing
+pub mod Longest
+pub mod Joined

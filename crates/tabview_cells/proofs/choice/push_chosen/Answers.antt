@@ -1,0 +1,20 @@
+use Rattle.std.proofs.Common.{◌+◌, ◌++◌, ◌∷◌, [], ◌∙◌, ap, append_assoc, map, refl, take}
+use Rattle.std.specs.Prelude.{unwrap_or}
+use Rattle.csv.specs.Records.{fields_of}
+use Rattle.tabled_records.specs.Joined.{Written, with_text}
+use Rattle.tabview_cells.specs.Choice.{shown_cell, shown_text}
+use Rattle.tabview_cells.proofs.Choosing.{begun-more, cell-text, chosen-more}
+use Rattle.tabview_cells.proofs.choice.push_chosen.Goals as goal
+
+pub loop-column-preserved : goal.loop-column-preserved
+loop-column-preserved c =
+    let cell = c.unwrap_or-cell.result.now in
+    let own = cell-text c.get.result _ c.unwrap_or-cell.result refl c.unwrap_or-cell.ensures ∙ ap (λ o. unwrap_or o []) c.get.ensures.value in
+    let f = shown_cell c.args.shown (fields_of c.args.row.now) in
+    let shown = shown_text c.args.shown cell in
+    let columns = c.args.columns.now in
+    let i = c.loop-column.column-index in
+    c.in_ok-push_shown.ensures.ok
+    ∙ ap (λ (w : Written). with_text w shown) c.loop-column.invariant
+    ∙ begun-more c.args.out.now (map f (take i columns)) (map f (take (i + 1) columns)) shown
+    (chosen-more f columns i shown c.loop-column-test.true (ap (shown_text c.args.shown) own))

@@ -1,0 +1,58 @@
+-- Control characters as visible ones. A text is a list of its characters, unless it is one of bytes.
+use Rattle.std.specs.Prelude.{ℕ, ◌+◌, ◌-◌, ◌==◌, ◌&&◌, ◌||◌, Bool, true, false, not, List, [], ◌∷◌, if◌then◌else◌, nat_lt, chars, encode_utf8_all}
+use Rattle.std.specs.Int.{is_in_range}
+use Rattle.std.specs.List.{flat_map}
+
+-- the control characters of Unicode: U+0000 to U+001F, and U+007F to U+009F
+abbrev pub is_control : ℕ → Bool
+is_control c = is_in_range 0 0x1F c || is_in_range 0x7F 0x9F c
+
+-- the signs that stand for control characters: the pictures from U+2400, and the mark U+2426
+abbrev pub is_sign : ℕ → Bool
+is_sign c = is_in_range 0x2400 0x2426 c
+
+-- a character that escaping changes: a control character, unless it is a line feed that stays, or a
+-- sign
+abbrev pub is_escaped : Bool → ℕ → Bool
+is_escaped lines c = if c == 10 then not lines else (is_sign c || is_control c)
+
+-- a control character that escaping changes: its picture, that of U+007F, or the mark and a letter
+abbrev pub sign_of : ℕ → List ℕ
+sign_of c =
+    if nat_lt c 0x20 then (0x2400 + c) ∷ []
+    else if c == 0x7F then 0x2421 ∷ []
+    else if is_in_range 0x80 0x9F c then 0x2426 ∷ (c - 0x40) ∷ []
+    else 0x2426 ∷ c ∷ []
+
+-- what is shown for a character
+abbrev pub escape_char : Bool → ℕ → List ℕ
+escape_char lines c = if is_escaped lines c then sign_of c else c ∷ []
+
+-- what is shown for a text
+abbrev pub escape : Bool → List ℕ → List ℕ
+escape lines text = flat_map (escape_char lines) text
+
+-- that of a text of bytes
+abbrev pub escaped : Bool → List ℕ → List ℕ
+escaped lines text = encode_utf8_all (escape lines (chars text))
+
+-- the character that a sign stands for
+abbrev pub meaning : ℕ → ℕ
+meaning c = if is_in_range 0x2400 0x241F c then c - 0x2400 else if c == 0x2421 then 0x7F else c
+
+-- the character that one after the mark stands for: a sign stands for itself
+abbrev pub marked_meaning : ℕ → ℕ
+marked_meaning c = if nat_lt c 0x60 then c + 0x40 else c
+
+-- the text that is read from what is shown, after a mark or not
+abbrev pub unescape_after : Bool → List ℕ → List ℕ
+unescape_after marked [] = []
+unescape_after true (c ∷ cs) = marked_meaning c ∷ unescape_after false cs
+unescape_after false (c ∷ cs) = if c == 0x2426 then unescape_after true cs else meaning c ∷ unescape_after false cs
+
+abbrev pub unescape : List ℕ → List ℕ
+unescape text = unescape_after false text
+
+-- a character that may be shown: none that controls, but line feeds if they stay
+abbrev pub is_shown : Bool → ℕ → Bool
+is_shown lines c = (lines && (c == 10)) || not (is_control c)

@@ -1,0 +1,104 @@
+//! The cells that are shown of a row.
+ghost use Rattle.csv.specs.Records.{fields_of};
+ghost use Rattle.std.specs.Prelude.{◌≡◌, IfErr, IfOk, OnErr, OnOk, map, string_bytes};
+ghost use Rattle.tabled_base.specs.declared.error.TableError.TheVariants.{Memory};
+ghost use Rattle.tabled_records.specs.Joined.{with_text};
+ghost use Rattle.tabview_cells.specs.Choice.{shown_cell, shown_text, with_texts};
+
+use crate::escaping::{escape, escape_into};
+use csv::StringRecord;
+use std::alloc::{AllocError, Global};
+use tabled_base::TableError;
+use tabled_records::RecordsWriter;
+use tabled_text::text_measures;
+
+/// How the text of a cell is shown.
+#[derive(Clone, Copy, Debug, PartialEq, Eq)]
+pub enum Shown {
+    /// As it is.
+    Raw,
+    /// With control characters as visible ones, except line feeds.
+    Lines,
+    /// With control characters as visible ones, line feeds too.
+    OneLine,
+}
+
+/// Adds a text to the row that is begun. Error: `Memory`; the records are unchanged then.
+pub fn push_cell(out: &mut RecordsWriter, text: &str) -> Result<(), TableError>
+    ensures ok { OnOk result (out.new ≡ with_text out.old text.now) }
+    ensures err { OnErr result (out.new ≡ out.old) }
+    ensures only { IfErr result (λ e. e ≡ Memory) }
+{
+    let (columns, lines) = text_measures(text);
+    out.push(text, columns, lines)
+}
+
+/// Adds the chosen cells of a row to the row that is begun, in that order. A cell that the row
+/// lacks is empty. Error: `Memory`; the rows that are ended are unchanged then.
+pub fn push_chosen(
+    alloc: Global,
+    out: &mut RecordsWriter,
+    row: &StringRecord,
+    columns: &[usize],
+    shown: Shown,
+) -> Result<(), TableError>
+    ensures ok { OnOk result (out.new
+        ≡ with_texts out.old (map (shown_cell shown (fields_of row.now)) columns.now)) }
+    ensures ended { out.new.rows ≡ out.old.rows }
+    ensures only { IfErr result (λ e. e ≡ Memory) }
+{
+    for column in columns {
+        let cell = row.get(*column).unwrap_or("");
+        push_shown(alloc, out, cell, shown)?;
+    }
+    Ok(())
+}
+
+/// Adds a cell as it is shown.
+fn push_shown(
+    alloc: Global,
+    out: &mut RecordsWriter,
+    cell: &str,
+    shown: Shown,
+) -> Result<(), TableError>
+    ensures ok { OnOk result (out.new ≡ with_text out.old (shown_text shown cell.now)) }
+    ensures err { OnErr result (out.new ≡ out.old) }
+    ensures only { IfErr result (λ e. e ≡ Memory) }
+{
+    match shown {
+        Shown::Raw => push_cell(out, cell),
+        Shown::Lines => push_cell(out, &escape(alloc, cell, true)?),
+        Shown::OneLine => push_cell(out, &escape(alloc, cell, false)?),
+    }
+}
+
+/// Returns the chosen cells of a row, in that order. A cell that the row lacks is empty.
+pub fn chosen_cells(
+    alloc: Global,
+    row: &StringRecord,
+    columns: &[usize],
+    shown: Shown,
+) -> Result<Vec<String>, AllocError>
+    ensures { IfOk result (λ cells. map string_bytes cells.items
+        ≡ map (shown_cell shown (fields_of row.now)) columns.now) }
+{
+    let mut cells = Vec::with_capacity(alloc, columns.len())?;
+    for column in columns {
+        let cell = row.get(*column).unwrap_or("");
+        cells.push(shown_string(alloc, cell, shown)?)?;
+    }
+    Ok(cells)
+}
+
+/// Returns a cell as it is shown.
+fn shown_string(alloc: Global, cell: &str, shown: Shown) -> Result<String, AllocError>
+    ensures { IfOk result (λ text. string_bytes text ≡ shown_text shown cell.now) }
+{
+    let mut text = String::new(alloc);
+    match shown {
+        Shown::Raw => text.push_str(cell)?,
+        Shown::Lines => escape_into(&mut text, cell, true)?,
+        Shown::OneLine => escape_into(&mut text, cell, false)?,
+    }
+    Ok(text)
+}

@@ -1,0 +1,116 @@
+//! Control characters as visible ones.
+ghost use Rattle.std.specs.Cow.{cow_str_bytes};
+ghost use Rattle.std.specs.List.{list_all, list_any};
+ghost use Rattle.std.specs.Prelude.{◌≡◌, ◌++◌, IfOk, OnOk, chars, encode_utf8_all, string_bytes};
+ghost use Rattle.std.specs.Prelude.{true, ◌<◌, ◌≤◌, ◌+◌, ◌-◌};
+ghost use Rattle.tabview_cells.specs.Escaping.{escape, escape_char, escaped, is_control};
+ghost use Rattle.tabview_cells.specs.Escaping.{is_escaped, is_shown, unescape};
+
+use std::alloc::{AllocError, Global};
+use std::borrow::CowStr;
+
+/// The mark before a character that stands for itself or for a control character.
+const MARK: char = '␦';
+
+/// The character before the picture of U+0000, less one.
+const PICTURES: u32 = 0x2400;
+
+/// Whether a character is a control character: U+0000 to U+001F, or U+007F to U+009F.
+pub fn is_control(c: char) -> bool
+    ensures { result ≡ is_control c }
+{
+    matches!(c, '\0'..='\x1F' | '\x7F'..='\u{9F}')
+}
+
+/// Whether escaping changes a character: a control character, or one of the signs that stand for
+/// these. A line feed stays if `lines`.
+fn is_escaped(lines: bool, c: char) -> bool
+    ensures { result ≡ is_escaped lines c }
+{
+    match c {
+        '\n' => !lines,
+        '\u{2400}'..='\u{2426}' => true,
+        _ => is_control(c),
+    }
+}
+
+/// Returns the picture of a control character up to U+001F.
+fn picture(c: char) -> char
+    requires { c < 0x20 }
+    ensures { result ≡ 0x2400 + c }
+{
+    char::from_u32(PICTURES + c as u32).unwrap_or(MARK)
+}
+
+/// Returns the letter of a control character from U+0080 to U+009F, as after ESC.
+fn letter(c: char) -> char
+    requires { 0x80 ≤ c × c < 0xA0 }
+    ensures { result ≡ c - 0x40 }
+{
+    char::from_u32(c as u32 - 0x40).unwrap_or(MARK)
+}
+
+/// Appends what is shown for a character.
+fn push_escaped(out: &mut String, lines: bool, c: char) -> Result<(), AllocError>
+    ensures { OnOk result (string_bytes out.new
+        ≡ string_bytes out.old ++ encode_utf8_all (escape_char lines c)) }
+{
+    if !is_escaped(lines, c) {
+        return out.push(c);
+    }
+    match c {
+        '\0'..='\x1F' => out.push(picture(c)),
+        '\x7F' => out.push('␡'),
+        '\u{80}'..='\u{9F}' => {
+            out.push(MARK)?;
+            out.push(letter(c))
+        }
+        _ => {
+            out.push(MARK)?;
+            out.push(c)
+        }
+    }
+}
+
+/// Appends a text with its control characters as visible ones.
+///
+/// U+0000 to U+001F become their pictures `␀` to `␟`, and U+007F becomes `␡`. U+0080 to U+009F
+/// become `␦` and the letter that follows ESC in their other form, as `␦[` for U+009B. A character
+/// from `␀` to `␦` gets a `␦` before it, so that nothing is lost. A line feed stays if `lines`.
+pub fn escape_into(out: &mut String, text: &str, lines: bool) -> Result<(), AllocError>
+    ensures ok { OnOk result (string_bytes out.new
+        ≡ string_bytes out.old ++ escaped lines text.now) }
+{
+    for c in text.chars() {
+        push_escaped(out, lines, c)?;
+    }
+    Ok(())
+}
+
+/// Whether escaping changes a text.
+fn needs_escape(text: &str, lines: bool) -> bool
+    ensures { result ≡ list_any (is_escaped lines) (chars text.now) }
+{
+    text.chars().any(|c| is_escaped(lines, c))
+}
+
+/// Returns a text with its control characters as visible ones, as `escape_into` writes it. A text
+/// without any is borrowed.
+///
+/// ```rust
+/// assert_eq!(escape(alloc, "\x1b[1mbold", true)?.as_str(), "␛[1mbold");
+/// ```
+pub fn escape(alloc: Global, text: &str, lines: bool) -> Result<CowStr<'_, Global>, AllocError>
+    ensures ok { IfOk result (λ shown. cow_str_bytes shown ≡ escaped lines text.now) }
+    ensures lossless { IfOk result (λ shown. unescape (chars (cow_str_bytes shown))
+        ≡ chars text.now) }
+    ensures visible { IfOk result (λ shown.
+        list_all (is_shown lines) (chars (cow_str_bytes shown)) ≡ true) }
+{
+    if !needs_escape(text, lines) {
+        return Ok(CowStr::Borrowed(text));
+    }
+    let mut shown = String::with_capacity(alloc, text.len())?;
+    escape_into(&mut shown, text, lines)?;
+    Ok(CowStr::Owned(shown))
+}

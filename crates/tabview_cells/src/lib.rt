@@ -1,0 +1,21 @@
+//! What a viewer of tables decides, as functions over values.
+//!
+//! - `choice`: the cells that are shown of a row.
+//! - `dates`: dates and times of digits.
+//! - `escaping`: control characters as visible ones, so that nothing is lost.
+//! - `fit`: the widths of columns of which some don't give.
+//! - `kinds`: what the cells of a column are: numbers, dates, codes or text.
+//! - `numbers`: decimal numbers.
+#![tactic(auto)]
+
+mod choice;
+mod dates;
+mod escaping;
+mod fit;
+mod kinds;
+mod numbers;
+
+pub use choice::{Shown, chosen_cells, push_cell, push_chosen};
+pub use escaping::{escape, escape_into, is_control};
+pub use fit::{AboveFloors, longest_word};
+pub use kinds::Kind;

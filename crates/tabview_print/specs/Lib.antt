@@ -1,0 +1,6 @@
+pub mod Layouts
+pub mod Floors
+pub mod Fitted
+pub mod PrintedTables
+pub mod Streams
+pub mod Expanded

@@ -1,0 +1,21 @@
+//! Prints rows as a table that is fitted to a width, one below the other, or while they are read.
+//!
+//! - `layout`: how rows are laid out, and what keeps its width.
+//! - `floors`: the widths below which columns don't shrink.
+//! - `fitting`: a table that is fitted to a width.
+//! - `expanded`: records one below the other.
+//! - `stream`: rows that are printed while they are read.
+//! - `rows`: the rows of a table, by reference.
+#![tactic(auto)]
+
+mod expanded;
+mod fitting;
+mod floors;
+mod layout;
+mod rows;
+mod stream;
+
+pub use expanded::print_expanded;
+pub use fitting::print_table;
+pub use layout::{Column, Layout, Narrowing};
+pub use stream::print_stream;

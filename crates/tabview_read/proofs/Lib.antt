@@ -1,0 +1,2 @@
+pub mod AddedCells
+pub mod Parts

@@ -1,0 +1,4 @@
+pub mod Places
+pub mod Numbers
+pub mod Cells
+pub mod Shown

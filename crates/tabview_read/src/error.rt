@@ -1,0 +1,201 @@
+//! Why an input can't be shown.
+
+use csv::Position;
+use std::alloc::{AllocError, AllocFailed};
+use std::{error, fmt, io};
+use tabled_base::TableError;
+
+/// A place in a text. Lines, and the characters of a line, are counted from 1.
+#[derive(Clone, Copy, Debug, PartialEq, Eq)]
+pub struct Place {
+    pub line: u64,
+    pub column: u64,
+}
+
+impl Place {
+    ghost use Rattle.std.specs.Prelude.{◌≡◌};
+    ghost use Rattle.tabview_read.specs.Places.{column_step, line_step};
+
+    /// Returns the place behind one more byte. A byte within a character has no column.
+    pub(crate) fn after(self, byte: u8) -> Place
+        ensures line { result.line ≡ line_step self.line byte }
+        ensures column { result.column ≡ column_step self.column byte }
+    {
+        match byte {
+            b'\n' => Place {
+                line: self.line.saturating_add(1),
+                column: 1,
+            },
+            0x80..=0xBF => self,
+            _ => Place {
+                line: self.line,
+                column: self.column.saturating_add(1),
+            },
+        }
+    }
+}
+
+impl fmt::Display for Place {
+    fn fmt<W: fmt::Write>(&self, f: &mut fmt::Formatter<W>) -> fmt::Result {
+        let Place { line, column } = *self;
+        write!(f, "line {line}, column {column}")
+    }
+}
+
+/// What is wrong with a text of JSON.
+#[derive(Debug, Drop)]
+pub enum Fault {
+    /// An allocation failed.
+    Memory,
+    /// The text is no JSON.
+    NotJson,
+    /// A row is neither an object nor an array.
+    NotRow,
+    /// A row is an object among arrays, or an array among objects.
+    Mixed,
+    /// An array has more or fewer cells than the first.
+    Ragged { cells: usize, wanted: usize },
+    /// An object has a key twice.
+    Doubled,
+    /// An object has a key that none of the rows has that were read ahead.
+    Unknown(String),
+}
+
+impl fmt::Display for Fault {
+    fn fmt<W: fmt::Write>(&self, f: &mut fmt::Formatter<W>) -> fmt::Result {
+        match self {
+            Fault::Memory => f.write_str("out of memory"),
+            Fault::NotJson => f.write_str("invalid JSON"),
+            Fault::NotRow => f.write_str("a row is neither an object nor an array"),
+            Fault::Mixed => f.write_str("objects and arrays are mixed"),
+            Fault::Ragged { cells, wanted } => write!(
+                f,
+                "{cells} cells, but {wanted} in the first row"
+            ),
+            Fault::Doubled => f.write_str("an object has a key twice"),
+            Fault::Unknown(key) => write!(f, "the key {key} is in none of the rows read ahead"),
+        }
+    }
+}
+
+impl Fault {
+    /// Returns the error of a fault at a place.
+    pub(crate) fn at(self, place: Place) -> ReadError {
+        match self {
+            Fault::Memory => ReadError::Memory,
+            fault => ReadError::Json(place, fault),
+        }
+    }
+}
+
+impl From<AllocError> for Fault {
+    ghost use Rattle.std.specs.Prelude.{◌≡◌};
+    ghost use Rattle.tabview_read.specs.declared.error.Fault.TheVariants.{Memory};
+
+    ghost from_gives = { λ _ e. e ≡ Memory };
+
+    fn from(_error: AllocError) -> Fault {
+        Fault::Memory
+    }
+}
+
+/// Why rows can't be read.
+#[derive(Debug, Drop)]
+pub enum ReadError {
+    /// An allocation failed.
+    Memory,
+    /// The input can't be read.
+    Input(io::Error),
+    /// Bytes are no UTF-8.
+    NotUtf8(Place),
+    /// A cell of comma-separated values is no UTF-8: where its record begins, and the cell from 1.
+    CellNotUtf8(Position, u64),
+    /// A record of comma-separated values has more or fewer cells than the first.
+    Ragged {
+        at: Position,
+        cells: u64,
+        wanted: u64,
+    },
+    /// A text of JSON is wrong.
+    Json(Place, Fault),
+    /// A query failed.
+    Query(sqlite::Error),
+    /// A database has no table.
+    NoTable,
+    /// A database has several tables, which are listed.
+    Tables(String),
+    /// There is no such column.
+    NoColumn(String),
+}
+
+impl fmt::Display for ReadError {
+    fn fmt<W: fmt::Write>(&self, f: &mut fmt::Formatter<W>) -> fmt::Result {
+        match self {
+            ReadError::Memory => f.write_str("out of memory"),
+            ReadError::Input(error) => write!(f, "{error}"),
+            ReadError::NotUtf8(place) => write!(f, "{place}: invalid UTF-8"),
+            ReadError::CellNotUtf8(at, cell) => {
+                let (line, record) = (at.line, at.record);
+                write!(
+                    f,
+                    "line {line}, column {cell}: invalid UTF-8 (record {record})"
+                )
+            }
+            ReadError::Ragged { at, cells, wanted } => {
+                let (line, record, byte) = (at.line, at.record, at.byte);
+                write!(
+                    f,
+                    "line {line}: {cells} cells, but {wanted} in the first record (record {record}, byte {byte})"
+                )
+            }
+            ReadError::Json(place, fault) => write!(f, "{place}: {fault}"),
+            ReadError::Query(error) => write!(f, "{error}"),
+            ReadError::NoTable => f.write_str("the database has no table"),
+            ReadError::Tables(names) => write!(f, "the database has several tables: {names}"),
+            ReadError::NoColumn(name) => write!(f, "there is no column {name}"),
+        }
+    }
+}
+
+impl error::Error for ReadError {}
+
+impl From<AllocError> for ReadError {
+    ghost use Rattle.std.specs.Prelude.{◌≡◌};
+    ghost use Rattle.tabview_read.specs.declared.error.ReadError.TheVariants.{Memory};
+
+    ghost from_gives = { λ _ e. e ≡ Memory };
+
+    fn from(_error: AllocError) -> ReadError {
+        ReadError::Memory
+    }
+}
+
+impl<T: Drop> From<AllocFailed<T>> for ReadError {
+    ghost use Rattle.std.specs.Prelude.{◌≡◌};
+    ghost use Rattle.tabview_read.specs.declared.error.ReadError.TheVariants.{Memory};
+
+    ghost from_gives = { λ _ e. e ≡ Memory };
+
+    fn from(_error: AllocFailed<T>) -> ReadError {
+        ReadError::Memory
+    }
+}
+
+impl From<io::Error> for ReadError {
+    fn from(error: io::Error) -> ReadError {
+        ReadError::Input(error)
+    }
+}
+
+impl From<sqlite::Error> for ReadError {
+    fn from(error: sqlite::Error) -> ReadError {
+        ReadError::Query(error)
+    }
+}
+
+impl From<TableError> for ReadError {
+    /// The only error of what is called here is `Memory`.
+    fn from(_error: TableError) -> ReadError {
+        ReadError::Memory
+    }
+}

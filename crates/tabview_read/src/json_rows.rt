@@ -1,0 +1,102 @@
+//! The rows of a text of JSON.
+
+use crate::document::Document;
+use crate::error::{Fault, Place, ReadError};
+use crate::faults::place_of;
+use crate::row::{Row, Rows};
+use crate::values::{JsonOptions, Values};
+use csv::StringRecord;
+use json::Scratch;
+use std::alloc::Global;
+
+/// The rows of an array of objects or of arrays, or of one object.
+#[derive(Drop)]
+pub struct JsonRows<'a> {
+    alloc: Global,
+    text: &'a str,
+    document: Document<'a>,
+    values: Values,
+    /// The rows of the array.
+    count: usize,
+    /// The rows that were read, or taken as names.
+    taken: usize,
+}
+
+impl<'a> JsonRows<'a> {
+    /// Reads a text. Fails unless it is an array of objects, an array of arrays, or an object, with
+    /// no key twice in an object.
+    pub fn new(
+        alloc: Global,
+        options: JsonOptions,
+        text: &'a str,
+        scratch: &'a mut Scratch,
+    ) -> Result<JsonRows<'a>, ReadError> {
+        let document = Document::parse(alloc, text, scratch)?;
+        let Some(count) = document.count() else {
+            return Err(Fault::NotRow.at(Place { line: 1, column: 1 }));
+        };
+        let mut rows = JsonRows {
+            alloc,
+            text,
+            document,
+            values: Values::new(alloc, options),
+            count,
+            taken: 0,
+        };
+        rows.look()?;
+        rows.name()?;
+        Ok(rows)
+    }
+
+    /// Looks at all rows.
+    fn look(&mut self) -> Result<(), ReadError> {
+        for index in 0..self.count {
+            if let Some(value) = self.document.row(index)
+                && let Err(fault) = self.values.look(value)
+            {
+                return Err(self.error_at(index, fault));
+            }
+        }
+        Ok(())
+    }
+
+    /// Names the columns.
+    fn name(&mut self) -> Result<(), ReadError> {
+        if let Some(first) = self.document.row(0) {
+            match self.values.name(first) {
+                Ok(true) => self.taken = 1,
+                Ok(false) => (),
+                Err(fault) => return Err(self.error_at(0, fault)),
+            }
+        }
+        Ok(())
+    }
+
+    /// Says where a row is wrong.
+    #[cold]
+    fn error_at(&self, index: usize, fault: Fault) -> ReadError {
+        match place_of(self.alloc, self.text, index) {
+            Ok(place) => fault.at(place),
+            Err(error) => ReadError::from(error),
+        }
+    }
+}
+
+impl Rows for JsonRows<'_> {
+    fn names(&self) -> Option<&StringRecord> {
+        self.values.names.as_ref()
+    }
+
+    fn read(&mut self, row: &mut Row) -> Result<bool, ReadError> {
+        let index = self.taken;
+        let Some(value) = self.document.row(index) else {
+            row.clear();
+            return Ok(false);
+        };
+        if let Err(fault) = self.values.put(value, row) {
+            return Err(self.error_at(index, fault));
+        }
+        self.taken = index.saturating_add(1);
+        Ok(true)
+    }
+}

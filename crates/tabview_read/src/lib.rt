@@ -1,0 +1,51 @@
+//! Reads rows from CSV, TSV, JSON, JSON lines and SQLite, and keeps those that are shown.
+//!
+//! - `chosen`: the columns that are shown.
+//! - `csv_rows`: rows of comma- or tab-separated values.
+//! - `document`: a text of JSON.
+//! - `error`: why an input can't be shown.
+//! - `faults`: where a text of JSON is wrong.
+//! - `format`: the format of an input, by its name, the ending of a path, or its first bytes.
+//! - `json_cells`: the cells of objects and arrays.
+//! - `json_lines`: rows of JSON lines.
+//! - `json_rows`: the rows of a text of JSON.
+//! - `keys`: the keys of objects, in the order in which they come first.
+//! - `place`: places in a text.
+//! - `row`: rows, and what they are read from.
+//! - `sheet`: the rows that are shown.
+//! - `sqlite_rows`: the rows of a query.
+//! - `stream`: rows that are shown as they are read.
+//! - `values`: how values of JSON become rows.
+#![tactic(auto)]
+
+mod chosen;
+mod csv_rows;
+mod document;
+mod error;
+mod faults;
+mod format;
+mod json_cells;
+mod json_lines;
+mod json_rows;
+mod keys;
+mod place;
+mod row;
+mod sheet;
+mod sqlite_rows;
+mod stream;
+#[cfg(test)]
+mod tests;
+mod values;
+
+pub use chosen::{Chosen, is_column};
+pub use csv_rows::{CsvOptions, CsvRows};
+pub use error::{Fault, Place, ReadError};
+pub use format::Format;
+pub use json_lines::JsonLines;
+pub use json_rows::JsonRows;
+pub use place::text_of;
+pub use row::{Row, Rows};
+pub use sheet::{Sheet, Wanted, read_sheet};
+pub use sqlite_rows::{SqliteRows, query_of};
+pub use stream::Stream;
+pub use values::JsonOptions;

@@ -1,0 +1,85 @@
+//! Rows, and what they are read from.
+ghost use Rattle.csv.specs.Records.{fields_of};
+ghost use Rattle.std.specs.Prelude.{◌≡◌, ◌++◌, [], ◌∷◌, Contains, IsTrue, OnOk, length, ◌↔◌};
+
+use crate::error::ReadError;
+use csv::StringRecord;
+use std::alloc::{AllocError, Global};
+
+/// A row: its cells, and which of them are null.
+#[derive(Debug, Drop)]
+pub struct Row {
+    /// The texts of the cells, empty for one that is null.
+    pub cells: StringRecord,
+    /// The columns of the cells that are null.
+    pub nulls: Vec<usize>,
+}
+
+impl Row {
+    /// Makes a row with no cell.
+    pub fn new(alloc: Global) -> Row
+        ensures cells { fields_of result.cells ≡ [] }
+        ensures nulls { result.nulls.items ≡ [] }
+    {
+        Row {
+            cells: StringRecord::new(alloc),
+            nulls: Vec::new(alloc),
+        }
+    }
+
+    /// Whether the cell of a column is null.
+    pub fn is_null(&self, column: usize) -> bool
+        ensures { IsTrue result ↔ Contains self.now.nulls.items column }
+    {
+        self.nulls.contains(&column)
+    }
+
+    /// Takes all cells away.
+    pub fn clear(&mut self)
+        ensures cells { fields_of self.new.cells ≡ [] }
+        ensures nulls { self.new.nulls.items ≡ [] }
+    {
+        self.cells.clear();
+        self.nulls.clear();
+    }
+
+    /// Adds a cell.
+    pub fn push_text(&mut self, text: &str) -> Result<(), AllocError>
+        ensures cells { OnOk result (fields_of self.new.cells
+            ≡ fields_of self.old.cells ++ text.now ∷ []) }
+        ensures nulls { self.new.nulls.items ≡ self.old.nulls.items }
+    {
+        self.cells.push_field(text)
+    }
+
+    /// Adds a cell that is null.
+    pub fn push_null(&mut self) -> Result<(), AllocError>
+        ensures cells { OnOk result (fields_of self.new.cells
+            ≡ fields_of self.old.cells ++ [] ∷ []) }
+        ensures nulls { OnOk result (self.new.nulls.items
+            ≡ self.old.nulls.items ++ length (fields_of self.old.cells) ∷ []) }
+    {
+        let column = self.cells.len();
+        self.nulls.push(column)?;
+        self.cells.push_field("")
+    }
+
+    /// Returns the cells, with a text for those that are null.
+    pub fn shown_cells(&self, alloc: Global, null: &str) -> Result<StringRecord, AllocError> {
+        let mut cells = StringRecord::new(alloc);
+        for column in 0..self.cells.len() {
+            let cell = self.cells.get(column).unwrap_or("");
+            cells.push_field(if self.is_null(column) { null } else { cell })?;
+        }
+        Ok(cells)
+    }
+}
+
+/// Rows that are read one by one.
+pub trait Rows {
+    /// Returns the names of the columns, if the rows have some.
+    fn names(&self) -> Option<&StringRecord>;
+
+    /// Reads the next row, and returns whether there is one.
+    fn read(&mut self, row: &mut Row) -> Result<bool, ReadError>;
+}
