@@ -111,7 +111,7 @@ with_alignments column (number ∷ numbers) config =
 abbrev pub settings : StyleName → Bool → List ℕ → SpannedConfig
 settings name header alignments = with_style (with_alignments 0 alignments new_config) (headed header (style_of name))
 
--- the counts go together: there are so many cells as rows and columns make, each row has a cell,
+-- the counts go together: there are as many cells as rows and columns make, each row has a cell,
 -- and no column without cells has an alignment
 pub record IsCounted (rows columns cells alignments : ℕ) : Type 0 where
   pub product : cells ≡ rows * columns

@@ -1,4 +1,4 @@
-//! `Layout`, the numbers that say how a table is laid out, and what they mean.
+//! `Layout`, the numbers that describe the look of a table, and what they mean.
 ghost use Rattle.std.specs.List.{All};
 ghost use Rattle.std.specs.Prelude.{◌≡◌, ◌↔◌, IfErr, IfOk, MatchOption, OnOk, Some, true};
 ghost use Rattle.tabled.specs.declared.arguments.Order.{Order};
@@ -16,7 +16,7 @@ use tabled::grid::config::{AlignmentHorizontal, ColoredConfig, Entity, SpannedCo
 use tabled::settings::{Style, TableOption};
 use tabled::{Order, Plan, TableError};
 
-/// How a table is laid out. C passes a pointer to it.
+/// How a table looks, and how it is narrowed. C passes a pointer to it.
 #[derive(Clone, Copy, Debug)]
 #[repr(C)]
 pub struct Layout<'a> {

@@ -9,7 +9,7 @@
 //!
 //! - `exports.rt`: the exported functions, and filling the buffer of the caller.
 //! - `formatting.rt`: the text of a table of cells, and of one of tab-separated rows.
-//! - `layout.rt`: what says how a table is laid out; `cells.rt`: cells by their ends.
+//! - `layout.rt`: how a table looks and is narrowed; `cells.rt`: cells by their ends.
 //! - `printing.rt`: printing records under a plan; `error_code.rt`: error codes.
 #![tactic(auto)]
 
