@@ -180,21 +180,24 @@ def trait_methods(lines, at):
 
 @functools.cache
 def examples():
-    """Texts that the gate runs, each with a link and its name: pictures, programs, then tests."""
-    found = list(gallery.examples())
+    """Texts that the gate runs, each with a link, its name and its file's code: pictures, whose code
+    is None, programs, then tests."""
+    found = [(*it, None) for it in gallery.examples()]
     for crates in ("docs_*", "example_*", "tabview*", "tabprint", "test_*", "tabled_c"):
         for file in sorted(CRATES.glob(f"{crates}/src/**/*.rt")):
-            text = gallery.without_uses(file.read_text())
+            code = re.sub(r"//.*", "", file.read_text())
             name = f"{file.parent.parent.name}/{file.name}"
-            found.append((text, f"../{file.relative_to(TOP)}", name))
+            found.append((gallery.without_uses(code), f"../{file.relative_to(TOP)}", name, code))
     return found
 
 
 def example_of(name):
     """A link to an example of a type, which its name or a call shows. One without is noted."""
-    wanted = re.compile(rf"\b{name}\b|" + re.escape(MADE.get(name, "\0")))
-    for text, link, title in examples():
-        if wanted.search(text):
+    named = re.compile(rf"\b{name}\b")
+    imported = re.compile(rf"\buse [^;]*\b{name}\b")
+    for text, link, title, code in examples():
+        is_named = named.search(text) and (code is None or imported.search(code))
+        if is_named or MADE.get(name, "\0") in text:
             return f"[{title}]({link})"
     unused.append(name)
     return ""
