@@ -51,7 +51,7 @@ WORDS = {
     r"aims?|spreads?": "placement",
     r"spots?": "slot",
     r"gaps?": "separator",
-    r"laid|blank row laid": "row template",
+    r"laid(?! out)|blank row laid": "row template",
     r"led": "with a line feed before it",
     r"series": "dense run",
     r"standing": "effective",

@@ -1,5 +1,5 @@
 #!/usr/bin/env python3
-"""Writes docs/GALLERY.md from the functions of crates/docs_gallery_pages and the recorded output of
+"""Writes docs/GALLERY.md from the functions of the crates of PAGES and the recorded output of
 crates/docs_gallery.
 
 With --check it writes nothing, and fails if
@@ -16,11 +16,11 @@ import sys
 import textwrap
 
 TOP = pathlib.Path(__file__).resolve().parent.parent
-PAGES = TOP / "crates/docs_gallery_pages/src"
+PAGES = [TOP / "crates/docs_gallery_settings", TOP / "crates/docs_gallery_printers"]
 GALLERY = TOP / "docs/GALLERY.md"
 
 # The pages whose examples are compared with what is run: the programs that have a recorded output, and
-# the library below the gallery.
+# the libraries below the gallery.
 SHOWN = ["README.md", "docs/GUIDE.md", "docs/FROM_TABLED.md", "crates/tabled/src/lib.rt"]
 
 # The modules of which the page has a part, in its order.
@@ -48,8 +48,9 @@ function to paste a snippet into. `alloc` is an allocator, in a program `rt.allo
 ends without a value changes `table`, which is `Table::nohead(alloc, rows)?` of one of the
 [rows below](#the-rows).
 
-The code is part of `crates/docs_gallery_pages`, which the gate proves, and each picture is what the
-program `docs_gallery` prints. `docs/gallery.py` writes this page.
+The code is part of `crates/docs_gallery_settings` and `crates/docs_gallery_printers`, which the
+gate proves, and each picture is what the program `docs_gallery` prints. `docs/gallery.py` writes
+this page.
 """
 
 # Traits that a body uses by a method alone: what the call looks like.
@@ -73,6 +74,14 @@ def pictures():
         else:
             found[name].append(line)
     return found
+
+
+def source(module):
+    """The source of a module of the gallery."""
+    found = [it for it in (crate / f"src/{module}.rt" for crate in PAGES) if it.is_file()]
+    if len(found) != 1:
+        fail(f"{module}.rt is in {len(found)} crates of the gallery")
+    return found[0].read_text()
 
 
 def dedented(lines):
@@ -110,7 +119,7 @@ def paragraph(text, before=""):
 
 def said(module):
     """The title of a part, and what its module says after it."""
-    lines = (PAGES / f"{module}.rt").read_text().splitlines()
+    lines = source(module).splitlines()
     text = " ".join(line[4:] for line in lines if line.startswith("//! "))
     title, _, rest = text.partition(". ")
     return title.rstrip("."), rest
@@ -185,7 +194,7 @@ def code_of(text, names, body, whole):
 
 def part(module, found):
     """A part of the page: what its module says, what its functions share, and each picture."""
-    text = (PAGES / f"{module}.rt").read_text()
+    text = source(module)
     names = imports(text)
     title, rest = said(module)
     lines = [f"## {title}", "", *paragraph(rest), *shared(text, names)]
@@ -220,7 +229,7 @@ def anchors():
     for module in PARTS:
         title = said(module)[0]
         to = anchor(title, seen)
-        text = (PAGES / f"{module}.rt").read_text()
+        text = source(module)
         shown = [(heading(it[1]), it[3]) for it in functions(text) if it[0]]
         yield title, to, text, [(head, anchor(head, seen), body) for head, body in shown]
 
@@ -247,7 +256,7 @@ def examples():
 def page():
     found = pictures()
     lines = [*HEAD.splitlines(), "", *contents(), "## The rows", ""]
-    for _, name, doc, body, _ in functions((PAGES / "given.rt").read_text()):
+    for _, name, doc, body, _ in functions(source("given")):
         if name.startswith("of_"):
             rows = [line for line in body if not line.startswith("Table::nohead(")]
             lines += [*paragraph(doc), *fenced("rust", rows)]
@@ -337,7 +346,7 @@ def check_examples(name, code, known, printed):
 
 def check():
     programs = sorted(path.parent for path in (TOP / "crates").glob("*/stdout"))
-    crates = [*programs, PAGES.parent]
+    crates = [*programs, *PAGES]
     sources = [path.read_text() for crate in crates for path in sorted(crate.glob("src/**/*.rt"))]
     code = [text.splitlines() for text in sources]
     known = {(path, name) for text in sources for name, path in imports(text).items()}

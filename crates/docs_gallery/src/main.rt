@@ -2,9 +2,11 @@
 #![tactic(auto)]
 
 use anyhow::Result;
-use docs_gallery_pages::all_pictures;
+use docs_gallery_printers as printers;
+use docs_gallery_settings as settings;
 
 fn main(rt: HostRuntime) -> Result<()> {
-    print!(rt; "{}", all_pictures(rt.alloc())?)?;
+    print!(rt; "{}", settings::all_pictures(rt.alloc())?)?;
+    print!(rt; "{}", printers::all_pictures(rt.alloc())?)?;
     Ok(())
 }

@@ -1,5 +1,5 @@
 //! A report of several pages on disks that fill up: what is done about each error, and that a page
-//! is whole or isn't there.
+//! is complete or isn't there.
 
 use std::alloc::Global;
 use std::io::{self, ErrorKind, Write};
@@ -19,14 +19,14 @@ const SIZE: usize = 450;
 /// A disk of limited size. A write to a full one fails.
 #[derive(Drop)]
 struct Disk {
-    held: Vec<u8>,
+    bytes: Vec<u8>,
     size: usize,
 }
 
 impl Disk {
     fn new(alloc: Global) -> Disk {
         Disk {
-            held: Vec::new(alloc),
+            bytes: Vec::new(alloc),
             size: SIZE,
         }
     }
@@ -34,12 +34,12 @@ impl Disk {
 
 impl Write for Disk {
     fn write(&mut self, bytes: &[u8]) -> io::Result<usize> {
-        let room = self.size.saturating_sub(self.held.len());
-        let count = room.min(bytes.len());
+        let free = self.size.saturating_sub(self.bytes.len());
+        let count = free.min(bytes.len());
         if count == 0 {
             return Err(io::Error::from(ErrorKind::StorageFull));
         }
-        self.held.extend_from_slice(&bytes[..count])?;
+        self.bytes.extend_from_slice(&bytes[..count])?;
         Ok(count)
     }
 
@@ -76,19 +76,19 @@ fn put_page(
     number: u64,
     mut page: Table,
     disks: &mut Vec<Disk>,
-    log: &mut String,
+    log: &mut Vec<(u64, TableError)>,
 ) -> Result<(), TableError> {
     for _attempt in 0..3 {
         let Some(disk) = disks.last_mut() else {
             return Err(TableError::Writer);
         };
-        let whole = disk.held.len();
+        let before = disk.bytes.len();
         let Err(error) = attempt(alloc, number, &page, disk) else {
             return Ok(());
         };
         // What came out of the page before the error.
-        disk.held.truncate(whole);
-        writeln!(log, "page {number}: {error}")?;
+        disk.bytes.truncate(before);
+        log.push((number, error))?;
         match error {
             TableError::Narrow { .. } | TableError::ShortWidths => {
                 page.get_dimension_mut().clear();
@@ -111,11 +111,12 @@ const INPUT: [&str; 8] = [
     "Oslo\tNorway",
 ];
 
-const LOG: &str = "page 2: narrow
-page 2: writer
-page 3: short widths
-page 3: writer
-";
+const LOG: [(u64, TableError); 4] = [
+    (2, TableError::Narrow { row: 2, column: 0 }),
+    (2, TableError::Writer),
+    (3, TableError::ShortWidths),
+    (3, TableError::Writer),
+];
 
 const DISKS: [&str; 3] = [
     "Page 1
@@ -158,19 +159,19 @@ Page 4
 ];
 
 #[test]
-fn pages_on_small_disks_are_whole(rt: HostRuntime) -> Result<(), Fail> {
+fn pages_on_small_disks_are_complete(rt: HostRuntime) -> Result<(), Fail> {
     let alloc = rt.alloc();
-    let mut log = String::new(alloc);
+    let mut log = Vec::new(alloc);
     let mut disks = vec![in alloc; Disk::new(alloc)]?;
     let (header, rows) = INPUT.split_first().ok_or("no header")?;
     for (number, rows) in (1..=u64::MAX).zip(rows.chunks(ROWS)) {
         let page = page_of(alloc, header, rows)?;
         put_page(alloc, number, page, &mut disks, &mut log)?;
     }
-    assert_eq!(rt; log.as_str(), LOG);
+    assert_eq!(rt; log.as_slice(), LOG.as_slice());
     assert_eq!(rt; disks.len(), DISKS.len());
     for (disk, wanted) in disks.iter().zip(DISKS) {
-        assert_eq!(rt; str::from_utf8(disk.held.as_slice())?, wanted);
+        assert_eq!(rt; str::from_utf8(disk.bytes.as_slice())?, wanted);
     }
     Ok(())
 }

@@ -55,11 +55,11 @@ fn the_rows_before_the_first_error_are_printed(rt: HostRuntime) -> Result<(), Fa
 /// Prints rows in the widths of the first ones.
 fn put_rows(
     alloc: Global,
-    answer: IntoIter<Row>,
+    rows: IntoIter<Row>,
     ahead: usize,
     out: &mut Vec<u8>,
 ) -> Result<Result<(), u8>, TableError> {
-    let mut table = IterTable::new(TryRows::new(answer));
+    let mut table = IterTable::new(TryRows::new(rows));
     table.sniff(ahead);
     table.apply(Style::modern())?;
     let (printed, read) = table.try_build(alloc, out);

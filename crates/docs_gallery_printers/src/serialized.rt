@@ -3,7 +3,7 @@
 use serde::Serialize;
 use std::alloc::Global;
 use tabled::{Table, TableError};
-use tabled_serde::{RowError, builder};
+use tabled_serde::RowError;
 
 #[derive(Drop, Serialize)]
 struct City {
@@ -30,7 +30,7 @@ const CITIES: [City; 2] = [
 ];
 
 fn cities(alloc: Global) -> Result<Table, RowError> {
-    Ok(Table::from(builder(alloc, CITIES, "")?))
+    tabled_serde::table(alloc, CITIES)
 }
 
 /// A table of values, with the names of their fields above.

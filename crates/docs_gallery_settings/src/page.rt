@@ -1,10 +1,7 @@
 //! All pictures, each below the name of the function that makes it.
 
 use crate::given::{Sample, table_of};
-use crate::{
-    alignments, borders, cell_widths, from_tabled, heights, objects, own, printers, rows,
-    serialized, spaces, streams, styles, texts, widths,
-};
+use crate::{alignments, borders, cell_widths, heights, objects, spaces, styles, widths};
 use std::alloc::Global;
 use tabled::{Table, TableError};
 
@@ -15,15 +12,6 @@ macro_rules! show {
             renew($table, $sample)?;
             add_table($page, stringify!($picture), $picture($table), $table)?;
         )+
-        Ok(())
-    }};
-}
-
-// Pictures that need no such table.
-macro_rules! draw {
-    ($page:expr; $($picture:path),+ $(,)?) => {{
-        let alloc = *$page.allocator();
-        $(add($page, stringify!($picture), $picture(alloc))?;)+
         Ok(())
     }};
 }
@@ -39,12 +27,7 @@ pub fn all_pictures(alloc: Global) -> Result<String, TableError> {
 fn add_all(page: &mut String, table: &mut Table) -> Result<(), TableError> {
     add_settings(page, table)?;
     add_sizes(page, table)?;
-    add_parts(page, table)?;
-    add_printers(page)?;
-    add_written(page)?;
-    add_values(page)?;
-    add_chained(page)?;
-    add_changed(page, table)
+    add_parts(page, table)
 }
 
 fn renew(table: &mut Table, sample: Sample) -> Result<(), TableError> {
@@ -102,19 +85,6 @@ fn add_parts(page: &mut String, table: &mut Table) -> Result<(), TableError> {
     add_borders(page, table)?;
     add_objects(page, table)?;
     add_segments(page, table)
-}
-
-fn add_printers(page: &mut String) -> Result<(), TableError> {
-    add_tables(page)?;
-    add_records(page)?;
-    add_boxes(page)?;
-    add_streams(page)?;
-    add_compact(page)?;
-    add_serialized(page)?;
-    add_rows(page)?;
-    add_texts(page)?;
-    add_own(page)?;
-    add_own_rows(page)
 }
 
 fn add_styles(page: &mut String, table: &mut Table) -> Result<(), TableError> {
@@ -212,79 +182,4 @@ fn add_segments(page: &mut String, table: &mut Table) -> Result<(), TableError> 
     show!(page, table, Sample::Cities;
         objects::whole_table, objects::segment, objects::outside, objects::union, objects::modified,
         objects::settings)
-}
-
-fn add_tables(page: &mut String) -> Result<(), TableError> {
-    draw!(page;
-        printers::at_least_as_wide, printers::totals, printers::titled, printers::titled_wrapped,
-        printers::titled_cut, printers::named, printers::floats)
-}
-
-fn add_records(page: &mut String) -> Result<(), TableError> {
-    draw!(page; printers::key_values, printers::records, printers::narrow_records)
-}
-
-fn add_boxes(page: &mut String) -> Result<(), TableError> {
-    draw!(page;
-        printers::rows_of_boxes, printers::boxes_centered, printers::boxes, printers::boxes_last,
-        printers::colours)
-}
-
-fn add_streams(page: &mut String) -> Result<(), TableError> {
-    draw!(page;
-        streams::whole, streams::sniffed, streams::marked, streams::sized, streams::limited,
-        streams::aligned)
-}
-
-fn add_compact(page: &mut String) -> Result<(), TableError> {
-    draw!(page;
-        streams::fitting, streams::fitting_right, streams::compact, streams::window,
-        streams::overfull)
-}
-
-fn add_serialized(page: &mut String) -> Result<(), TableError> {
-    draw!(page; serialized::table)
-}
-
-fn add_rows(page: &mut String) -> Result<(), TableError> {
-    draw!(page; rows::viewed, rows::declared, rows::stored, rows::printed, rows::batches)
-}
-
-fn add_texts(page: &mut String) -> Result<(), TableError> {
-    write!(page, "== texts::counted\n{}\n", texts::counted("北京"))?;
-    draw!(page; texts::measured, texts::wrapped, texts::cut)
-}
-
-fn add_own(page: &mut String) -> Result<(), TableError> {
-    draw!(page;
-        own::labels, own::title_fields, own::borrowed_writer, own::formatting, own::plan,
-        own::cell_style)
-}
-
-fn add_own_rows(page: &mut String) -> Result<(), TableError> {
-    draw!(page;
-        own::stored_sizes, own::cut_rows, own::narrowed_rows, own::cut_cells, own::text_lines)
-}
-
-fn add_written(page: &mut String) -> Result<(), TableError> {
-    draw!(page;
-        from_tabled::serialized, from_tabled::languages, from_tabled::built,
-        from_tabled::with_settings, from_tabled::mapped)
-}
-
-fn add_values(page: &mut String) -> Result<(), TableError> {
-    draw!(page;
-        from_tabled::paired, from_tabled::of_rows, from_tabled::of_fields, from_tabled::ruled,
-        from_tabled::titled)
-}
-
-fn add_chained(page: &mut String) -> Result<(), TableError> {
-    draw!(page;
-        from_tabled::continued, from_tabled::written, from_tabled::chained,
-        from_tabled::as_records, from_tabled::counted)
-}
-
-fn add_changed(page: &mut String, table: &mut Table) -> Result<(), TableError> {
-    show!(page, table, Sample::Cities;
-        from_tabled::dressed, from_tabled::rounded, from_tabled::one_line, from_tabled::renamed)
 }

@@ -15,7 +15,7 @@ use tabled::settings::style::HorizontalLine;
 use tabled::settings::{Alignment, Padding, Style, Title, Width};
 use tabled::tables::ExtendedTable;
 use tabled::{IoSink, Table, TableError, Tabled};
-use tabled_serde::{RowError, builder};
+use tabled_serde::RowError;
 
 /// A language and its year.
 #[derive(Drop, Serialize)]
@@ -62,7 +62,7 @@ fn table_of_values(alloc: Global) -> Result<Table, RowError> {
             year: 2009,
         },
     ];
-    Ok(Table::from(builder(alloc, languages, "")?))
+    tabled_serde::table(alloc, languages)
 }
 
 /// Its text, or why a value can't be a row.

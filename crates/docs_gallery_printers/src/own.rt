@@ -4,11 +4,12 @@ ghost use Rattle.std.specs.Prelude.{⊤};
 
 use std::alloc::Global;
 use tabled::grid::config::{
-    AlignmentHorizontal, ColoredConfig, CompactMultilineConfig, Entity, Formatting, new_config,
+    AlignmentHorizontal, ColoredConfig, CompactMultilineConfig, Entity, Formatting, SpannedConfig,
+    new_config,
 };
 use tabled::grid::dimension::CompleteDimension;
 use tabled::grid::records::into_records::TruncateContent;
-use tabled::grid::records::{CutLentRows, IntoRecords};
+use tabled::grid::records::{CutLentRows, IntoRecords, LentRows};
 use tabled::grid::util::string::lines;
 use tabled::grid::{print_estimated, print_standing};
 use tabled::settings::peaker::Priority;
@@ -139,13 +140,24 @@ pub fn narrowed_rows(alloc: Global) -> Result<String, TableError> {
     let narrowed = narrow.narrowed(&rows, &config, &mut sizes)?;
     sizes.clear_height();
     let mut out = String::new(alloc);
-    match narrowed {
-        Some(NarrowedRows::Cut(cells)) => print_standing(&mut out, &cells, &config, &sizes)?,
-        Some(NarrowedRows::Wrapped(cells)) => print_standing(&mut out, &cells, &config, &sizes)?,
-        Some(NarrowedRows::Made(cells)) => print_standing(&mut out, &cells, &config, &sizes)?,
-        None => print_standing(&mut out, &rows, &config, &sizes)?,
-    }
+    print_narrowed(&mut out, &rows, narrowed.as_ref(), &config, &sizes)?;
     Ok(out)
+}
+
+/// Prints the narrowed rows, or the old ones if there are none.
+fn print_narrowed(
+    out: &mut String,
+    rows: &LentRows<'_>,
+    narrowed: Option<&NarrowedRows<'_, '_>>,
+    config: &SpannedConfig,
+    sizes: &CompleteDimension,
+) -> Result<(), TableError> {
+    match narrowed {
+        Some(NarrowedRows::Cut(cells)) => print_standing(out, cells, config, sizes),
+        Some(NarrowedRows::Wrapped(cells)) => print_standing(out, cells, config, sizes),
+        Some(NarrowedRows::Made(cells)) => print_standing(out, cells, config, sizes),
+        None => print_standing(out, rows, config, sizes),
+    }
 }
 
 /// Cells of any rows, each cut when its text is asked for.
