@@ -70,11 +70,11 @@ fn attempt(alloc: Global, number: u64, page: &Table, disk: &mut Disk) -> Result<
     sink.write_text("\n\n")
 }
 
-/// Puts a page on the last disk, or on a new one, and logs what is done about each error.
+/// Puts a page on the last disk, or on a new one, and logs each error.
 fn put_page(
     alloc: Global,
     number: u64,
-    mut page: Table,
+    page: &mut Table,
     disks: &mut Vec<Disk>,
     log: &mut Vec<(u64, TableError)>,
 ) -> Result<(), TableError> {
@@ -83,7 +83,7 @@ fn put_page(
             return Err(TableError::Writer);
         };
         let before = disk.bytes.len();
-        let Err(error) = attempt(alloc, number, &page, disk) else {
+        let Err(error) = attempt(alloc, number, page, disk) else {
             return Ok(());
         };
         // What came out of the page before the error.
@@ -165,8 +165,8 @@ fn pages_on_small_disks_are_complete(rt: HostRuntime) -> Result<(), Fail> {
     let mut disks = vec![in alloc; Disk::new(alloc)]?;
     let (header, rows) = INPUT.split_first().ok_or("no header")?;
     for (number, rows) in (1..=u64::MAX).zip(rows.chunks(ROWS)) {
-        let page = page_of(alloc, header, rows)?;
-        put_page(alloc, number, page, &mut disks, &mut log)?;
+        let mut page = page_of(alloc, header, rows)?;
+        put_page(alloc, number, &mut page, &mut disks, &mut log)?;
     }
     assert_eq!(rt; log.as_slice(), LOG.as_slice());
     assert_eq!(rt; disks.len(), DISKS.len());
