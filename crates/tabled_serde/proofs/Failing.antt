@@ -3,11 +3,13 @@ use Rattle.std.proofs.Common.{Err, IfErr, IsErr, IsErrAnd, List, OnOk, Ok, Optio
 use Rattle.std.specs.Prelude.{⊤}
 use Rattle.std.specs.List.{AllZip}
 use Rattle.serde.specs.Event.{Event, flattens, key_begins, map_begins, map_ends, seq_begins, seq_ends}
-use Rattle.tabled_serde.specs.Errors.{HasCause, IsFieldError, IsNested, IsRecordError, IsValueError, IsWriteError, NoCellFirst, NoItemsFirst, NoKeyFirst, NoNameFirst, NoFieldFirst, NoTextIs, goes_on, inner, of_events, own, whole}
+use Rattle.tabled_serde.specs.Errors.{HasCause, IsFieldError, IsNested, IsRecordError, IsValueError, IsWriteError, NoCellFirst, NoItemsFirst, NoKeyFirst, NoNameFirst, NoFieldFirst, NoTextIs, goes_on, inner, of_events, own, row_error, whole}
 use Rattle.tabled_serde.specs.Reader.{FieldsRead}
 use Rattle.tabled_serde.specs.Records.{IsCell, IsName, IsText, list, one}
 use Rattle.tabled_serde.specs.declared.error.RowError.{RowError}
 use Rattle.tabled_serde.specs.declared.error.RowError.TheVariants.{Memory, NoFields, NoName, Nested, Malformed, Unknown, Custom}
+use Rattle.tabled_serde.specs.declared.event.EventError.{EventError}
+use Rattle.tabled_serde.specs.declared.event.EventError.TheVariants as event_error
 use Rattle.tabled_serde.specs.declared.reader.Record.{Record}
 
 -- the reason of an error that names the field
@@ -143,10 +145,14 @@ module _ (none : List ℕ) where
       (record { length_hint = n; inside = f.inside; fields = f.fields; events_are = refl })
       (h ∙ ap (λ r. map_begins n ∷ r) (f.read ∙ sym (append_assoc f.inside (map_ends ∷ []) (e ∷ after))))
 
+own-error : (error : EventError) → IsWriteError (row_error error)
+own-error event_error.Memory = tt
+own-error (event_error.Custom field message) = tt
+
 module _ {A T : Type 0} (writes : T → Option (List Event) → Option (List Event) → Type 0) (none : List ℕ) (value : T) where
-  pub own-fails : (r : Result A RowError) → IsErrAnd r IsWriteError → IfErr r (IsValueError writes none value)
-  own-fails (Ok x) h = absurd h
-  own-fails (Err e) h = own e h
+  pub own-fails : (error : EventError) (r : Result A RowError) → IsErrAnd r (λ e. e ≡ row_error error) → IfErr r (IsValueError writes none value)
+  own-fails error (Ok x) h = absurd h
+  own-fails error (Err e) h = own e (subst IsWriteError (sym h) (own-error error))
 
   pub events-fail : (events : List Event) (r : Result A RowError) → writes value (Some []) (Some events) → IfErr r (IsRecordError none events)
       → IfErr r (IsValueError writes none value)

@@ -6,4 +6,5 @@ pub mod Reading
 pub mod RowLengths
 pub mod Steps
 pub mod Stepping
+pub mod Texts
 pub mod Yielding

@@ -4,14 +4,12 @@ use Rattle.std.specs.List.{AllZip}
 use Rattle.serde.specs.Event.{Event}
 use Rattle.tabled_base.specs.Cells.{lengthened, lengthened_rows, longest}
 use Rattle.tabled_serde.proofs.Counting.{fields-as_many}
-use Rattle.tabled_serde.specs.Rows.{AreRows, HasFields, IsBelow, IsRowOf, and_cell, and_empty, no_column}
+use Rattle.tabled_serde.specs.Rows.{AreRows, HasFields, IsPlaced, IsRowOf, no_more, with_cell, with_empty}
 
-below-long : {header names cells row : List (List ℕ)} → IsBelow header names cells row → length row ≡ length header
-below-long no_column = refl
-below-long (and_cell header names cells row name cell below) =
-    omega (arith, below-long below, length-append row (cell ∷ []), length-append header (name ∷ []))
-below-long (and_empty header names cells row name below) =
-    omega (arith, below-long below, length-append row ([] ∷ []), length-append header (name ∷ []))
+placed-long : {header names cells row : List (List ℕ)} → IsPlaced header names cells row → length row ≡ length header
+placed-long no_more = refl
+placed-long (with_cell header names cells row name cell placed) = omega (arith, placed-long placed)
+placed-long (with_empty header names cells row name other placed) = omega (arith, placed-long placed)
 
 abbrev AreLong : ℕ → List (List (List ℕ)) → Type 0
 AreLong n [] = Unit {0}
@@ -42,7 +40,7 @@ module _ {T : Type 0} (writes : T → Option (List Event) → Option (List Event
   later-long names [] [] h = tt
   later-long names [] (row ∷ rows) h = absurd h
   later-long names (value ∷ values) [] h = absurd h
-  later-long names (value ∷ values) (row ∷ rows) h = (below-long h.0.below, later-long names values rows h.1)
+  later-long names (value ∷ values) (row ∷ rows) h = (placed-long h.0.below, later-long names values rows h.1)
 
   -- so a builder fills up none
   pub rows-stay : (values : List T) (rows : List (List (List ℕ))) → AreRows writes none values rows → lengthened_rows rows ≡ rows

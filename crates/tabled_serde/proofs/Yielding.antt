@@ -4,7 +4,8 @@ use Rattle.std.proofs.iter.Next.{Yields-more}
 use Rattle.std.proofs.lemmas.List.{nil_from_length}
 use Rattle.std.proofs.lemmas.Slice.Zip.{all_zipped_more}
 use Rattle.std.specs.Iterator.{Drains, Yields}
-use Rattle.std.specs.List.{AllZip}
+use Rattle.std.specs.List.{All, AllZip}
+use Rattle.std.specs.Str.{IsUtf8}
 use Rattle.std.specs.Slice.Iter.{iter_rest, iter_steps}
 use Rattle.std.specs.declared.alloc.Global.{Global}
 use Rattle.std.specs.declared.string.String.{String}
@@ -237,6 +238,7 @@ pub record Started {U S T : Type 0} (becomes : U → S → Type 0) (steps : S �
   pub start : S
   pub made : becomes values start
   pub so_far : SoFar steps writes none start s built
+  pub texts : All (All IsUtf8) built
 
 -- what holds on success, where it didn't fail
 pub on-success : {A E : Type 0} {P : Type 0} (r : Result A E) → is_err r ≡ false → OnOk r P → P

@@ -1,8 +1,13 @@
 -- Why a value is no row. Each error but `Memory` and `Custom` has its cause among the events.
-use Rattle.std.specs.Prelude.{◌≡◌, ◌≢◌, ℕ, List, [], ◌∷◌, ◌++◌, Option, Some, ⊤, string_bytes}
-use Rattle.std.specs.List.{AllZip}
+use Rattle.std.specs.Prelude.{◌≡◌, ◌≢◌, ◌⊎◌, ℕ, List, [], ◌∷◌, ◌++◌, Option, Some, ⊤, string_bytes}
+use Rattle.std.specs.List.{All, AllZip}
 use Rattle.serde.specs.Event.{Event, field_key, variant_key, key_begins, key_ends, map_begins, map_ends, flattens, nothing, seq_ends}
+use Rattle.serde.specs.Spelling.{spelled}
+use Rattle.serde.specs.declared.name.Case.{Case}
+use Rattle.serde.specs.declared.name.NameKind.TheVariants.{Field}
 use Rattle.tabled_serde.specs.Records.{AreFields, AreRecord, IsCell, IsName, IsScalar, IsText}
+use Rattle.tabled_serde.specs.declared.event.EventError.{EventError}
+use Rattle.tabled_serde.specs.declared.event.EventError.TheVariants as event_error
 use Rattle.tabled_serde.specs.declared.error.RowError.{RowError}
 use Rattle.tabled_serde.specs.declared.error.RowError.TheVariants.{Memory, NoFields, NoName, Nested, Malformed, Unknown, Custom}
 
@@ -11,6 +16,33 @@ abbrev pub IsWriteError : RowError → Type 0
 IsWriteError Memory = ⊤
 IsWriteError (Custom field message) = ⊤
 IsWriteError e = ⊥
+
+-- the same error of a row
+abbrev pub row_error : EventError → RowError
+row_error event_error.Memory = Memory
+row_error (event_error.Custom field message) = Custom field message
+
+-- this event is no field's name
+abbrev pub IsNoKey : Event → Type 0
+IsNoKey (field_key name case) = ⊥
+IsNoKey e = ⊤
+
+-- the last name of a field among these events
+pub record HasLastKey (events : List Event) (name : List ℕ) (case : Case) : Type 0 where
+  pub before : List Event
+  pub after : List Event
+  pub no_other : All IsNoKey after
+  pub events_are : events ≡ before ++ field_key name case ∷ after
+
+-- the name of the last field as it is spelled, or an empty text where no field has begun
+abbrev pub IsLastField : List Event → List ℕ → Type 0
+IsLastField events field =
+    (All IsNoKey events × (field ≡ [])) ⊎ ((name : List ℕ) × (case : Case) × HasLastKey events name case × (field ≡ spelled case Field name))
+
+-- the value's own error with this message names the last field, or an allocation failed
+abbrev pub IsCustom : List Event → List ℕ → EventError → Type 0
+IsCustom events message event_error.Memory = ⊤
+IsCustom events message (event_error.Custom field own) = IsLastField events (string_bytes field) × (string_bytes own ≡ message)
 
 -- no text at all
 abbrev pub NoTextIs : (List ℕ → Type 0) → Type 0

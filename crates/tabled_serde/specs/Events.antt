@@ -1,5 +1,5 @@
 -- The events that are kept.
-use Rattle.std.specs.Prelude.{string_bytes}
+use Rattle.std.specs.Prelude.{◌≡◌, ℕ, List, [], ◌∷◌, ◌++◌, Option, IfSome, string_bytes}
 use Rattle.serde.specs.Event.{Event, boolean, signed, unsigned, single, double, character, text, octets, nothing, unit_variant, seq_begins, seq_ends}
 use Rattle.serde.specs.Event.{map_begins, map_ends, field_key, variant_key, key_begins, key_ends, flattens}
 use Rattle.tabled_serde.specs.declared.event.Step.{Step}
@@ -25,3 +25,7 @@ event_of (step.VariantKey s case) = variant_key (string_bytes s) case
 event_of step.BeginKey = key_begins
 event_of step.EndKey = key_ends
 event_of step.Flatten = flattens
+
+-- one more event, the text that a value displays, where that is known
+abbrev pub WritesShown : Option (List ℕ) → List Event → List Event → Type 0
+WritesShown shown old new = (t : List ℕ) × IfSome shown (λ bytes. t ≡ bytes) × (new ≡ old ++ text t ∷ [])

@@ -1,5 +1,5 @@
 -- The rows of values.
-use Rattle.std.specs.Prelude.{◌≡◌, ℕ, List, [], ◌∷◌, ◌++◌, Option, Some}
+use Rattle.std.specs.Prelude.{◌≡◌, ◌≢◌, ℕ, List, [], ◌∷◌, ◌++◌, Option, Some}
 use Rattle.std.specs.List.{AllZip}
 use Rattle.serde.specs.Event.{Event}
 use Rattle.tabled_serde.specs.Records.{AreRecord}
@@ -20,13 +20,21 @@ pub data IsBelow : List (List ℕ) → List (List ℕ) → List (List ℕ) → L
   and_empty : (header names cells row : List (List ℕ)) (name : List ℕ) → IsBelow header names cells row
       → IsBelow (header ++ name ∷ []) names cells (row ++ [] ∷ [])
 
+-- the same, and each cell is in the first column of its name that is behind the cell before it
+pub data IsPlaced : List (List ℕ) → List (List ℕ) → List (List ℕ) → List (List ℕ) → Type 0 where
+  no_more : IsPlaced [] [] [] []
+  with_cell : (header names cells row : List (List ℕ)) (name cell : List ℕ) → IsPlaced header names cells row
+      → IsPlaced (name ∷ header) (name ∷ names) (cell ∷ cells) (cell ∷ row)
+  with_empty : (header names cells row : List (List ℕ)) (name : List ℕ) → ((after : List (List ℕ)) → names ≢ name ∷ after)
+      → IsPlaced header names cells row → IsPlaced (name ∷ header) names cells ([] ∷ row)
+
 -- the row of a value below this header
 pub record IsRowOf {T : Type 0} (writes : T → Option (List Event) → Option (List Event) → Type 0)
     (none : List ℕ) (header : List (List ℕ)) (value : T) (row : List (List ℕ)) : Type 0 where
   pub names : List (List ℕ)
   pub cells : List (List ℕ)
   pub fields : HasFields writes none value names cells
-  pub below : IsBelow header names cells row
+  pub below : IsPlaced header names cells row
 
 -- the rows of values: the names of the first and its cells, and then a row for each other
 abbrev pub AreRows : {T : Type 0} → (T → Option (List Event) → Option (List Event) → Type 0) → List ℕ → List T → List (List (List ℕ)) → Type 0

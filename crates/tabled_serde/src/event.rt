@@ -1,11 +1,16 @@
 //! The events that a value writes.
-ghost use Rattle.std.specs.Prelude.{◌≡◌, ◌++◌, ◌∷◌, OnOk, Some, [], map, string_bytes, IfOk};
-ghost use Rattle.tabled_serde.specs.Errors.{IsWriteError};
-ghost use Rattle.tabled_serde.specs.Events.{event_of};
+ghost use Rattle.std.specs.Prelude.{◌≡◌, ◌++◌, ◌∷◌, IfErr, IfOk, MatchOption, OnOk, Some, [], map};
+ghost use Rattle.std.specs.Prelude.{string_bytes};
+ghost use Rattle.std.specs.List.{All};
+ghost use Rattle.tabled_serde.specs.Errors.{HasLastKey, IsCustom, IsLastField, IsNoKey, row_error};
+ghost use Rattle.tabled_serde.specs.Events.{WritesShown, event_of};
+ghost use Rattle.tabled_serde.specs.declared.event.EventError.TheVariants as event_error;
 
 use crate::error::RowError;
 use serde::{Case, NameKind, Serializer};
 use std::alloc::{AllocError, AllocFailed, Global};
+use std::fmt::Display;
+use std::string::ToString;
 
 /// One event. A text is a copy.
 #[derive(Debug, Drop)]
@@ -41,19 +46,23 @@ pub(crate) enum EventError {
 }
 
 impl From<AllocError> for EventError {
+    ghost from_gives = { λ _ e. e ≡ event_error.Memory };
+
     fn from(_error: AllocError) -> EventError {
         EventError::Memory
     }
 }
 
 impl<T: Drop> From<AllocFailed<T>> for EventError {
+    ghost from_gives = { λ _ e. e ≡ event_error.Memory };
+
     fn from(_error: AllocFailed<T>) -> EventError {
         EventError::Memory
     }
 }
 
 impl From<EventError> for RowError {
-    ghost from_gives = { λ _ e. IsWriteError e };
+    ghost from_gives = { λ error e. e ≡ row_error error };
 
     fn from(error: EventError) -> RowError {
         match error {
@@ -79,37 +88,60 @@ impl Events {
     }
 
     fn add(&mut self, step: Step) -> Result<(), EventError>
-        ensures { OnOk result (map event_of self.new.steps.items
+        ensures ok { OnOk result (map event_of self.new.steps.items
             ≡ map event_of self.old.steps.items ++ event_of step ∷ []) }
+        ensures failed { IfErr result (λ e. e ≡ event_error.Memory) }
     {
         self.steps.push(step)?;
         Ok(())
     }
 
     fn copied(&self, text: &str) -> Result<String, EventError>
-        ensures { IfOk result (λ copy. string_bytes copy ≡ text.now) }
+        ensures ok { IfOk result (λ copy. string_bytes copy ≡ text.now) }
+        ensures failed { IfErr result (λ e. e ≡ event_error.Memory) }
     {
         Ok(String::from_str(*self.steps.allocator(), text)?)
     }
 
     /// Returns the name of the last field, as it is spelled, or an empty text.
-    fn last_field(&self) -> Result<String, EventError> {
+    fn last_field(&self) -> Result<String, EventError>
+        ensures ok { IfOk result (λ name.
+            IsLastField (map event_of self.now.steps.items) (string_bytes name)) }
+        ensures failed { IfErr result (λ e. e ≡ event_error.Memory) }
+    {
         let mut spelled = String::new(*self.steps.allocator());
-        for step in self.steps.iter().rev() {
-            if let Step::Field(name, case) = step {
-                case.append(NameKind::Field, name, &mut spelled)?;
-                break;
-            }
+        if let Some((name, case)) = last_key(self.steps.as_slice()) {
+            case.append(NameKind::Field, name, &mut spelled)?;
         }
         Ok(spelled)
     }
 
-    fn custom_error(&self, message: &str) -> Result<EventError, EventError> {
+    /// Returns the value's own error with this message, at the last field.
+    fn custom_error(&self, message: &str) -> Result<EventError, EventError>
+        ensures ok { IfOk result (λ e.
+            IsCustom (map event_of self.now.steps.items) message.now e) }
+        ensures failed { IfErr result (λ e. e ≡ event_error.Memory) }
+    {
         Ok(EventError::Custom {
             field: self.last_field()?,
             message: self.copied(message)?,
         })
     }
+}
+
+/// Returns the name of the last field among events.
+fn last_key(steps: &[Step]) -> Option<(&str, Case)>
+    ensures { MatchOption result (All IsNoKey (map event_of steps.now))
+        (λ key. HasLastKey (map event_of steps.now) key.0.now key.1) }
+{
+    let mut rest = steps;
+    'steps: while let Some((last, before)) = rest.split_last() {
+        if let Step::Field(name, case) = last {
+            return Some((name.as_str(), *case));
+        }
+        rest = before;
+    }
+    None
 }
 
 impl Serializer for Events {
@@ -206,7 +238,17 @@ impl Serializer for Events {
         self.add(Step::Flatten)
     }
 
-    fn custom(&self, message: &str) -> EventError {
+    fn collect_str<T: Display>(&mut self, value: &T) -> Result<(), EventError>
+        ensures { OnOk result (WritesShown (T.output value.now)
+            (map event_of self.old.steps.items) (map event_of self.new.steps.items)) }
+    {
+        let text = value.to_string(*self.steps.allocator())?;
+        self.add(Step::Text(text))
+    }
+
+    fn custom(&self, message: &str) -> EventError
+        ensures { IsCustom (map event_of self.now.steps.items) message.now result }
+    {
         match self.custom_error(message) {
             Ok(error) | Err(error) => error,
         }

@@ -4,7 +4,7 @@ ghost use Rattle.std.specs.Prelude.{string_bytes};
 ghost use Rattle.std.specs.Vec.Iter.{into_iter_items};
 ghost use Rattle.tabled_serde.specs.Reader.{bytes_of};
 ghost use Rattle.tabled_serde.specs.RowErrors.{IsColumnError, IsNext};
-ghost use Rattle.tabled_serde.specs.Rows.{IsBelow};
+ghost use Rattle.tabled_serde.specs.Rows.{IsPlaced};
 
 use crate::error::RowError;
 use crate::reader::Record;
@@ -48,7 +48,7 @@ pub(crate) fn cells_below(
     fields: Record,
 ) -> Result<Vec<String>, RowError>
     requires { length fields.names.items ≡ length fields.cells.items }
-    ensures ok { IfOk result (λ row. IsBelow (map string_bytes header.now) (bytes_of fields.names)
+    ensures ok { IfOk result (λ row. IsPlaced (map string_bytes header.now) (bytes_of fields.names)
         (bytes_of fields.cells) (bytes_of row)) }
     ensures failed { IfErr result
         (IsColumnError (map string_bytes header.now) (bytes_of fields.names)) }

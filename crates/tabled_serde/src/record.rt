@@ -11,7 +11,8 @@ use serde::Serialize;
 use std::alloc::Global;
 
 /// Reads the fields of a value. A scalar is its text, a variant without data its name, and `None`
-/// the text `none`. The items of a list are joined by `, `.
+/// the text `none`. What is written by `collect_str` is the text that it displays. The items of a
+/// list are joined by `, `.
 ///
 /// ```rust
 /// let record = read_record(alloc, &city, "")?;

@@ -1,6 +1,7 @@
 //! Values as rows, one by one and all at once.
 ghost use Rattle.std.specs.Iterator.{IsFiniteIterable};
-ghost use Rattle.std.specs.Prelude.{◌≡◌, IfErr, IfOk, List, None, OnErr, ℕ};
+ghost use Rattle.std.specs.List.{All};
+ghost use Rattle.std.specs.Prelude.{◌≡◌, IfErr, IfOk, IsUtf8, List, None, OnErr, ℕ};
 ghost use Rattle.tabled_base.specs.Given.{Given};
 ghost use Rattle.tabled_serde.specs.Reader.{bytes_of};
 ghost use Rattle.tabled_serde.specs.RowErrors.{IsSourceError};
@@ -102,6 +103,7 @@ pub fn builder<I: IntoIterator<Item = T>, T: Serialize + Drop>(
         × (rows : List (List (List ℕ)))
         × Given I.into_iter_gives I.IntoIter.next_gives values items
         × AreRows T.writes none.now items rows × (builder ≡ rows)) }
+    ensures texts { IfOk result (λ builder. All (All IsUtf8) builder) }
     ensures failed { IfErr result
         (IsSourceError I.into_iter_gives I.IntoIter.next_gives T.writes none.now values) }
 {

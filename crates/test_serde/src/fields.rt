@@ -3,6 +3,8 @@
 use serde::{Described, Serialize, Serializer};
 use std::alloc::Global;
 use std::collections::BTreeMap;
+use std::fmt;
+use std::fmt::Display;
 use std::test::Fail;
 use tabled_serde::{Record, RowError, read_record};
 
@@ -91,6 +93,49 @@ fn an_error_says_which_field(rt: HostRuntime) -> Result<(), Fail> {
     let field = field_of(read_record(rt.alloc(), &grid, "")).ok_or("nested")?;
     assert_eq!(rt; field.as_str(), "firstRow");
     assert!(rt; matches!(read_record(rt.alloc(), &5u8, ""), Err(RowError::NoFields)));
+    Ok(())
+}
+
+/// A time of day, which is written as it is displayed.
+#[derive(Drop)]
+struct Time {
+    hour: u8,
+    minute: u8,
+}
+
+impl Display for Time {
+    fn fmt<W: fmt::Write>(&self, f: &mut fmt::Formatter<W>) -> fmt::Result {
+        write!(f, "{}.{}", self.hour, self.minute)
+    }
+}
+
+impl Described for Time {}
+
+impl Serialize for Time {
+    fn serialize<S: Serializer>(&self, out: &mut S) -> Result<(), S::Error> {
+        out.collect_str(self)
+    }
+}
+
+#[derive(Drop, Serialize)]
+struct Train {
+    leaves: Time,
+    #[serde(flatten)]
+    place: Place,
+}
+
+#[test]
+fn a_value_that_is_displayed_is_its_text(rt: HostRuntime) -> Result<(), Fail> {
+    let value = Train {
+        leaves: Time {
+            hour: 7,
+            minute: 45,
+        },
+        place: Place { x: 1, y: None },
+    };
+    let (names, cells) = shown(rt.alloc(), &read_record(rt.alloc(), &value, "")?)?;
+    assert_eq!(rt; names.as_str(), "leaves|x|y|");
+    assert_eq!(rt; cells.as_str(), "7.45|1||");
     Ok(())
 }
 

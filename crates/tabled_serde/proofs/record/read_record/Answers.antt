@@ -6,7 +6,8 @@ use Rattle.tabled_serde.proofs.record.read_record.Goals as goal
 
 pub returns-in_err-serialize-clause-failed : goal.returns-in_err-serialize-clause-failed
 returns-in_err-serialize-clause-failed g c =
-    own-fails g.T.Described.writes c.args.none.now c.args.value.now c.from_residual.result c.from_residual.ensures.1
+    own-fails g.T.Described.writes c.args.none.now c.args.value.now c.in_err-serialize.field-0.0 c.from_residual.result
+    c.from_residual.ensures.1
 
 pub returns-clause-failed : goal.returns-clause-failed
 returns-clause-failed g c =
