@@ -19,7 +19,7 @@ const EXAMPLES: &str = "Examples:
   tabview shop.db -q 'SELECT * FROM orders'   a query of an SQLite file
   curl .. | tabview -f json -x                one row below the other
   tail -f log.jsonl | tabview -f jsonl --stream 20
-                                              rows as they come, as wide as the first 20
+                                              each row when it is read, as wide as the first 20
 
 Exit status: 0, or 1 for an error in the input, or 2 for a wrong command line.";
 

@@ -208,7 +208,7 @@ pub(crate) static SHOWING: [Described; 9] = [
         letter: None,
         takes: Takes::Number,
         value: "N",
-        help: "Print rows as they come, as wide as the first N; wider cells are cut",
+        help: "Print each row when it is read, as wide as the first N; wider cells are cut",
         excludes: &["tail", "expand", "count"],
     },
     Described {

@@ -64,8 +64,8 @@ pub(crate) fn alignment(side: Side) -> AlignmentHorizontal {
     }
 }
 
-/// Returns the style for a sheet. A line below the first row alone is drawn if this is a header, and
-/// if rows are below it or the table has no line at its bottom. Markdown can't do without it.
+/// Returns the style for a sheet. Its line below the first row is drawn if this is a header, and if
+/// rows are below it or the table has no line at its bottom. Markdown always has it.
 pub(crate) fn style_for(name: Option<&str>, sheet: &Sheet) -> Style {
     let style = style_of(name);
     let has_bottom = style.get_borders().bottom.is_some();
