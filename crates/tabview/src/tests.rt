@@ -14,7 +14,7 @@ struct Run {
 
 const CITIES: &str = "City,People,Census\nVaduz,5774,2021-12-31\n北京,21893095,2020-11-01\n";
 
-static TABLES: [Run; 6] = [
+static TABLES: [Run; 9] = [
     // numbers are at the right
     Run {
         words: &["tabview"],
@@ -66,6 +66,22 @@ static TABLES: [Run; 6] = [
         words: &["tabview", "-x"],
         input: "a,b\n1,x\n",
         shown: "-[ RECORD 1 ]-\na | 1\nb | x\n",
+    },
+    // a header alone
+    Run {
+        words: &["tabview"],
+        input: "a,b\n",
+        shown: "╭───┬───╮\n│ a │ b │\n╰───┴───╯\n",
+    },
+    Run {
+        words: &["tabview", "-x"],
+        input: "a,b\n",
+        shown: "",
+    },
+    Run {
+        words: &["tabview", "--no-header"],
+        input: "a,b\nc,d\n",
+        shown: "╭───┬───╮\n│ a │ b │\n│ c │ d │\n╰───┴───╯\n",
     },
 ];
 

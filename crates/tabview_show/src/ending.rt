@@ -7,8 +7,17 @@ use tabview_read::ReadError;
 
 /// A writer that knows whether something was written.
 pub(crate) struct Noted<'a, W: Write> {
-    pub out: &'a mut W,
-    pub is_begun: bool,
+    out: &'a mut W,
+    is_begun: bool,
+}
+
+impl<'a, W: Write> Noted<'a, W> {
+    pub fn new(out: &'a mut W) -> Noted<'a, W> {
+        Noted {
+            out,
+            is_begun: false,
+        }
+    }
 }
 
 impl<W: Write> Drop for Noted<'_, W> {
@@ -36,7 +45,7 @@ impl<W: Write> Write for Noted<'_, W> {
 pub(crate) fn end<W: Write>(
     printed: Result<(), TableError>,
     hidden: u64,
-    out: &mut W,
+    out: &mut Noted<'_, W>,
 ) -> Result<(), ViewError> {
     match printed {
         Ok(()) => unless_closed(put_end(hidden, out)),
@@ -52,23 +61,18 @@ pub(crate) fn end_stream<W: Write>(
 ) -> Result<(), ViewError> {
     match printed {
         Ok(()) => {
-            end_begun(out)?;
+            unless_closed(put_end(0, out))?;
             read.map_err(ViewError::Read)
         }
         Err(error) => failed(error, out),
     }
 }
 
-fn end_begun<W: Write>(out: &mut Noted<'_, W>) -> Result<(), ViewError> {
+/// Ends the last line, if there is one.
+fn put_end<W: Write>(hidden: u64, out: &mut Noted<'_, W>) -> io::Result<()> {
     if out.is_begun {
-        unless_closed(put_end(0, out))
-    } else {
-        Ok(())
+        out.write_all(b"\n")?;
     }
-}
-
-fn put_end<W: Write>(hidden: u64, out: &mut W) -> io::Result<()> {
-    out.write_all(b"\n")?;
     if hidden > 0 {
         writeln!(out, "… {hidden} rows more")?;
     }

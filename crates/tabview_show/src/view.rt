@@ -24,8 +24,9 @@ pub(crate) fn put_sheet<W: Write>(
     if sheet.records.count_rows() == 0 || sheet.records.count_columns() == 0 {
         return Ok(());
     }
-    let printed = print_sheet(alloc, options.look.expand, layout, sheet, out);
-    end(printed, hidden(&options.choice, sheet), out)
+    let mut out = Noted::new(out);
+    let printed = print_sheet(alloc, options.look.expand, layout, sheet, &mut out);
+    end(printed, hidden(&options.choice, sheet), &mut out)
 }
 
 /// Returns the count of the rows that aren't shown, 0 if that isn't asked for.
@@ -58,10 +59,7 @@ pub(crate) fn put_stream<T: Rows, W: Write>(
     let wanted = wanted(options);
     let measured = measured(options, rows);
     let stream = Stream::new(alloc, &wanted, rows)?;
-    let mut out = Noted {
-        out,
-        is_begun: false,
-    };
+    let mut out = Noted::new(out);
     let style = style_of(options.look.style);
     let (printed, read) = print_rows(alloc, stream, style, measured, &mut out);
     end_stream(printed, read, &mut out)
