@@ -2,44 +2,53 @@
 //! terminal.
 #![tactic(auto)]
 
-mod command;
-mod error;
-mod input;
-mod layout;
-mod options;
-mod progress;
 #[cfg(test)]
 mod tests;
-mod view;
 
 use anyhow::Result;
-use command::command;
-use input::show;
-use options::Options;
+use clap::ArgMatches;
 use std::env;
 use std::process::ExitCode;
 use std::rt::Env;
+use tabview_options::{Options, command};
+use tabview_show::{ViewError, show};
 
 fn main(rt: HostRuntime) -> Result<ExitCode> {
     let words: Vec<String> = env::args(&rt)?.collect(rt.alloc())?;
-    let matches = match command(rt.alloc())?.try_get_matches_from(words.as_slice()) {
-        Ok(matches) => matches,
+    run(&rt, words.as_slice())
+}
+
+/// Runs the viewer with the words of a command line.
+fn run(rt: &HostRuntime, words: &[String]) -> Result<ExitCode> {
+    match command(rt.alloc())?.try_get_matches_from(words) {
+        Ok(matches) => view(rt, &matches),
         Err(error) => {
-            error.print(&rt)?;
-            return Ok(ExitCode::from(error.exit_code() as u8));
+            error.print(rt)?;
+            Ok(ExitCode::from(error.exit_code() as u8))
         }
-    };
-    let options = match Options::of(rt.alloc(), &matches, terminal_width(&rt)) {
-        Ok(options) => options,
+    }
+}
+
+fn view(rt: &HostRuntime, matches: &ArgMatches<'_>) -> Result<ExitCode> {
+    match Options::of(rt.alloc(), matches, terminal_width(rt)) {
+        Ok(options) => outcome(rt, &options, show(rt, &options)),
         Err(error) => {
             eprintln!(rt; "tabview: {error}")?;
-            return Ok(ExitCode::from(2));
+            Ok(ExitCode::from(2))
         }
-    };
-    match show(&rt, &options) {
+    }
+}
+
+/// Reports an error, and returns the status.
+fn outcome(
+    rt: &HostRuntime,
+    options: &Options<'_>,
+    shown: Result<(), ViewError>,
+) -> Result<ExitCode> {
+    match shown {
         Ok(()) => Ok(ExitCode::SUCCESS),
         Err(error) => {
-            let input = options.file.unwrap_or("standard input");
+            let input = options.input.file.unwrap_or("standard input");
             eprintln!(rt; "tabview: {input}: {error}")?;
             Ok(ExitCode::from(1))
         }

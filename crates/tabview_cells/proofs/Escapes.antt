@@ -44,7 +44,7 @@ signed lines c e = ⊎_elim
     (or_cases (is_sign c) (is_control c) (sym (cond-false (c == 10) (not lines) (is_sign c || is_control c) other) ∙ e)))
     (cases_Bool (c == 10))
 
--- a character that isn't the mark is read by itself
+-- a character that isn't the mark is read alone
 read_one : (c : ℕ) (rest : List ℕ) → (c == 0x2426) ≡ false → unescape_after false (c ∷ rest) ≡ meaning c ∷ unescape_after false rest
 read_one c rest ne = cond-false (c == 0x2426) (unescape_after true rest) (meaning c ∷ unescape_after false rest) ne
 

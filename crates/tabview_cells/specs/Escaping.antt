@@ -7,7 +7,7 @@ use Rattle.std.specs.List.{flat_map}
 abbrev pub is_control : ℕ → Bool
 is_control c = is_in_range 0 0x1F c || is_in_range 0x7F 0x9F c
 
--- the signs that stand for control characters: the pictures from U+2400, and the mark U+2426
+-- the signs that represent control characters: the pictures from U+2400, and the mark U+2426
 abbrev pub is_sign : ℕ → Bool
 is_sign c = is_in_range 0x2400 0x2426 c
 
@@ -36,11 +36,11 @@ escape lines text = flat_map (escape_char lines) text
 abbrev pub escaped : Bool → List ℕ → List ℕ
 escaped lines text = encode_utf8_all (escape lines (chars text))
 
--- the character that a sign stands for
+-- the character that a sign represents
 abbrev pub meaning : ℕ → ℕ
 meaning c = if is_in_range 0x2400 0x241F c then c - 0x2400 else if c == 0x2421 then 0x7F else c
 
--- the character that one after the mark stands for: a sign stands for itself
+-- the character that one after the mark represents: a sign represents itself
 abbrev pub marked_meaning : ℕ → ℕ
 marked_meaning c = if nat_lt c 0x60 then c + 0x40 else c
 

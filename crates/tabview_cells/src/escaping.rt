@@ -9,10 +9,10 @@ ghost use Rattle.tabview_cells.specs.Escaping.{is_escaped, is_shown, unescape};
 use std::alloc::{AllocError, Global};
 use std::borrow::CowStr;
 
-/// The mark before a character that stands for itself or for a control character.
+/// The mark before a sign that represents itself, and before the letter of a control character.
 const MARK: char = '␦';
 
-/// The character before the picture of U+0000, less one.
+/// The picture of U+0000. Those of the other control characters follow it.
 const PICTURES: u32 = 0x2400;
 
 /// Whether a character is a control character: U+0000 to U+001F, or U+007F to U+009F.
@@ -22,7 +22,7 @@ pub fn is_control(c: char) -> bool
     matches!(c, '\0'..='\x1F' | '\x7F'..='\u{9F}')
 }
 
-/// Whether escaping changes a character: a control character, or one of the signs that stand for
+/// Whether escaping changes a character: a control character, or one of the signs that represent
 /// these. A line feed stays if `lines`.
 fn is_escaped(lines: bool, c: char) -> bool
     ensures { result ≡ is_escaped lines c }

@@ -10,7 +10,7 @@ ghost use Rattle.tabview_cells.specs.Words.{longest_in_line, longest_word};
 use tabled_priority::Peaker;
 use tabled_text::{line_width, lines};
 
-/// The widest column gives first, and none goes below its floor, its least width. A column whose
+/// The widest column gives first, and none goes below its floor, its minimum width. A column whose
 /// floor is its width doesn't give. Columns without a floor have 0.
 ///
 /// ```rust
@@ -25,11 +25,11 @@ pub struct AboveFloors<'a> {
 
 impl AboveFloors<'_> {
     /// Returns the greater of a column's floor and its minimum.
-    fn floor_at(&self, mins: &[usize], place: usize) -> usize
-        ensures { result ≡ floor_at self.now.floors.now mins.now place }
+    fn floor_at(&self, mins: &[usize], column: usize) -> usize
+        ensures { result ≡ floor_at self.now.floors.now mins.now column }
     {
-        let own = self.floors.get(place).copied().unwrap_or(0);
-        mins.get(place).copied().unwrap_or(0).max(own)
+        let own = self.floors.get(column).copied().unwrap_or(0);
+        mins.get(column).copied().unwrap_or(0).max(own)
     }
 
     /// Returns the widest column above its floor, of equal ones the last.
@@ -39,10 +39,10 @@ impl AboveFloors<'_> {
     {
         let mut best = None;
         let mut most: usize = 0;
-        for place in 0..values.len() {
-            if values[place] > self.floor_at(mins, place) && values[place] >= most {
-                best = Some(place);
-                most = values[place];
+        for column in 0..values.len() {
+            if values[column] > self.floor_at(mins, column) && values[column] >= most {
+                best = Some(column);
+                most = values[column];
             }
         }
         best

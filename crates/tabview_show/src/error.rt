@@ -2,7 +2,7 @@
 
 use std::alloc::AllocError;
 use std::{error, fmt, io};
-use tabled::TableError;
+use tabled_base::TableError;
 use tabview_read::ReadError;
 
 /// Why a table isn't shown, or not to its end.
@@ -43,41 +43,5 @@ impl From<ReadError> for ViewError {
 impl From<AllocError> for ViewError {
     fn from(error: AllocError) -> ViewError {
         ViewError::Read(ReadError::from(error))
-    }
-}
-
-/// A command line that asks for what can't be.
-#[derive(Debug, Drop)]
-pub enum WrongOption {
-    /// An allocation failed.
-    Memory,
-    /// `--delimiter` is no character of ASCII.
-    Delimiter,
-    /// `--align` has no side.
-    Align(String),
-}
-
-impl fmt::Display for WrongOption {
-    fn fmt<W: fmt::Write>(&self, f: &mut fmt::Formatter<W>) -> fmt::Result {
-        match self {
-            WrongOption::Memory => f.write_str("out of memory"),
-            WrongOption::Delimiter => f.write_str(
-                "--delimiter takes one character of ASCII, or \\t",
-            ),
-            WrongOption::Align(word) => {
-                write!(
-                    f,
-                    "--align takes COLUMN=left, COLUMN=right or COLUMN=center, not {word}"
-                )
-            }
-        }
-    }
-}
-
-impl error::Error for WrongOption {}
-
-impl From<AllocError> for WrongOption {
-    fn from(_error: AllocError) -> WrongOption {
-        WrongOption::Memory
     }
 }

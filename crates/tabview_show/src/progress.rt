@@ -9,7 +9,7 @@ use tabview_read::{ReadError, Row, Rows};
 const ROWS: u64 = 1024;
 
 /// Rows whose count is shown on standard error, if reading them takes more than two seconds.
-pub struct Progress<'a, T: Rows, R: Clock + Eprint> {
+pub(crate) struct Progress<'a, T: Rows, R: Clock + Eprint> {
     rows: &'a mut T,
     rt: &'a R,
     start: Option<Instant>,

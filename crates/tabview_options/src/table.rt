@@ -1,0 +1,222 @@
+//! The options, with their help.
+
+/// What an option takes.
+#[derive(Clone, Copy, Debug, PartialEq, Eq)]
+pub(crate) enum Takes {
+    Nothing,
+    Number,
+    /// A text, the last one if there are several.
+    Text,
+    /// A text each time that the option is there.
+    Texts,
+    /// Texts with commas between them, each time that the option is there.
+    List,
+    /// One of some words.
+    Word(&'static [&'static str]),
+}
+
+/// An option of the command line.
+#[derive(Clone, Copy, Debug)]
+pub(crate) struct Described {
+    pub name: &'static str,
+    pub letter: Option<char>,
+    pub takes: Takes,
+    /// What its value is called.
+    pub value: &'static str,
+    pub help: &'static str,
+    /// The options that don't go with it.
+    pub excludes: &'static [&'static str],
+}
+
+/// What is read, and how.
+pub(crate) static READING: [Described; 7] = [
+    Described {
+        name: "from",
+        letter: Some('f'),
+        takes: Takes::Word(&["csv", "tsv", "json", "jsonl", "sqlite"]),
+        value: "FORMAT",
+        help: "Format of the input [default: by the file's ending, else by its first bytes]",
+        excludes: &[],
+    },
+    Described {
+        name: "delimiter",
+        letter: Some('d'),
+        takes: Takes::Text,
+        value: "C",
+        help: "Character between cells: one of ASCII, or \\t",
+        excludes: &[],
+    },
+    Described {
+        name: "query",
+        letter: Some('q'),
+        takes: Takes::Text,
+        value: "SQL",
+        help: "Query of an SQLite file [default: its only table]",
+        excludes: &[],
+    },
+    Described {
+        name: "no-header",
+        letter: None,
+        takes: Takes::Nothing,
+        value: "",
+        help: "The first row is no header",
+        excludes: &[],
+    },
+    Described {
+        name: "fill",
+        letter: None,
+        takes: Takes::Nothing,
+        value: "",
+        help: "Fill short rows with empty cells, in place of an error",
+        excludes: &[],
+    },
+    Described {
+        name: "lossy",
+        letter: None,
+        takes: Takes::Nothing,
+        value: "",
+        help: "Show bytes that are no UTF-8 as \u{fffd}, in place of an error",
+        excludes: &[],
+    },
+    Described {
+        name: "null",
+        letter: None,
+        takes: Takes::Text,
+        value: "TEXT",
+        help: "Text shown for null; cells of CSV with it count as empty [default: NULL]",
+        excludes: &[],
+    },
+];
+
+/// Which rows and columns are shown.
+pub(crate) static CHOOSING: [Described; 5] = [
+    Described {
+        name: "columns",
+        letter: None,
+        takes: Takes::List,
+        value: "A,B,..",
+        help: "Show these columns, by name or number, in this order",
+        excludes: &[],
+    },
+    Described {
+        name: "rows",
+        letter: None,
+        takes: Takes::Number,
+        value: "N",
+        help: "Show the first N rows",
+        excludes: &[],
+    },
+    Described {
+        name: "tail",
+        letter: None,
+        takes: Takes::Number,
+        value: "N",
+        help: "Show the last N rows",
+        excludes: &["rows"],
+    },
+    Described {
+        name: "number",
+        letter: Some('n'),
+        takes: Takes::Nothing,
+        value: "",
+        help: "Put the number of each row before it",
+        excludes: &[],
+    },
+    Described {
+        name: "count",
+        letter: None,
+        takes: Takes::Nothing,
+        value: "",
+        help: "End with the number of rows that aren't shown",
+        excludes: &[],
+    },
+];
+
+/// How they are shown.
+pub(crate) static SHOWING: [Described; 9] = [
+    Described {
+        name: "style",
+        letter: Some('s'),
+        takes: Takes::Word(&[
+            "rounded",
+            "sharp",
+            "modern",
+            "modern-rounded",
+            "ascii",
+            "ascii-rounded",
+            "extended",
+            "markdown",
+            "psql",
+            "rst",
+            "blank",
+            "empty",
+        ]),
+        value: "STYLE",
+        help: "Lines of the table [default: rounded]",
+        excludes: &[],
+    },
+    Described {
+        name: "width",
+        letter: Some('w'),
+        takes: Takes::Number,
+        value: "N",
+        help: "Fit the table to N columns [default: COLUMNS of the environment]",
+        excludes: &[],
+    },
+    Described {
+        name: "align",
+        letter: Some('a'),
+        takes: Takes::Texts,
+        value: "COLUMN=SIDE",
+        help: "Align a column: left, right or center. Numbers are at the right",
+        excludes: &[],
+    },
+    Described {
+        name: "wrap",
+        letter: None,
+        takes: Takes::Nothing,
+        value: "",
+        help: "Wrap texts that are too wide between words [default]",
+        excludes: &[],
+    },
+    Described {
+        name: "cut",
+        letter: None,
+        takes: Takes::Nothing,
+        value: "",
+        help: "Cut texts that are too wide, and end them in …",
+        excludes: &["wrap"],
+    },
+    Described {
+        name: "expand",
+        letter: Some('x'),
+        takes: Takes::Nothing,
+        value: "",
+        help: "Show one row below the other; chosen where no table fits",
+        excludes: &[],
+    },
+    Described {
+        name: "raw",
+        letter: None,
+        takes: Takes::Nothing,
+        value: "",
+        help: "Show control characters as they are",
+        excludes: &[],
+    },
+    Described {
+        name: "stream",
+        letter: None,
+        takes: Takes::Number,
+        value: "N",
+        help: "Print each row when it is read, as wide as the first N; wider cells are cut",
+        excludes: &["tail", "expand", "count"],
+    },
+    Described {
+        name: "progress",
+        letter: None,
+        takes: Takes::Nothing,
+        value: "",
+        help: "Show on standard error how many rows were read, after two seconds",
+        excludes: &["stream"],
+    },
+];

@@ -1,0 +1,268 @@
+//! Reads an input by its format, and shows it.
+
+use crate::asked::{csv_options, format_of, json_options, wanted};
+use crate::error::ViewError;
+use crate::layout::layout_of;
+use crate::progress::Progress;
+use crate::view::{put_sheet, put_stream};
+use json::Scratch;
+use sqlite::{Alter, Connection};
+use std::fs::File;
+use std::io::{self, BufReader, BufWriter, Read, Write};
+use tabview_options::Options;
+use tabview_read::{
+    CsvRows, Format, JsonLines, JsonRows, ReadError, Rows, Sheet, SqliteRows, Wanted, query_of,
+    read_sheet, text_of,
+};
+
+/// The bytes that are written at once.
+const BLOCK: usize = 65_536;
+
+/// The bytes by which a format is known.
+const HEAD: u64 = 4096;
+
+/// Shows the file, or standard input without one, on standard output.
+///
+/// Errors: the rows can't be read; the table can't be laid out; the output can't be written; a
+/// database was given at standard input; there is a query, but no database.
+pub fn show(rt: &HostRuntime, options: &Options<'_>) -> Result<(), ViewError> {
+    match BufWriter::with_capacity(rt.alloc(), BLOCK, io::writer(rt)) {
+        Ok(mut out) => show_on(rt, options, &mut out),
+        Err(error) => Err(ViewError::Output(error)),
+    }
+}
+
+fn show_on<W: Write>(
+    rt: &HostRuntime,
+    options: &Options<'_>,
+    out: &mut W,
+) -> Result<(), ViewError> {
+    match options.input.file {
+        Some(path) => show_file(rt, options, path, out),
+        None => show_stdin(rt, options, out),
+    }
+}
+
+fn show_stdin<W: Write>(
+    rt: &HostRuntime,
+    options: &Options<'_>,
+    out: &mut W,
+) -> Result<(), ViewError> {
+    if show_input(rt, options, rt.stdin(), out)? {
+        return Ok(());
+    }
+    Err(ViewError::Database)
+}
+
+fn show_file<W: Write>(
+    rt: &HostRuntime,
+    options: &Options<'_>,
+    path: &str,
+    out: &mut W,
+) -> Result<(), ViewError> {
+    let file = File::open(rt, path).map_err(ReadError::Input)?;
+    if show_input(rt, options, file, out)? {
+        return Ok(());
+    }
+    show_database_at(rt, options, path, out)
+}
+
+fn show_database_at<W: Write>(
+    rt: &HostRuntime,
+    options: &Options<'_>,
+    path: &str,
+    out: &mut W,
+) -> Result<(), ViewError> {
+    match Connection::open(rt, path) {
+        Ok(mut connection) => show_database(rt, options, &mut connection, out),
+        Err(error) => Err(ViewError::Read(ReadError::Query(error))),
+    }
+}
+
+/// Shows an input, unless it is a database of SQLite. Returns whether it is none.
+///
+/// Errors: as of `show`.
+pub fn show_input<R: Read + Drop, W: Write>(
+    rt: &HostRuntime,
+    options: &Options<'_>,
+    mut input: R,
+    out: &mut W,
+) -> Result<bool, ViewError> {
+    let mut head = Vec::new(rt.alloc());
+    let format = match format_of(&options.input) {
+        Some(format) => format,
+        None => read_head(&mut input, &mut head)?,
+    };
+    if format == Format::Sqlite {
+        return Ok(false);
+    }
+    if options.input.query.is_some() {
+        return Err(ViewError::NoDatabase);
+    }
+    show_text(rt, options, format, head.as_slice().chain(input), out)?;
+    Ok(true)
+}
+
+/// Reads the first bytes of an input, and returns the format that they are of.
+fn read_head<R: Read>(input: &mut R, head: &mut Vec<u8>) -> Result<Format, ReadError> {
+    let mut first = input.by_ref().take(HEAD);
+    match first.read_to_end(head) {
+        Ok(_) => Ok(Format::of_head(head)),
+        Err(error) => Err(ReadError::Input(error)),
+    }
+}
+
+/// Shows an input in a format of text.
+fn show_text<R: Read + Drop, W: Write>(
+    rt: &HostRuntime,
+    options: &Options<'_>,
+    format: Format,
+    input: R,
+    out: &mut W,
+) -> Result<(), ViewError> {
+    match format {
+        Format::Json => show_json(rt, options, input, out),
+        Format::JsonLines => show_lines(rt, options, input, out),
+        Format::Tsv => show_csv(rt, options, b'\t', input, out),
+        Format::Csv | Format::Sqlite => show_csv(rt, options, b',', input, out),
+    }
+}
+
+fn show_csv<R: Read + Drop, W: Write>(
+    rt: &HostRuntime,
+    options: &Options<'_>,
+    delimiter: u8,
+    input: R,
+    out: &mut W,
+) -> Result<(), ViewError> {
+    let csv = csv_options(&options.input, delimiter);
+    let mut rows = CsvRows::new(rt.alloc(), csv, input)?;
+    show_rows(rt, options, &mut rows, out)
+}
+
+fn show_json<R: Read + Drop, W: Write>(
+    rt: &HostRuntime,
+    options: &Options<'_>,
+    input: R,
+    out: &mut W,
+) -> Result<(), ViewError> {
+    let text = read_text(rt, options.input.lossy, input)?;
+    show_json_text(rt, options, &text, out)
+}
+
+fn read_text<R: Read + Drop>(
+    rt: &HostRuntime,
+    lossy: bool,
+    mut input: R,
+) -> Result<String, ReadError> {
+    let mut bytes = Vec::new(rt.alloc());
+    match input.read_to_end(&mut bytes) {
+        Ok(_) => text_of(rt.alloc(), &bytes, lossy),
+        Err(error) => Err(ReadError::Input(error)),
+    }
+}
+
+fn show_json_text<W: Write>(
+    rt: &HostRuntime,
+    options: &Options<'_>,
+    text: &str,
+    out: &mut W,
+) -> Result<(), ViewError> {
+    let mut scratch = Scratch::new(rt.alloc());
+    let json = json_options(&options.input);
+    let mut rows = JsonRows::new(rt.alloc(), json, text, &mut scratch)?;
+    show_rows(rt, options, &mut rows, out)
+}
+
+fn show_lines<R: Read + Drop, W: Write>(
+    rt: &HostRuntime,
+    options: &Options<'_>,
+    input: R,
+    out: &mut W,
+) -> Result<(), ViewError> {
+    match BufReader::new(rt.alloc(), input) {
+        Ok(input) => show_buffered(rt, options, input, out),
+        Err(error) => Err(ViewError::Read(ReadError::Input(error))),
+    }
+}
+
+fn show_buffered<R: Read + Drop, W: Write>(
+    rt: &HostRuntime,
+    options: &Options<'_>,
+    input: BufReader<R>,
+    out: &mut W,
+) -> Result<(), ViewError> {
+    let json = json_options(&options.input);
+    let ahead = options.stream.unwrap_or(usize::MAX);
+    let mut rows = JsonLines::new(rt.alloc(), json, options.input.lossy, input, ahead)?;
+    show_rows(rt, options, &mut rows, out)
+}
+
+/// Shows a query of a database, or its only table.
+///
+/// Errors: as of `show`.
+pub fn show_database<S: Alter, W: Write>(
+    rt: &HostRuntime,
+    options: &Options<'_>,
+    connection: &mut Connection<S>,
+    out: &mut W,
+) -> Result<(), ViewError> {
+    match options.input.query {
+        Some(query) => show_query(rt, options, connection, query, out),
+        None => {
+            let query = query_of(rt.alloc(), connection)?;
+            show_query(rt, options, connection, &query, out)
+        }
+    }
+}
+
+fn show_query<S: Alter, W: Write>(
+    rt: &HostRuntime,
+    options: &Options<'_>,
+    connection: &mut Connection<S>,
+    query: &str,
+    out: &mut W,
+) -> Result<(), ViewError> {
+    let mut rows = SqliteRows::new(rt.alloc(), connection, query, options.input.lossy)?;
+    show_rows(rt, options, &mut rows, out)
+}
+
+/// Shows rows, as they are read or when all are.
+fn show_rows<T: Rows, W: Write>(
+    rt: &HostRuntime,
+    options: &Options<'_>,
+    rows: &mut T,
+    out: &mut W,
+) -> Result<(), ViewError> {
+    if options.stream.is_some() {
+        return put_stream(rt.alloc(), options, rows, out);
+    }
+    let sheet = read_rows(rt, options, rows)?;
+    let layout = layout_of(rt.alloc(), options, rows.names(), &sheet)?;
+    put_sheet(rt.alloc(), options, layout, &sheet, out)
+}
+
+fn read_rows<T: Rows>(
+    rt: &HostRuntime,
+    options: &Options<'_>,
+    rows: &mut T,
+) -> Result<Sheet, ReadError> {
+    let wanted = wanted(options);
+    if options.progress {
+        read_watched(rt, &wanted, rows)
+    } else {
+        read_sheet(rt.alloc(), &wanted, rows)
+    }
+}
+
+/// Reads rows, and shows how many were read.
+fn read_watched<T: Rows>(
+    rt: &HostRuntime,
+    wanted: &Wanted<'_>,
+    rows: &mut T,
+) -> Result<Sheet, ReadError> {
+    let mut watched = Progress::new(rt, rows);
+    let sheet = read_sheet(rt.alloc(), wanted, &mut watched);
+    watched.clear();
+    sheet
+}

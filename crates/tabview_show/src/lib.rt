@@ -1,0 +1,21 @@
+//! Shows the rows of an input as a table.
+//!
+//! - `asked`: what is asked for, in the words of the crates below.
+//! - `ending`: the end of a table, and readers that went away.
+//! - `error`: why nothing is shown.
+//! - `input`: an input by its format.
+//! - `layout`: how the rows that are shown are laid out.
+//! - `progress`: how far reading is.
+//! - `view`: rows that are read, or as they are.
+#![tactic(auto)]
+
+mod asked;
+mod ending;
+mod error;
+mod input;
+mod layout;
+mod progress;
+mod view;
+
+pub use error::ViewError;
+pub use input::{show, show_database, show_input};

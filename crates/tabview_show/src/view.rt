@@ -1,0 +1,83 @@
+//! Shows rows: all that are read, or each as it is read.
+
+use crate::asked::{style_of, wanted};
+use crate::ending::{Noted, end, end_stream};
+use crate::error::ViewError;
+use std::alloc::Global;
+use std::io::Write;
+use tabled_base::{ExactRecords, TableError};
+use tabled_config::Style;
+use tabled_grid::IoSink;
+use tabled_records::TryRows;
+use tabview_options::{Choice, Options};
+use tabview_print::{Layout, print_expanded, print_stream, print_table};
+use tabview_read::{ReadError, Rows, Sheet, Stream};
+
+/// Prints the rows of a sheet, and how many aren't shown if that is asked for.
+pub(crate) fn put_sheet<W: Write>(
+    alloc: Global,
+    options: &Options<'_>,
+    layout: Layout,
+    sheet: &Sheet,
+    out: &mut W,
+) -> Result<(), ViewError> {
+    if sheet.records.count_rows() == 0 || sheet.records.count_columns() == 0 {
+        return Ok(());
+    }
+    let mut out = Noted::new(out);
+    let printed = print_sheet(alloc, options.look.expand, layout, sheet, &mut out);
+    end(printed, hidden(&options.choice, sheet), &mut out)
+}
+
+/// Returns the count of the rows that aren't shown, 0 if that isn't asked for.
+fn hidden(choice: &Choice<'_>, sheet: &Sheet) -> u64 {
+    if choice.count { sheet.hidden } else { 0 }
+}
+
+fn print_sheet<W: Write>(
+    alloc: Global,
+    expand: bool,
+    layout: Layout,
+    sheet: &Sheet,
+    out: &mut W,
+) -> Result<(), TableError> {
+    let width = layout.width;
+    let mut sink = IoSink::new(out);
+    if !expand && print_table(alloc, &sheet.records, layout, &mut sink)? {
+        return Ok(());
+    }
+    print_expanded(alloc, &sheet.records, sheet.has_names, width, &mut sink)
+}
+
+/// Prints rows as they are read, as wide as the first ones.
+pub(crate) fn put_stream<T: Rows, W: Write>(
+    alloc: Global,
+    options: &Options<'_>,
+    rows: &mut T,
+    out: &mut W,
+) -> Result<(), ViewError> {
+    let wanted = wanted(options);
+    let measured = measured(options, rows);
+    let stream = Stream::new(alloc, &wanted, rows)?;
+    let mut out = Noted::new(out);
+    let style = style_of(options.look.style);
+    let (printed, read) = print_rows(alloc, stream, style, measured, &mut out);
+    end_stream(printed, read, &mut out)
+}
+
+/// Returns the count of the rows that are measured, with that of the names.
+fn measured<T: Rows>(options: &Options<'_>, rows: &T) -> usize {
+    let names = usize::from(rows.names().is_some());
+    options.stream.unwrap_or(usize::MAX).saturating_add(names)
+}
+
+fn print_rows<T: Rows, W: Write>(
+    alloc: Global,
+    rows: Stream<'_, T>,
+    style: Style,
+    measured: usize,
+    out: &mut W,
+) -> (Result<(), TableError>, Result<(), ReadError>) {
+    let mut sink = IoSink::new(out);
+    print_stream(alloc, TryRows::new(rows), style, measured, &mut sink)
+}
