@@ -134,18 +134,26 @@ pub fn narrowed_rows(alloc: Global) -> Result<String, TableError> {
         alloc,
         "Tab\tgoes to the next field\nEsc\tleaves the prompt\n",
     )?;
-    let config = new_config(alloc);
-    let mut sizes = CompleteDimension::new(alloc);
-    let narrow = Width::truncate(20).priority(Priority::max(true));
-    let narrowed = narrow.narrowed(&rows, &config, &mut sizes)?;
-    sizes.clear_height();
     let mut out = String::new(alloc);
-    print_narrowed(&mut out, &rows, narrowed.as_ref(), &config, &sizes)?;
+    print_narrowed(&mut out, &rows, &new_config(alloc))?;
     Ok(out)
 }
 
-/// Prints the narrowed rows, or the old ones if there are none.
+/// Prints rows that are truncated to 20 columns.
 fn print_narrowed(
+    out: &mut String,
+    rows: &LentRows<'_>,
+    config: &SpannedConfig,
+) -> Result<(), TableError> {
+    let mut sizes = CompleteDimension::new(*out.allocator());
+    let narrow = Width::truncate(20).priority(Priority::max(true));
+    let narrowed = narrow.narrowed(rows, config, &mut sizes)?;
+    sizes.clear_height();
+    print_either(out, rows, narrowed.as_ref(), config, &sizes)
+}
+
+/// Prints the narrowed rows, or the old ones if there are none.
+fn print_either(
     out: &mut String,
     rows: &LentRows<'_>,
     narrowed: Option<&NarrowedRows<'_, '_>>,

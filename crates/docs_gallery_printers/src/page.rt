@@ -13,13 +13,11 @@ macro_rules! draw {
     }};
 }
 
-// Pictures of a new table of cities to which something is done.
+// Pictures of new tables of cities, to each of which something is done.
 macro_rules! show {
     ($page:expr, $table:expr; $($picture:path),+ $(,)?) => {{
-        $(
-            renew($table)?;
-            add_table($page, stringify!($picture), $picture($table), $table)?;
-        )+
+        renew($table)?;
+        $(add_table($page, stringify!($picture), $picture($table), $table)?;)+
         Ok(())
     }};
 }
@@ -62,15 +60,18 @@ fn add(
     }
 }
 
-// Adds a table to which something was done.
+// Adds a table to which something was done, and puts a new one in its place.
 fn add_table(
     page: &mut String,
     name: &str,
     outcome: Result<(), TableError>,
-    table: &Table,
+    table: &mut Table,
 ) -> Result<(), TableError> {
     match outcome {
-        Ok(()) => add(page, name, table.to_text()),
+        Ok(()) => {
+            add(page, name, table.to_text())?;
+            renew(table)
+        }
         Err(error) => Err(error),
     }
 }

@@ -5,13 +5,11 @@ use crate::{alignments, borders, cell_widths, heights, objects, spaces, styles, 
 use std::alloc::Global;
 use tabled::{Table, TableError};
 
-// Pictures of a new table to which something is done.
+// Pictures of new tables, to each of which something is done.
 macro_rules! show {
     ($page:expr, $table:expr, $sample:path; $($picture:path),+ $(,)?) => {{
-        $(
-            renew($table, $sample)?;
-            add_table($page, stringify!($picture), $picture($table), $table)?;
-        )+
+        renew($table, $sample)?;
+        $(add_table($page, stringify!($picture), $picture($table), $table, $sample)?;)+
         Ok(())
     }};
 }
@@ -35,15 +33,19 @@ fn renew(table: &mut Table, sample: Sample) -> Result<(), TableError> {
     Ok(())
 }
 
-// Adds a table to which something was done.
+// Adds a table to which something was done, and puts a new one in its place.
 fn add_table(
     page: &mut String,
     name: &str,
     outcome: Result<(), TableError>,
-    table: &Table,
+    table: &mut Table,
+    sample: Sample,
 ) -> Result<(), TableError> {
     match outcome {
-        Ok(()) => add(page, name, table.to_text()),
+        Ok(()) => {
+            add(page, name, table.to_text())?;
+            renew(table, sample)
+        }
         Err(error) => Err(error),
     }
 }
@@ -61,7 +63,8 @@ fn add(
 }
 
 fn add_settings(page: &mut String, table: &mut Table) -> Result<(), TableError> {
-    add_styles(page, table)?;
+    add_box_styles(page, table)?;
+    add_text_styles(page, table)?;
     add_removals(page, table)?;
     add_alignments(page, table)?;
     add_center(page, table)?;
@@ -87,11 +90,16 @@ fn add_parts(page: &mut String, table: &mut Table) -> Result<(), TableError> {
     add_segments(page, table)
 }
 
-fn add_styles(page: &mut String, table: &mut Table) -> Result<(), TableError> {
+fn add_box_styles(page: &mut String, table: &mut Table) -> Result<(), TableError> {
     show!(page, table, Sample::Cities;
         styles::rounded, styles::ascii, styles::modern, styles::sharp, styles::modern_rounded,
-        styles::extended, styles::markdown, styles::psql, styles::re_structured_text,
-        styles::ascii_rounded, styles::blank, styles::empty)
+        styles::extended)
+}
+
+fn add_text_styles(page: &mut String, table: &mut Table) -> Result<(), TableError> {
+    show!(page, table, Sample::Cities;
+        styles::markdown, styles::psql, styles::re_structured_text, styles::ascii_rounded,
+        styles::blank, styles::empty)
 }
 
 fn add_removals(page: &mut String, table: &mut Table) -> Result<(), TableError> {
