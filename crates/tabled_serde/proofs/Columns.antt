@@ -1,5 +1,5 @@
 -- The columns that names can have below a header.
-use Rattle.std.proofs.Common.{List, [], ap, append_assoc, arith, drop, inl, inr, length, length-append, refl, subst, sym, ℕ, ◌++◌, ◌+◌, ◌<◌, ◌∙◌, ◌∷◌, ◌≡◌, ◌≢◌, ◌≤◌, ◌⊎◌}
+use Rattle.std.proofs.Common.{List, [], ap, append_assoc, arith, drop, inl, inr, length, length-append, refl, subst, sym, ℕ, ◌++◌, ◌+◌, ◌∙◌, ◌∷◌, ◌≡◌, ◌≢◌, ◌≤◌, ◌⊎◌}
 use Rattle.std.proofs.Math.Seq.{drop-append_seam}
 use Rattle.std.proofs.lemmas.List.{same_from_push}
 use Rattle.tabled_serde.specs.RowErrors.{HaveColumns}

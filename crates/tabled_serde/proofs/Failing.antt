@@ -1,11 +1,11 @@
 -- Why no cell, no name and no field comes.
-use Rattle.std.proofs.Common.{Err, IfErr, IsErr, IsErrAnd, List, OnOk, Ok, Option, Result, Some, [], ap, append_assoc, refl, string_bytes, subst, sym, ℕ, ◌++◌, ◌∙◌, ◌∷◌, ◌≡◌, ◌≢◌, ◌⊎◌, inl, inr}
+use Rattle.std.proofs.Common.{Err, IfErr, IsErr, IsErrAnd, List, OnOk, Ok, Option, Result, Some, [], ap, append_assoc, refl, subst, sym, ℕ, ◌++◌, ◌∙◌, ◌∷◌, ◌≡◌, ◌≢◌, ◌⊎◌, inl, inr}
 use Rattle.std.specs.Prelude.{⊤}
 use Rattle.std.specs.List.{AllZip}
 use Rattle.serde.specs.Event.{Event, flattens, key_begins, map_begins, map_ends, seq_begins, seq_ends}
 use Rattle.tabled_serde.specs.Errors.{HasCause, IsFieldError, IsNested, IsRecordError, IsValueError, IsWriteError, NoCellFirst, NoItemsFirst, NoKeyFirst, NoNameFirst, NoFieldFirst, NoTextIs, goes_on, inner, of_events, own, row_error, whole}
 use Rattle.tabled_serde.specs.Reader.{FieldsRead}
-use Rattle.tabled_serde.specs.Records.{IsCell, IsName, IsText, list, one}
+use Rattle.tabled_serde.specs.Records.{IsName, IsText, list, one}
 use Rattle.tabled_serde.specs.declared.error.RowError.{RowError}
 use Rattle.tabled_serde.specs.declared.error.RowError.TheVariants.{Memory, NoFields, NoName, Nested, Malformed, Unknown, Custom}
 use Rattle.tabled_serde.specs.declared.event.EventError.{EventError}

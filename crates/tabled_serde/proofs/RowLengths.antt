@@ -1,10 +1,10 @@
 -- The rows of values are as long as their header.
-use Rattle.std.proofs.Common.{List, Option, [], ap, append-nil, arith, length, length-append, map, max, refl, replicate, subst, sym, ℕ, ◌++◌, ◌-◌, ◌∙◌, ◌∷◌, ◌≡◌, ◌≤◌}
+use Rattle.std.proofs.Common.{List, Option, [], ap, append-nil, arith, length, map, refl, replicate, sym, ℕ, ◌++◌, ◌-◌, ◌∙◌, ◌∷◌, ◌≡◌, ◌≤◌}
 use Rattle.std.specs.List.{AllZip}
 use Rattle.serde.specs.Event.{Event}
 use Rattle.tabled_base.specs.Cells.{lengthened, lengthened_rows, longest}
 use Rattle.tabled_serde.proofs.Counting.{fields-as_many}
-use Rattle.tabled_serde.specs.Rows.{AreRows, HasFields, IsPlaced, IsRowOf, no_more, with_cell, with_empty}
+use Rattle.tabled_serde.specs.Rows.{AreRows, IsPlaced, IsRowOf, no_more, with_cell, with_empty}
 
 placed-long : {header names cells row : List (List ℕ)} → IsPlaced header names cells row → length row ≡ length header
 placed-long no_more = refl

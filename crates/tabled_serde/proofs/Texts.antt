@@ -1,5 +1,5 @@
 -- The cells of rows of strings are UTF-8.
-use Rattle.std.proofs.Common.{List, [], map, max, length, replicate, string_bytes, ℕ, ◌++◌, ◌-◌, ◌∷◌, ◌≡◌}
+use Rattle.std.proofs.Common.{List, [], map, max, length, replicate, string_bytes, ℕ, ◌++◌, ◌-◌, ◌∷◌}
 use Rattle.std.proofs.lemmas.List.Elements.{All-append, All-cons, All-map, All-nil, All-replicate, All-weaker}
 use Rattle.std.proofs.lemmas.Str.{IsUtf8-nil, IsUtf8-string_bytes}
 use Rattle.std.specs.List.{All}

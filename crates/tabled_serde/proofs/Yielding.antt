@@ -15,7 +15,7 @@ use Rattle.tabled_base.proofs.LengthenedRows.{lengthened_rows-more}
 use Rattle.tabled_base.specs.Cells.{lengthened_rows, with_record}
 use Rattle.tabled_serde.specs.Reader.{bytes_of}
 use Rattle.tabled_serde.specs.Errors.{IsValueError}
-use Rattle.tabled_serde.specs.RowErrors.{FailsAfter, FailsAtNext, IsRowError, IsSourceError, at_value}
+use Rattle.tabled_serde.specs.RowErrors.{FailsAfter, IsRowError, IsSourceError, at_value}
 use Rattle.tabled_serde.specs.RowSteps.{GivesHeader, TakesValue, row_steps}
 use Rattle.tabled_serde.specs.Rows.{AreRows, HasFields, IsRowOf}
 use Rattle.tabled_serde.specs.declared.error.RowError.{RowError}

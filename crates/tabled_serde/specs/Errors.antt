@@ -1,5 +1,5 @@
 -- Why a value is no row. Each error but `Memory` and `Custom` has its cause among the events.
-use Rattle.std.specs.Prelude.{◌≡◌, ◌≢◌, ◌⊎◌, ℕ, List, [], ◌∷◌, ◌++◌, Option, Some, ⊤, string_bytes}
+use Rattle.std.specs.Prelude.{◌≡◌, ◌⊎◌, ℕ, List, [], ◌∷◌, ◌++◌, Option, Some, ⊤, string_bytes}
 use Rattle.std.specs.List.{All, AllZip}
 use Rattle.serde.specs.Event.{Event, field_key, variant_key, key_begins, key_ends, map_begins, map_ends, flattens, nothing, seq_ends}
 use Rattle.serde.specs.Spelling.{spelled}
@@ -9,7 +9,7 @@ use Rattle.tabled_serde.specs.Records.{AreFields, AreRecord, IsCell, IsName, IsS
 use Rattle.tabled_serde.specs.declared.event.EventError.{EventError}
 use Rattle.tabled_serde.specs.declared.event.EventError.TheVariants as event_error
 use Rattle.tabled_serde.specs.declared.error.RowError.{RowError}
-use Rattle.tabled_serde.specs.declared.error.RowError.TheVariants.{Memory, NoFields, NoName, Nested, Malformed, Unknown, Custom}
+use Rattle.tabled_serde.specs.declared.error.RowError.TheVariants.{Memory, NoFields, NoName, Nested, Malformed, Custom}
 
 -- an error of the value itself
 abbrev pub IsWriteError : RowError → Type 0

@@ -8,7 +8,7 @@ use Rattle.serde.specs.Event.{Event}
 use Rattle.tabled_serde.specs.Errors.{IsValueError}
 use Rattle.tabled_serde.specs.Rows.{HasFields, IsBelow, IsRowOf}
 use Rattle.tabled_serde.specs.declared.error.RowError.{RowError}
-use Rattle.tabled_serde.specs.declared.error.RowError.TheVariants.{Memory, NoFields, NoName, Nested, Malformed, Unknown, Custom}
+use Rattle.tabled_serde.specs.declared.error.RowError.TheVariants.{Memory, Unknown}
 
 -- this name comes next
 abbrev pub IsNext : List (String Global) → List ℕ → Type 0

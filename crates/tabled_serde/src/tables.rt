@@ -1,10 +1,12 @@
 //! Tables of values.
 ghost use Rattle.std.specs.Iterator.{IsFiniteIterable};
-ghost use Rattle.std.specs.Prelude.{IfErr, IfOk, List, [], ℕ};
+ghost use Rattle.std.specs.List.{All};
+ghost use Rattle.std.specs.Prelude.{IfErr, IfOk, IsUtf8, List, [], ℕ};
 ghost use Rattle.tabled_base.specs.Given.{Given};
 ghost use Rattle.tabled_serde.specs.RowErrors.{IsSourceError};
 ghost use Rattle.tabled_serde.specs.Rows.{AreRows};
 ghost use Rattle.tabled_table.specs.NewTable.{IsNew};
+ghost use Rattle.tabled_table.specs.TableSheet.{cells_of};
 
 use crate::error::RowError;
 use crate::rows::builder;
@@ -28,6 +30,7 @@ pub fn table<I: IntoIterator<Item = T>, T: Serialize + Drop>(
     ensures ok { IfOk result (λ table. (items : List T) × (rows : List (List (List ℕ)))
         × Given I.into_iter_gives I.IntoIter.next_gives values items
         × AreRows T.writes [] items rows × IsNew rows table) }
+    ensures texts { IfOk result (λ table. All (All IsUtf8) (cells_of table)) }
     ensures failed { IfErr result
         (IsSourceError I.into_iter_gives I.IntoIter.next_gives T.writes [] values) }
 {

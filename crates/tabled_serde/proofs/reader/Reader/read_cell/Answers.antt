@@ -6,7 +6,7 @@ use Rattle.tabled_serde.specs.Events.{event_of}
 use Rattle.tabled_serde.specs.Reader.{bytes_of, left}
 use Rattle.tabled_serde.specs.Records.{IsText, joined}
 use Rattle.tabled_serde.proofs.Reading.{list-read, text-read}
-use Rattle.tabled_serde.proofs.Failing.{no-cell, no-list, passed, with-reason}
+use Rattle.tabled_serde.proofs.Failing.{no-list, passed, with-reason}
 use Rattle.tabled_serde.proofs.reader.Reader.read_cell.Goals as goal
 
 pub returns-in-BeginList-clause-ok : goal.returns-in-BeginList-clause-ok
