@@ -1,12 +1,12 @@
 -- Nothing is lost by escaping, and no control character is left.
-use Rattle.std.proofs.Common.{◌≡◌, ℕ, ◌+◌, ◌-◌, ◌<◌, ◌≤◌, Bool, true, false, cond, not, ◌&&◌, ◌||◌, ◌==◌, ◌⊎◌, inl, inr, List, [], ◌∷◌, ◌++◌, refl, sym, ap, ◌∙◌, subst, arith, append_assoc, chars, encode_utf8, encode_utf8_all, IsUtf8, flat_map}
-use Rattle.std.proofs.Common.{length, nat_lt, nat_le, ⊎_elim, lit<, lit≤}
+use Rattle.std.proofs.Common.{◌≡◌, ℕ, ◌+◌, ◌-◌, ◌<◌, ◌≤◌, Bool, true, false, cond, not, ◌&&◌, ◌||◌, ◌==◌, ◌⊎◌, inl, inr, List, [], ◌∷◌, ◌++◌, refl, sym, ap, ◌∙◌, arith, chars, encode_utf8, encode_utf8_all, IsUtf8}
+use Rattle.std.proofs.Common.{length, nat_lt, nat_le, ⊎_elim, lit≤}
 use Rattle.std.specs.Int.{is_in_range}
 use Rattle.std.specs.List.{list_all, list_any}
-use Rattle.std.proofs.lemmas.Bool.{cases_Bool, cond-true, cond-false, cond_both, eqb-true, eqb-false, ne_eqb, eq-eqb, ltb-true, ltb-false, lt-ltb, le-ltb, leb-true, leb-false, le-leb, lt-leb, or_parts, or_cases, or_from, and_cases, and_parts, and_from, and_left, and_right, or_left, or_right, not_from_false, not-true, not-false}
+use Rattle.std.proofs.lemmas.Bool.{cases_Bool, cond-true, cond-false, cond_both, eqb-true, eqb-false, ne_eqb, ltb-true, ltb-false, lt-ltb, le-ltb, leb-true, leb-false, le-leb, lt-leb, or_parts, or_cases, or_from, and_cases, and_parts, and_from, and_left, and_right, or_left, or_right, not_from_false, not-false}
 use Rattle.std.proofs.lemmas.Str.{chars-encodes, chars-nil, chars_past_char, encodes-append, encodes-chars, scalars-chars}
 use Rattle.std.proofs.Math.Utf8.{scalar, scalars, low_scalar}
-use Rattle.tabview_cells.specs.Escaping.{is_control, is_sign, is_escaped, sign_of, escape_char, escape, escaped, meaning, marked_meaning, unescape_after, unescape, is_shown}
+use Rattle.tabview_cells.specs.Escaping.{is_control, is_sign, is_escaped, sign_of, escape_char, escape, escaped, meaning, unescape_after, unescape, is_shown}
 
 -- ---- ranges
 in_range : (low high c : ℕ) → low ≤ c → c ≤ high → is_in_range low high c ≡ true

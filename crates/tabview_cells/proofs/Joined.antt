@@ -1,6 +1,5 @@
 -- The kind of a column with one more cell.
-use Rattle.std.proofs.Common.{Bool, List, ap, cond, false, length, refl, sym, true, ℕ, ⊎_elim, ◌==◌, ◌∙◌, ◌≡◌, [], ◌∷◌}
-use Rattle.std.proofs.lemmas.Bool.{cases_Bool}
+use Rattle.std.proofs.Common.{Bool, List, ap, cond, false, length, refl, true, ℕ, ◌==◌, ◌∙◌, ◌≡◌}
 use Rattle.tabview_cells.specs.Dates.{is_date}
 use Rattle.tabview_cells.specs.Kinds.{is_code, joined, kind_of}
 use Rattle.tabview_cells.specs.Numbers.{is_number}

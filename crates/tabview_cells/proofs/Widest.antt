@@ -3,7 +3,7 @@ use Rattle.std.proofs.Common.{◌≡◌, ℕ, ◌+◌, ◌<◌, ◌≤◌, List,
 use Rattle.std.proofs.lemmas.Bool.{cases_lt}
 use Rattle.std.proofs.lemmas.List.{get_or_past}
 use Rattle.tabled_priority.specs.Permitted.{at}
-use Rattle.tabview_cells.specs.Fitted.{CanGive, NoneGives, IsWidest, floor_at}
+use Rattle.tabview_cells.specs.Fitted.{CanGive, NoneGives, IsWidest}
 
 -- none of the first n columns can give
 pub record NoneBelow (floors values mins : List ℕ) (n : ℕ) : Type 0 where

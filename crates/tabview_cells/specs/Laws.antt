@@ -1,9 +1,9 @@
 -- Shrinking to floors, with one more step in front.
-use Rattle.std.proofs.Common.{◌≡◌, ◌⊎◌, ℕ, ◌+◌, ◌-◌, ◌<◌, ◌≤◌, List, subst, sym, arith, ⊎_elim, inl, inr, min, max, sum, length}
+use Rattle.std.proofs.Common.{ℕ, ◌+◌, ◌<◌, ◌≤◌, List, subst, sym, arith, ⊎_elim, inl, inr, min}
 use Rattle.std.proofs.lemmas.Bool.{cases_lt, cases_eq}
 use Rattle.tabled_priority.specs.Permitted.{at, lowered}
 use Rattle.tabled_priority.specs.Laws.Permitted.{IsLowered-lowered, le-lowered, sum-lowered}
-use Rattle.tabview_cells.specs.Fitted.{floor_at, CanGive, NoneGives, IsWidest, GivesToFloors}
+use Rattle.tabview_cells.specs.Fitted.{floor_at, NoneGives, IsWidest, GivesToFloors}
 
 pub GivesToFloors-none : (floors xs mins : List ℕ) → GivesToFloors floors xs mins 0 xs
 GivesToFloors-none floors xs mins = record { least = λ i. omega arith; most = λ i. omega arith; total = inl (omega arith) }

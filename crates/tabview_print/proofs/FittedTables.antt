@@ -85,12 +85,12 @@ module _ (laid : List Column) (header : Bool) (by : Narrowing) (n : ℕ) (cells 
   fits row column inside plain some room =
       stays by (at ws column - side_padding config row column) (cell_at cells row column) (cell_at new row column) plain some room (changed.cells row column inside)
 
-  kept : (row column : ℕ) → IsInside cells row column → StaysIfFits by (cell_at cells row column) → 0 < at ws column - side_padding config row column
+  kept : (row column : ℕ) → IsInside cells row column → StaysIfFits by (cell_at cells row column) → 0 < text_columns (cell_at cells row column)
       → keeps_at laid column ≡ true → is_name header row ≡ false → cell_at new row column ≡ cell_at cells row column
   kept row column inside plain some keeps name =
       let f = fits-kept laid header cells config row column inside keeps name in
       let l = least column in
-      fits row column inside plain some (omega arith)
+      fits row column inside plain (omega arith) (omega arith)
 
   pub fitted : IsFitted laid header by n (estimated cells config) (effective new config stored)
   fitted = record {
@@ -102,8 +102,7 @@ module _ (laid : List Column) (header : Bool) (by : Narrowing) (n : ℕ) (cells 
     heights = ap (λ o. effective_sizes o (estimated_heights new config) (length new)) cleared;
     whole = λ row column inside plain. subst (λ xs. 0 < at xs column - side_padding config row column
         → text_columns (cell_at cells row column) ≤ at xs column - side_padding config row column → cell_at new row column ≡ cell_at cells row column) (sym new_widths) (fits row column inside plain);
-    kept = λ row column inside plain. subst (λ xs. 0 < at xs column - side_padding config row column
-        → keeps_at laid column ≡ true → is_name header row ≡ false → cell_at new row column ≡ cell_at cells row column) (sym new_widths) (kept row column inside plain);
+    kept = kept;
   }
 
 -- ---- what is shown

@@ -51,9 +51,9 @@ pub record IsFitted (laid : List Column) (header : Bool) (by : Narrowing) (n : �
   pub whole : (row column : ℕ) → IsInside old.cells row column → StaysIfFits by (cell_at old.cells row column)
       → 0 < inner new row column → text_columns (cell_at old.cells row column) ≤ inner new row column
       → cell_at new.cells row column ≡ cell_at old.cells row column
-  -- so are all texts, but for the name, of a column that keeps its width
+  -- so is each text that takes a column, except the name, of a column that keeps its width
   pub kept : (row column : ℕ) → IsInside old.cells row column → StaysIfFits by (cell_at old.cells row column)
-      → 0 < inner new row column → keeps_at laid column ≡ true → is_name header row ≡ false
+      → 0 < text_columns (cell_at old.cells row column) → keeps_at laid column ≡ true → is_name header row ≡ false
       → cell_at new.cells row column ≡ cell_at old.cells row column
 
 -- a table that can't be fitted to n columns: all its columns can give less than it is too wide

@@ -10,11 +10,11 @@ use Rattle.tabled_entity.specs.Changes.{with_change}
 use Rattle.tabled_table.specs.NewConfig.{new_config}
 use Rattle.tabview_print.specs.declared.layout.Column.{Column}
 
--- where the texts of a column are, at the left past the last one
+-- how a column is aligned, at the left past the last one
 abbrev pub side_at : List Column → ℕ → AlignmentHorizontal
 side_at columns i = slice_index_or (map (λ c. c.side) columns) i Left
 
--- the texts of a column at a side. By default they are at the left
+-- a column that is aligned to a side. By default it is at the left
 abbrev pub with_side : SpannedConfig → ℕ → AlignmentHorizontal → SpannedConfig
 with_side config column Left = config
 with_side config column Center = record config { alignment_horizontal = with_change config.alignment_horizontal (OfColumn column) Center }

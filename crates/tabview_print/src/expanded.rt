@@ -84,7 +84,7 @@ fn print_rows<S: TextSink>(
     table.template(Numbered).write_to(sink)
 }
 
-/// Cuts the texts of a table to a width, if there is one.
+/// Cuts the cells of a table to a width, if there is one.
 fn cut_to(table: &mut ExtendedTable, width: Option<usize>) -> Result<(), TableError>
     ensures ok { OnOk result (AreCutTo width
         table.old.fields.items (row_texts table.old.records.items)

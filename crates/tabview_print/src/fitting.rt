@@ -175,9 +175,9 @@ impl<'a> ContentSizes for ContentWidths<'a> {
         Some (at s.widths.now column - side_padding s.config.now row column) };
 
     #[inline(always)]
-    fn content_size(&self, place: Position) -> Option<usize> {
-        let padding = self.config.get_padding(place);
-        let width = self.widths.get(place.column).copied().unwrap_or(0);
+    fn content_size(&self, position: Position) -> Option<usize> {
+        let padding = self.config.get_padding(position);
+        let width = self.widths.get(position.column).copied().unwrap_or(0);
         let inner = width.saturating_sub(padding.left.size);
         Some(inner.saturating_sub(padding.right.size))
     }

@@ -107,11 +107,11 @@ fn capped_sum(a: usize, b: usize, most: usize) -> usize
 }
 
 /// Whether a column keeps the width of its widest cell.
-fn keeps_at(columns: &[Column], place: usize) -> bool
-    ensures { result ≡ keeps_at columns.now place }
+fn keeps_at(columns: &[Column], column: usize) -> bool
+    ensures { result ≡ keeps_at columns.now column }
 {
-    if place < columns.len() {
-        return columns[place].keeps;
+    if column < columns.len() {
+        return columns[column].keeps;
     }
     false
 }

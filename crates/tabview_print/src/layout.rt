@@ -21,7 +21,7 @@ pub enum Narrowing {
 /// A column of a table.
 #[derive(Clone, Copy, Debug, PartialEq, Eq)]
 pub struct Column {
-    /// Where its texts are.
+    /// How its cells are aligned.
     pub side: AlignmentHorizontal,
     /// Whether it keeps the width of its widest cell, where other columns give.
     pub keeps: bool,
@@ -34,7 +34,7 @@ pub struct Layout {
     pub style: Style,
     /// The columns that it may take, if it is fitted.
     pub width: Option<usize>,
-    /// What happens to texts that are too wide.
+    /// What happens to cells that are too wide.
     pub narrowing: Narrowing,
     /// Its columns. Further ones are left-aligned and give.
     pub columns: Vec<Column>,
@@ -51,7 +51,7 @@ pub(crate) struct Fit<'a> {
     pub width: usize,
 }
 
-/// Returns the settings of a table: its style, and where the texts of its columns are. Fails only
+/// Returns the settings of a table: its style, and how its columns are aligned. Fails only
 /// with `Memory`.
 pub(crate) fn settings(
     alloc: Global,
@@ -62,26 +62,26 @@ pub(crate) fn settings(
     ensures only { IfErr result (λ e. e ≡ Memory) }
 {
     let mut config = new_config(alloc);
-    for place in 0..columns.len() {
-        let side = side_at(columns, place);
-        set_side(&mut config, place, side)?;
+    for column in 0..columns.len() {
+        let side = side_at(columns, column);
+        set_side(&mut config, column, side)?;
     }
     let mut config = ColoredConfig::new(config);
     TableOption::change(style, &mut (), &mut config, &mut ())?;
     Ok(config)
 }
 
-/// Returns where the texts of a column are.
-fn side_at(columns: &[Column], place: usize) -> AlignmentHorizontal
-    ensures { result ≡ side_at columns.now place }
+/// Returns how a column is aligned.
+fn side_at(columns: &[Column], column: usize) -> AlignmentHorizontal
+    ensures { result ≡ side_at columns.now column }
 {
-    if place < columns.len() {
-        return columns[place].side;
+    if column < columns.len() {
+        return columns[column].side;
     }
     AlignmentHorizontal::Left
 }
 
-/// Sets where the texts of a column are. By default they are at the left.
+/// Sets how a column is aligned. By default it is left-aligned.
 fn set_side(
     config: &mut SpannedConfig,
     column: usize,

@@ -1,2 +1,3 @@
 pub mod AddedCells
 pub mod Parts
+pub mod ShownCells

@@ -1,4 +1,5 @@
 //! The columns that are shown.
+ghost use Rattle.std.specs.Prelude.{◌≡◌};
 
 use crate::error::ReadError;
 use crate::row::Row;
@@ -11,7 +12,7 @@ use tabview_cells::Kind;
 pub struct Chosen<'a> {
     alloc: Global,
     /// The names or numbers of the columns that are wanted. If there are none, all are.
-    words: &'a [&'a str],
+    wanted: &'a [&'a str],
     /// The columns, in the order in which they are shown.
     pub columns: Vec<usize>,
     /// The kinds of these columns.
@@ -19,10 +20,10 @@ pub struct Chosen<'a> {
 }
 
 impl<'a> Chosen<'a> {
-    pub fn new(alloc: Global, words: &'a [&'a str]) -> Chosen<'a> {
+    pub fn new(alloc: Global, wanted: &'a [&'a str]) -> Chosen<'a> {
         Chosen {
             alloc,
-            words,
+            wanted,
             columns: Vec::new(alloc),
             kinds: Vec::new(alloc),
         }
@@ -30,12 +31,12 @@ impl<'a> Chosen<'a> {
 
     /// Finds the columns that are wanted. Fails at one that isn't there.
     pub fn find(&mut self, names: Option<&StringRecord>, count: usize) -> Result<(), ReadError> {
-        for word in self.words {
-            match column_of(names, count, word) {
+        for name in self.wanted {
+            match column_of(names, count, name) {
                 Some(column) => self.push(column)?,
                 None => {
-                    let word = String::from_str(self.alloc, word)?;
-                    return Err(ReadError::NoColumn(word));
+                    let name = String::from_str(self.alloc, name)?;
+                    return Err(ReadError::NoColumn(name));
                 }
             }
         }
@@ -45,7 +46,7 @@ impl<'a> Chosen<'a> {
 
     /// Shows all columns of a row of `count` cells, if none were wanted.
     pub fn widen(&mut self, count: usize) -> Result<(), AllocError> {
-        if self.words.is_empty() {
+        if self.wanted.is_empty() {
             for column in self.columns.len()..count {
                 self.push(column)?;
             }
@@ -61,7 +62,9 @@ impl<'a> Chosen<'a> {
 
     /// Takes the cells of a row into the kinds of their columns. Null, and cells that are `blank`,
     /// don't count.
-    pub fn join_kinds(&mut self, row: &Row, blank: &str) {
+    pub fn join_kinds(&mut self, row: &Row, blank: &str)
+        ensures { self.new.columns.items ≡ self.old.columns.items }
+    {
         for (kind, column) in self.kinds.iter_mut().zip(self.columns.iter()) {
             if *kind != Kind::Text
                 && let Some(cell) = row.cells.get(*column)
@@ -73,20 +76,20 @@ impl<'a> Chosen<'a> {
     }
 }
 
-/// Whether a word is the name of a column, or its number from 1.
-pub fn is_column(names: Option<&StringRecord>, column: usize, word: &str) -> bool {
-    names.is_some_and(|names| names.get(column) == Some(word))
-        || word.parse::<usize>() == Ok(column.saturating_add(1))
+/// Whether a name is that of a column, or its number from 1.
+pub fn is_column(names: Option<&StringRecord>, column: usize, name: &str) -> bool {
+    names.is_some_and(|names| names.get(column) == Some(name))
+        || name.parse::<usize>() == Ok(column.saturating_add(1))
 }
 
 /// Returns the column of a name, or of a number from 1.
-fn column_of(names: Option<&StringRecord>, count: usize, word: &str) -> Option<usize> {
+fn column_of(names: Option<&StringRecord>, count: usize, name: &str) -> Option<usize> {
     if let Some(names) = names
-        && let Some(column) = names.iter().position(|name| name == word)
+        && let Some(column) = names.iter().position(|own| own == name)
     {
         return Some(column);
     }
-    match word.parse::<usize>() {
+    match name.parse::<usize>() {
         Ok(number) if number > 0 && number <= count => Some(number - 1),
         _ => None,
     }

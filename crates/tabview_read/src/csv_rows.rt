@@ -15,7 +15,7 @@ pub struct CsvOptions {
     pub has_header: bool,
     /// Whether records may have more or fewer cells than the first.
     pub fill: bool,
-    /// Whether bytes that are no UTF-8 are shown as U+FFFD.
+    /// Whether invalid UTF-8 is shown as U+FFFD.
     pub lossy: bool,
 }
 
@@ -25,7 +25,7 @@ pub struct CsvRows<R: Read + Drop> {
     alloc: Global,
     reader: Reader<R>,
     names: Option<StringRecord>,
-    /// The record as bytes, if these may be no UTF-8.
+    /// The record as bytes, if it may be invalid UTF-8.
     bytes: Option<ByteRecord>,
 }
 
@@ -83,7 +83,7 @@ impl<R: Read + Drop> Rows for CsvRows<R> {
     }
 }
 
-/// Puts the cells of a record of bytes, with U+FFFD for what is no UTF-8.
+/// Puts the cells of a record of bytes, with U+FFFD for invalid UTF-8.
 fn put_lossy(
     alloc: Global,
     bytes: &ByteRecord,
@@ -112,7 +112,7 @@ fn read_error(error: Error) -> ReadError {
             cells: len,
             wanted: expected_len,
         },
-        // The others come of values that are written or read as types.
+        // The others are errors of values that are written or read as types.
         ErrorKind::Serialize(_) | ErrorKind::Deserialize { .. } | ErrorKind::OutOfMemory => {
             ReadError::Memory
         }

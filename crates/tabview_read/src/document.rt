@@ -1,4 +1,4 @@
-//! A text of JSON.
+//! A JSON text.
 ghost use Rattle.json.specs.Tree.{HasNumbers};
 ghost use Rattle.json.specs.Value.{value_view};
 ghost use Rattle.std.specs.Prelude.{IfSome};
@@ -17,7 +17,7 @@ pub(crate) struct Document<'a> {
 }
 
 impl<'a> Document<'a> {
-    /// Reads a text. Fails if it is no JSON, or if an object in it has a key twice.
+    /// Reads a text. Fails if it isn't JSON, or if an object in it has a key twice.
     pub(crate) fn parse(
         alloc: Global,
         text: &'a str,

@@ -42,12 +42,12 @@ impl fmt::Display for Place {
     }
 }
 
-/// What is wrong with a text of JSON.
+/// What is wrong with a JSON text.
 #[derive(Debug, Drop)]
 pub enum Fault {
     /// An allocation failed.
     Memory,
-    /// The text is no JSON.
+    /// The text isn't JSON.
     NotJson,
     /// A row is neither an object nor an array.
     NotRow,
@@ -57,7 +57,7 @@ pub enum Fault {
     Ragged { cells: usize, wanted: usize },
     /// An object has a key twice.
     Doubled,
-    /// An object has a key that none of the rows has that were read ahead.
+    /// An object has a key that none of the rows read ahead has.
     Unknown(String),
 }
 
@@ -106,9 +106,9 @@ pub enum ReadError {
     Memory,
     /// The input can't be read.
     Input(io::Error),
-    /// Bytes are no UTF-8.
+    /// Bytes are invalid UTF-8.
     NotUtf8(Place),
-    /// A cell of comma-separated values is no UTF-8: where its record begins, and the cell from 1.
+    /// A cell of comma-separated values is invalid UTF-8: where its record begins, and the cell from 1.
     CellNotUtf8(Position, u64),
     /// A record of comma-separated values has more or fewer cells than the first.
     Ragged {
@@ -116,7 +116,7 @@ pub enum ReadError {
         cells: u64,
         wanted: u64,
     },
-    /// A text of JSON is wrong.
+    /// A JSON text is wrong.
     Json(Place, Fault),
     /// A query failed.
     Query(sqlite::Error),

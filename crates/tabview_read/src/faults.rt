@@ -1,10 +1,11 @@
-//! Where a text of JSON is wrong.
+//! Where a JSON text is wrong.
 ghost use Rattle.json.specs.Tree.{HasNumbers};
 ghost use Rattle.json.specs.Value.{value_view};
 
 use crate::error::{Fault, Place, ReadError};
+use crate::nesting::Nesting;
 use crate::place::place_after;
-use json::{Error, MAX_DEPTH, Reader, Scratch, Value, to_vec};
+use json::{Error, MAX_DEPTH, Reader, Scratch, Token, Value, to_vec};
 use std::alloc::{AllocError, Global};
 use std::str::from_utf8;
 
@@ -21,21 +22,41 @@ pub(crate) fn why(alloc: Global, text: &str, error: Error) -> ReadError {
     }
 }
 
-/// Returns where a text ceases to be JSON.
+/// Returns where a text ceases to be JSON: at a token, behind a key without a colon, or at its end.
 fn broken_at(alloc: Global, text: &str) -> Result<usize, AllocError> {
     let mut scratch = Scratch::new(alloc);
     let mut reader = Reader::new(text, &mut scratch)?;
-    let _end = reader.skip_value(MAX_DEPTH);
+    let mut nesting = Nesting::new(alloc);
+    for _token in 0..text.len() {
+        let begin = reader.offset();
+        let Some(token) = reader.next() else {
+            return Ok(begin);
+        };
+        if !nesting.take(&token)? {
+            return Ok(match token {
+                Token::String(_) => colon_at(text, reader.offset()),
+                _ => begin,
+            });
+        }
+    }
     Ok(reader.offset())
+}
+
+/// Returns where a key lacks its colon. The reader has passed the key, and a comma behind it.
+fn colon_at(text: &str, passed: usize) -> usize {
+    let before = text.get(..passed).unwrap_or(text).trim_end();
+    match before.strip_suffix(',') {
+        Some(key) => key.len(),
+        None => passed,
+    }
 }
 
 /// Returns where the row begins in which an object has a key twice.
 fn doubled_at(alloc: Global, text: &str) -> Result<usize, AllocError> {
     let mut scratch = Scratch::new(alloc);
     let mut reader = Reader::new(text, &mut scratch)?;
-    let mut begin = 0;
-    if text.starts_with('[') {
-        let _bracket = reader.next();
+    let mut begin = reader.offset();
+    if let Some(Token::BeginArray) = reader.next() {
         begin = reader.offset();
         for _row in 0..text.len() {
             match Value::read(alloc, &mut reader, MAX_DEPTH) {

@@ -23,7 +23,7 @@ struct Line {
 struct LinesOf<B: BufRead + Drop> {
     alloc: Global,
     input: B,
-    /// Whether bytes that are no UTF-8 are shown as U+FFFD.
+    /// Whether invalid UTF-8 is shown as U+FFFD.
     lossy: bool,
     /// The lines that were read.
     count: u64,

@@ -1,4 +1,4 @@
-//! The rows of a text of JSON.
+//! The rows of a JSON text.
 
 use crate::document::Document;
 use crate::error::{Fault, Place, ReadError};

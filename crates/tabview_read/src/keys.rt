@@ -1,4 +1,4 @@
-//! The keys of objects, in the order in which they come first.
+//! The keys of objects, in the order of their first occurrence.
 
 use csv::StringRecord;
 use indexmap::IndexSet;
@@ -22,10 +22,10 @@ impl Keys {
 
     /// Adds the keys of an object that are new.
     pub(crate) fn add(&mut self, members: &[(&str, Value<'_>)]) -> Result<(), AllocError> {
-        for (place, (key, _)) in members.iter().enumerate() {
+        for (index, (key, _)) in members.iter().enumerate() {
             if self
                 .set
-                .get_index(place)
+                .get_index(index)
                 .is_some_and(|name| name.as_str() == *key)
             {
                 continue;
@@ -39,10 +39,10 @@ impl Keys {
 
     /// Returns a key of an object that is none of these, if there is one.
     pub(crate) fn unknown<'m>(&self, members: &[(&'m str, Value<'_>)]) -> Option<&'m str> {
-        for (place, (key, _)) in members.iter().enumerate() {
+        for (index, (key, _)) in members.iter().enumerate() {
             let is_next = self
                 .set
-                .get_index(place)
+                .get_index(index)
                 .is_some_and(|name| name.as_str() == *key);
             if !is_next && !self.set.contains(*key) {
                 return Some(*key);

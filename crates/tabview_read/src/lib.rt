@@ -2,20 +2,21 @@
 //!
 //! - `chosen`: the columns that are shown.
 //! - `csv_rows`: rows of comma- or tab-separated values.
-//! - `document`: a text of JSON.
+//! - `document`: a JSON text.
 //! - `error`: why an input can't be shown.
-//! - `faults`: where a text of JSON is wrong.
+//! - `faults`: where a JSON text is wrong.
 //! - `format`: the format of an input, by its name, the ending of a path, or its first bytes.
 //! - `json_cells`: the cells of objects and arrays.
 //! - `json_lines`: rows of JSON lines.
-//! - `json_rows`: the rows of a text of JSON.
-//! - `keys`: the keys of objects, in the order in which they come first.
+//! - `json_rows`: the rows of a JSON text.
+//! - `keys`: the keys of objects, in the order of their first occurrence.
+//! - `nesting`: which token of JSON may follow others.
 //! - `place`: places in a text.
 //! - `row`: rows, and what they are read from.
 //! - `sheet`: the rows that are shown.
 //! - `sqlite_rows`: the rows of a query.
 //! - `stream`: rows that are shown as they are read.
-//! - `values`: how values of JSON become rows.
+//! - `values`: how JSON values become rows.
 #![tactic(auto)]
 
 mod chosen;
@@ -28,6 +29,7 @@ mod json_cells;
 mod json_lines;
 mod json_rows;
 mod keys;
+mod nesting;
 mod place;
 mod row;
 mod sheet;

@@ -1,6 +1,7 @@
 //! Rows, and what they are read from.
 ghost use Rattle.csv.specs.Records.{fields_of};
-ghost use Rattle.std.specs.Prelude.{◌≡◌, ◌++◌, [], ◌∷◌, Contains, IsTrue, OnOk, length, ◌↔◌};
+ghost use Rattle.std.specs.Prelude.{◌≡◌, ◌==◌, ◌++◌, [], ◌∷◌, Contains, IfOk, IsTrue, OnOk, length, ◌↔◌};
+ghost use Rattle.tabview_read.specs.Shown.{cell_or, is_null, shown_cells};
 
 use crate::error::ReadError;
 use csv::StringRecord;
@@ -9,7 +10,7 @@ use std::alloc::{AllocError, Global};
 /// A row: its cells, and which of them are null.
 #[derive(Debug, Drop)]
 pub struct Row {
-    /// The texts of the cells, empty for one that is null.
+    /// The text of each cell, empty if it is null.
     pub cells: StringRecord,
     /// The columns of the cells that are null.
     pub nulls: Vec<usize>,
@@ -29,12 +30,20 @@ impl Row {
 
     /// Whether the cell of a column is null.
     pub fn is_null(&self, column: usize) -> bool
-        ensures { IsTrue result ↔ Contains self.now.nulls.items column }
+        ensures listed { IsTrue result ↔ Contains self.now.nulls.items column }
+        ensures value { result ≡ is_null self.now column }
     {
         self.nulls.contains(&column)
     }
 
-    /// Takes all cells away.
+    /// Whether no cell is null.
+    pub fn has_no_null(&self) -> bool
+        ensures { result ≡ (length self.now.nulls.items == 0) }
+    {
+        self.nulls.is_empty()
+    }
+
+    /// Removes all cells.
     pub fn clear(&mut self)
         ensures cells { fields_of self.new.cells ≡ [] }
         ensures nulls { self.new.nulls.items ≡ [] }
@@ -65,13 +74,24 @@ impl Row {
     }
 
     /// Returns the cells, with a text for those that are null.
-    pub fn shown_cells(&self, alloc: Global, null: &str) -> Result<StringRecord, AllocError> {
+    pub fn shown_cells(&self, alloc: Global, null: &str) -> Result<StringRecord, AllocError>
+        ensures { IfOk result (λ cells. fields_of cells ≡ shown_cells null.now self.now) }
+    {
         let mut cells = StringRecord::new(alloc);
         for column in 0..self.cells.len() {
-            let cell = self.cells.get(column).unwrap_or("");
-            cells.push_field(if self.is_null(column) { null } else { cell })?;
+            cells.push_field(self.cell_or(column, null))?;
         }
         Ok(cells)
+    }
+
+    /// Returns the cell of a column, or a text if it is null.
+    fn cell_or<'t>(&'t self, column: usize, null: &'t str) -> &'t str
+        ensures { result.now ≡ cell_or null.now self.now column }
+    {
+        if self.is_null(column) {
+            return null;
+        }
+        self.cells.get(column).unwrap_or("")
     }
 }
 

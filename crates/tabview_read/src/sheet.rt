@@ -1,15 +1,15 @@
 //! The rows that are shown.
 ghost use Rattle.csv.specs.Records.{fields_of};
-ghost use Rattle.std.specs.Prelude.{◌≡◌, OnOk};
+ghost use Rattle.std.specs.Prelude.{◌≡◌, IfOk, OnOk, decimal, string_bytes};
 ghost use Rattle.tabled_records.specs.Joined.{with_row_ended};
 ghost use Rattle.tabview_cells.specs.Choice.{with_texts};
-ghost use Rattle.tabview_read.specs.Shown.{number_of, texts_of};
+ghost use Rattle.tabview_read.specs.Shown.{number_of, shown_cells, texts_of};
 
 use crate::chosen::Chosen;
 use crate::error::ReadError;
 use crate::row::{Row, Rows};
 use csv::StringRecord;
-use std::alloc::Global;
+use std::alloc::{AllocError, Global};
 use std::collections::VecDeque;
 use tabled_base::TableError;
 use tabled_records::{JoinedRecords, RecordsWriter};
@@ -32,7 +32,7 @@ pub struct Wanted<'a> {
     pub null: &'a str,
     /// The text of cells that don't count for the kind of their column.
     pub blank: &'a str,
-    /// How texts are shown.
+    /// How the text of a cell is shown.
     pub shown: Shown,
 }
 
@@ -143,14 +143,15 @@ impl<'a> Collector<'a> {
     }
 
     /// Writes a row with its number, from 1.
-    fn write_row(&mut self, row: &Row, number: u64) -> Result<(), ReadError> {
+    fn write_row(&mut self, row: &Row, number: u64) -> Result<(), ReadError>
+        ensures { let w = self.old.wanted.now in OnOk result (self.new.writer
+            ≡ with_row_ended (with_texts self.old.writer (texts_of w.numbers (decimal number)
+            w.shown (shown_cells w.null.now row.now) self.old.chosen.columns.items))) }
+    {
         self.chosen.join_kinds(row, self.wanted.blank);
         self.written = self.written.saturating_add(1);
-        let mut text = String::new(self.alloc);
-        if self.wanted.numbers {
-            write!(text, "{number}")?;
-        }
-        if row.nulls.is_empty() {
+        let text = number_text(self.alloc, self.wanted.numbers, number)?;
+        if row.has_no_null() {
             self.write(&row.cells, &text)?;
             return Ok(());
         }
@@ -196,6 +197,17 @@ impl<'a> Collector<'a> {
             hidden: self.count.saturating_sub(self.written),
         })
     }
+}
+
+/// Returns the text of a row's number, empty if rows have none.
+pub(crate) fn number_text(alloc: Global, numbers: bool, number: u64) -> Result<String, AllocError>
+    ensures { IfOk result (λ text. number_of numbers (string_bytes text)
+        ≡ number_of numbers (decimal number)) }
+{
+    if numbers {
+        return format!(in alloc; "{number}");
+    }
+    Ok(String::new(alloc))
 }
 
 /// Adds the number of a row, if rows have one.

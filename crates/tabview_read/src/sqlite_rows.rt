@@ -17,7 +17,7 @@ pub struct SqliteRows<'a, S: Alter> {
     alloc: Global,
     names: StringRecord,
     rows: sqlite::Rows<'a, S>,
-    /// Whether bytes that are no UTF-8 are shown as U+FFFD.
+    /// Whether invalid UTF-8 is shown as U+FFFD.
     lossy: bool,
 }
 
@@ -101,7 +101,7 @@ fn put_values(
     Ok(())
 }
 
-/// Adds the cell of a value, unless it is a text that is no UTF-8. Bytes are written as in SQL.
+/// Adds the cell of a value, unless it is text that is invalid UTF-8. Bytes are written as in SQL.
 fn put_value(
     alloc: Global,
     row: &mut Row,

@@ -1,13 +1,13 @@
 //! Rows that are shown as they are read.
 ghost use Rattle.csv.specs.Records.{fields_of};
 ghost use Rattle.std.specs.Iterator.{at_most};
-ghost use Rattle.std.specs.Prelude.{◌≡◌, ◌++◌, IfOk, map, string_bytes};
-ghost use Rattle.tabview_read.specs.Shown.{number_of, texts_of};
+ghost use Rattle.std.specs.Prelude.{◌≡◌, ◌++◌, IfOk, codes, decimal, map, string_bytes};
+ghost use Rattle.tabview_read.specs.Shown.{number_of, shown_cells, texts_of};
 
 use crate::chosen::Chosen;
 use crate::error::ReadError;
 use crate::row::{Row, Rows};
-use crate::sheet::Wanted;
+use crate::sheet::{Wanted, number_text};
 use csv::StringRecord;
 use std::alloc::{AllocError, Global};
 use tabview_cells::chosen_cells;
@@ -73,7 +73,7 @@ impl<'a, T: Rows> Stream<'a, T> {
     /// Returns the next row, or the names before the first.
     fn next_row(&mut self) -> Result<Option<Vec<String>>, ReadError> {
         if let Some(names) = self.names.take() {
-            return self.show_names(&names);
+            return Ok(Some(self.show_names(&names)?));
         }
         if !self.rows.read(&mut self.row)? {
             return Ok(None);
@@ -82,29 +82,34 @@ impl<'a, T: Rows> Stream<'a, T> {
             self.is_begun = true;
             self.chosen.find(None, self.row.cells.len())?;
         }
-        self.show_row()
+        Ok(Some(self.show_row()?))
     }
 
     /// Returns the names of the columns that are shown.
-    fn show_names(&mut self, names: &StringRecord) -> Result<Option<Vec<String>>, ReadError> {
+    fn show_names(&mut self, names: &StringRecord) -> Result<Vec<String>, ReadError>
+        ensures { let w = self.old.wanted.now in IfOk result (λ texts.
+            map string_bytes texts.items ≡ texts_of w.numbers (codes "#") w.shown
+            (fields_of names.now) self.new.chosen.columns.items) }
+    {
         self.is_begun = true;
         self.chosen.find(Some(names), names.len())?;
-        Ok(Some(self.cells_of(names, "#")?))
+        Ok(self.cells_of(names, "#")?)
     }
 
     /// Returns the cells that are shown of the row that was read.
-    fn show_row(&mut self) -> Result<Option<Vec<String>>, ReadError> {
+    fn show_row(&mut self) -> Result<Vec<String>, ReadError>
+        ensures { let w = self.old.wanted.now in IfOk result (λ texts.
+            map string_bytes texts.items ≡ texts_of w.numbers (decimal self.new.count) w.shown
+            (shown_cells w.null.now self.old.row) self.new.chosen.columns.items) }
+    {
         self.chosen.widen(self.row.cells.len())?;
         self.count = self.count.saturating_add(1);
-        let mut number = String::new(self.alloc);
-        if self.wanted.numbers {
-            write!(number, "{}", self.count)?;
-        }
-        if self.row.nulls.is_empty() {
-            return Ok(Some(self.cells_of(&self.row.cells, &number)?));
+        let number = number_text(self.alloc, self.wanted.numbers, self.count)?;
+        if self.row.has_no_null() {
+            return Ok(self.cells_of(&self.row.cells, &number)?);
         }
         let cells = self.row.shown_cells(self.alloc, self.wanted.null)?;
-        Ok(Some(self.cells_of(&cells, &number)?))
+        Ok(self.cells_of(&cells, &number)?)
     }
 
     /// Returns the cells that are shown of a row, as they are or escaped, after its number.

@@ -137,11 +137,21 @@ fn wrong_json(rt: HostRuntime) -> Result<(), Fail> {
     check_json(
         &rt,
         "[{\"a\":1},\n {\"a\":}]",
+        "line 2, column 7: invalid JSON",
+    )?;
+    check_json(
+        &rt,
+        "[{\"a\":1},\n {\"a\":1]]",
         "line 2, column 8: invalid JSON",
     )?;
     check_json(
         &rt,
-        "[{\"a\":1},\n {\"a\":1,\"a\":2}]",
+        "[{\"a\":1},\n {\"a\", \"b\"}]",
+        "line 2, column 6: invalid JSON",
+    )?;
+    check_json(
+        &rt,
+        " [{\"a\":1},\n {\"a\":1,\"a\":2}]",
         "line 2, column 2: an object has a key twice",
     )?;
     check_json(

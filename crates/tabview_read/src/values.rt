@@ -1,4 +1,4 @@
-//! How values of JSON become rows.
+//! How JSON values become rows.
 ghost use Rattle.json.specs.Tree.{HasNumbers};
 ghost use Rattle.json.specs.Value.{value_view};
 
@@ -10,7 +10,7 @@ use csv::StringRecord;
 use json::Value;
 use std::alloc::Global;
 
-/// How a text of JSON is read.
+/// How a JSON text is read.
 #[derive(Clone, Copy, Debug, PartialEq, Eq)]
 pub struct JsonOptions {
     /// Whether the first array has the names of the columns. The names of objects are their keys.

@@ -9,14 +9,23 @@ use tabview_read::{CsvOptions, Format, JsonOptions, Sheet, Wanted};
 
 /// Returns which rows and columns are shown.
 pub(crate) fn wanted<'a>(options: &'a Options<'_>) -> Wanted<'a> {
+    let columns = options.choice.columns.as_slice();
+    let null = match options.input.null {
+        Some(text) => text,
+        None => "NULL",
+    };
+    let blank = match options.input.null {
+        Some(text) => text,
+        None => "",
+    };
     Wanted {
-        columns: options.choice.columns.as_slice(),
+        columns,
         rows: options.choice.rows,
         tail: options.choice.tail,
         numbers: options.choice.numbers,
         count: options.choice.count,
-        null: options.input.null.unwrap_or("NULL"),
-        blank: options.input.null.unwrap_or(""),
+        null,
+        blank,
         shown: shown(options.look.raw),
     }
 }

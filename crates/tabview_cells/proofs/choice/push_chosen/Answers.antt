@@ -1,4 +1,4 @@
-use Rattle.std.proofs.Common.{◌+◌, ◌++◌, ◌∷◌, [], ◌∙◌, ap, append_assoc, map, refl, take}
+use Rattle.std.proofs.Common.{◌+◌, [], ◌∙◌, ap, map, refl, take}
 use Rattle.std.specs.Prelude.{unwrap_or}
 use Rattle.csv.specs.Records.{fields_of}
 use Rattle.tabled_records.specs.Joined.{Written, with_text}
