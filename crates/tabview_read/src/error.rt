@@ -108,7 +108,8 @@ pub enum ReadError {
     Input(io::Error),
     /// Bytes are invalid UTF-8.
     NotUtf8(Place),
-    /// A cell of comma-separated values is invalid UTF-8: where its record begins, and the cell from 1.
+    /// A cell of comma-separated values is invalid UTF-8: where its record begins, and the cell's
+    /// number, from 1.
     CellNotUtf8(Position, u64),
     /// A record of comma-separated values has more or fewer cells than the first.
     Ragged {
