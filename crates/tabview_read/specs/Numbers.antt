@@ -1,5 +1,4 @@
 -- That the numbers of a value can be written has one proof.
-use Rattle.std.specs.Prelude.{ℕ, List, Option}
 use Rattle.std.specs.Coded.{×_prop, Unit-prop, Coded-set, coded_option, coded_list, coded_ℕ}
 use Rattle.json.specs.Json.{Json, null, boolean, number, string, array, object, Items, no_items, item, Members, no_members, member}
 use Rattle.json.specs.Tree.{HasNumbers, ItemsHaveNumbers, MembersHaveNumbers}
