@@ -67,12 +67,22 @@ fn put_rows(
     Ok(read)
 }
 
+const CUT: &str = "┌───┬───┐\n│ a │ b │\n├───┼───┤\n│ c │ d │\n└───┴───┘";
+
+// The same, as wide as the first row.
+const STYLED: [(&[Row], &str, Result<(), u8>); 3] = [
+    (&MIDDLE, CUT, Err(7)),
+    (&AT_ONCE, "", Err(8)),
+    (&NEVER, CUT, Ok(())),
+];
+
 #[test]
 fn rows_that_fail_in_a_style(rt: HostRuntime) -> Result<(), Fail> {
-    let mut out = Vec::new(rt.alloc());
-    let read = put_rows(rt.alloc(), copied(rt.alloc(), &MIDDLE)?, 1, &mut out)?;
-    assert_eq!(rt; read, Err(7));
-    let wanted = "┌───┬───┐\n│ a │ b │\n├───┼───┤\n│ c │ d │\n└───┴───┘";
-    assert_eq!(rt; out.as_slice(), wanted.as_bytes());
+    for (source, text, wanted) in STYLED {
+        let mut out = Vec::new(rt.alloc());
+        let read = put_rows(rt.alloc(), copied(rt.alloc(), source)?, 1, &mut out)?;
+        assert_eq!(rt; read, wanted);
+        assert_eq!(rt; out.as_slice(), text.as_bytes());
+    }
     Ok(())
 }
