@@ -69,7 +69,13 @@ WORDS = {
 WORD = re.compile(r"\b(?:" + "|".join(WORDS) + r")\b", re.IGNORECASE)
 
 # The sources whose comments are checked for these words too.
-SOURCES = ("crates/tabled*/src/*.rt", "crates/docs_*/src/*.rt", "crates/tabled*/specs/*.antt")
+SOURCES = (
+    "crates/tabled*/src/*.rt",
+    "crates/tabled*/specs/*.antt",
+    "crates/tabview*/src/*.rt",
+    "crates/tabview*/specs/*.antt",
+    "crates/docs_*/src/*.rt",
+)
 
 # Public names that the Rust crate has too, and that no page of differences has to name.
 OF_THE_CRATE = """
