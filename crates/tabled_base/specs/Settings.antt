@@ -4,6 +4,11 @@ use Rattle.tabled_base.specs.declared.position.Entity.{Entity}
 use Rattle.tabled_base.specs.declared.position.Entity.TheVariants.{Global}
 
 module _ {R C D : Type 0} where
+  -- a change of which both hold
+  abbrev pub Both : (first second : R → C → D → R → C → D → Type 0) → R → C → D → R → C → D → Type 0
+  Both first second records config sizes records' config' sizes' =
+      first records config sizes records' config' sizes' × second records config sizes records' config' sizes'
+
   -- the second change begins where the first one ended, with some of the sizes cleared
   pub record InTurn (first : R → C → D → R → C → D → Type 0) (clears : D → D → Type 0)
       (second : R → C → D → R → C → D → Type 0) (records : R) (config : C) (sizes : D)

@@ -1,6 +1,6 @@
 //! `Settings`: two options in turn.
 ghost use Rattle.std.specs.Prelude.{◌≡◌};
-ghost use Rattle.tabled_base.specs.Settings.{CellsHoldInTurn, CellsInTurn, EitherCellsInTurn};
+ghost use Rattle.tabled_base.specs.Settings.{Both, CellsHoldInTurn, CellsInTurn, EitherCellsInTurn};
 ghost use Rattle.tabled_base.specs.Settings.{EitherInTurn, HoldsInTurn, InTurn, both};
 
 use crate::error::TableError;
@@ -65,8 +65,8 @@ impl<
     ghost out_of_range = { λ s. HoldsInTurn (A.changes s.first) (D.clears (A.hint s.first))
         (A.out_of_range s.first) (B.out_of_range s.second) };
 
-    ghost promises = { λ s. InTurn (A.changes s.first) (D.clears (A.hint s.first))
-        (B.promises s.second) };
+    ghost promises = { λ s. InTurn (Both (A.changes s.first) (A.promises s.first))
+        (D.clears (A.hint s.first)) (B.promises s.second) };
 
     ghost hint = { λ s. B.hint s.second };
 

@@ -14,7 +14,7 @@ use Rattle.tabled_set.specs.CellChanges.{NeedsMemoryIn, if_taken, CellFilter}
 use Rattle.tabled_set.specs.Increased.{StopsFilling}
 use Rattle.tabled_set.specs.declared.narrowing.ColumnWidths.{ColumnWidths}
 use Rattle.tabled_set.specs.Narrowed.{AreShrunk, content_of, FitsAlready, HasWidths, StopsEarly, StopsNarrowing, WiderOutOfRange, is_permitted}
-use Rattle.tabled_set.specs.Narrowed.{needs_for_content_size, IsFound, content_width, less_padding}
+use Rattle.tabled_set.specs.Narrowed.{needs_for_content_size, IsFound, MustNarrow, content_width, less_padding}
 use Rattle.tabled_config.specs.Settings.{style_at}
 use Rattle.tabled_entity.specs.Changes.{shared}
 use Rattle.tabled_config.specs.declared.sides.Indent.{Indent}
@@ -131,6 +131,10 @@ module _ {P : Type 0} (shrinks : Shrinks P) (priority : P) (n : ℕ) (cells : Li
   found-old : (mid : CompleteDimension) (found : ColumnWidths) → HasWidths shrinks priority n cells config old mid found
       → IsFound shrinks priority n (effective cells config old) found
   found-old mid found h = subst (λ t. IsFound shrinks priority n t found) (effective-filled cells config old mid h.filled) h.found
+
+  pub must-narrow : (mid : CompleteDimension) (found : ColumnWidths) → HasWidths shrinks priority n cells config old mid found
+      → MustNarrow n cells config old
+  must-narrow mid found h = record { some = h.some; wider = (found-old mid found h).wider }
 
   -- the widths that were found are stored
   pub are-shrunk : (mid new : CompleteDimension) (found : ColumnWidths) → HasWidths shrinks priority n cells config old mid found

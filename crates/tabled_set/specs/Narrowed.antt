@@ -69,6 +69,11 @@ Narrows shrinks priority change n cells config sizes cells' sizes' =
     (MatchBool (nat_le (total_width (effective cells config sizes)) n) ((cells' ≡ cells) × IsFilledIn sizes cells config sizes')
     (IsNarrowed shrinks priority change n (effective cells config sizes) cells' sizes'))
 
+-- a table has to be narrowed to n columns: it has a cell, and is wider
+pub record MustNarrow (n : ℕ) (cells : List (List (List ℕ))) (config : SpannedConfig) (sizes : CompleteDimension) : Type 0 where
+  pub some : is_empty cells ≡ false
+  pub wider : n < total_width (effective cells config sizes)
+
 -- an allocation failed at a cell of a table wider than n. The cells before it, column by column,
 -- have changed; it and the others haven't
 pub record IsNarrowedBefore {P : Type 0} (shrinks : Shrinks P) (priority : P) (cell_filter : CellFilter)

@@ -1,10 +1,11 @@
 //! The cells of a narrowed table, for records that are only borrowed: cells that are narrowed when
 //! they are read, and cells that are made anew.
-ghost use Rattle.std.specs.Prelude.{◌≡◌, ◌⊎◌, [], IfErr, IfOk, false, is_some, true, unwrap_or};
+ghost use Rattle.std.specs.Prelude.{◌≡◌, ◌⊎◌, [], IfErr, IfOk, OnSome, false, is_some, true};
+ghost use Rattle.std.specs.Prelude.{unwrap_or};
 ghost use Rattle.tabled_entity.specs.Changes.{shared};
 ghost use Rattle.tabled_set.specs.CellChanges.{if_taken, if_wider, truncating, wrapping};
 ghost use Rattle.tabled_set.specs.Common.{IsRectangular, Memory, Range};
-ghost use Rattle.tabled_set.specs.Narrowed.{NarrowingOutOfRange, Narrows, StopsEarly};
+ghost use Rattle.tabled_set.specs.Narrowed.{MustNarrow, NarrowingOutOfRange, Narrows, StopsEarly};
 ghost use Rattle.tabled_set.specs.NarrowedCells.{cells_of_or};
 
 use crate::measurement::{Measurement, Width};
@@ -56,6 +57,9 @@ pub(crate) fn narrowed_records<
         (if_taken cell_filter (T.makes option.transform))
         (W.measures option.size (R.cells records.now) config.now) (R.cells records.now)
         config.now sizes.old (unwrap_or changed (R.cells records.now)) sizes.new) }
+    ensures wider { IfOk result (λ changed. OnSome changed (MustNarrow
+        (W.measures option.size (R.cells records.now) config.now)
+        (R.cells records.now) config.now sizes.old)) }
     ensures err { IfErr result (λ e. StopsEarly
         (W.measures option.size (R.cells records.now) config.now) e
         (R.cells records.now) config.now sizes.old sizes.new) }
@@ -93,6 +97,8 @@ pub(crate) fn wrapped_rows<'r, 't, W: Measurement<Width> + Drop, P: Peaker + Dro
         (wrapping option.transform.keep_words)
         (W.measures option.size rows.now config.now) rows.now
         config.now sizes.old (cells_of_or changed rows.now) sizes.new) }
+    ensures wider { IfOk result (λ changed. OnSome changed (MustNarrow
+        (W.measures option.size rows.now config.now) rows.now config.now sizes.old)) }
     ensures err { IfErr result (λ e. StopsEarly (W.measures option.size rows.now config.now) e
         rows.now config.now sizes.old sizes.new) }
     ensures only { IfErr result (λ e. (e ≡ Memory) ⊎ ((e ≡ Range)
@@ -125,6 +131,8 @@ pub(crate) fn cut_rows<'r, 't, W: Measurement<Width> + Drop, P: Peaker + Drop>(
         (if_wider (truncating [] option.entry.transform.limit false))
         (W.measures option.entry.size rows.now config.now) rows.now
         config.now sizes.old (cells_of_or changed rows.now) sizes.new) }
+    ensures wider { IfOk result (λ changed. OnSome changed (MustNarrow
+        (W.measures option.entry.size rows.now config.now) rows.now config.now sizes.old)) }
     ensures err { IfErr result (λ e. StopsEarly
         (W.measures option.entry.size rows.now config.now) e
         rows.now config.now sizes.old sizes.new) }

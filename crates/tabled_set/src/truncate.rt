@@ -2,10 +2,10 @@
 //! text.
 ghost use Rattle.std.specs.Cow.{cow_str_bytes, IsOwnedStr};
 ghost use Rattle.std.specs.Prelude.{◌≡◌, ◌-◌, [], IfErr, IfNone, IfOk, IfSome, None, OnErr, OnOk};
-ghost use Rattle.std.specs.Prelude.{Some, false, if◌then◌else◌, nat_lt, string_bytes, ◌⊎◌};
+ghost use Rattle.std.specs.Prelude.{OnSome, Some, false, if◌then◌else◌, nat_lt, string_bytes, ◌⊎◌};
 ghost use Rattle.tabled_set.specs.Common.{effective, is_empty, IsCut, Memory, NeedsFill, Range};
 ghost use Rattle.tabled_set.specs.CellChanges.{truncating, if_wider, Wider};
-ghost use Rattle.tabled_set.specs.Narrowed.{Narrows, NarrowingOutOfRange, StopsEarly};
+ghost use Rattle.tabled_set.specs.Narrowed.{MustNarrow, Narrows, NarrowingOutOfRange, StopsEarly};
 ghost use Rattle.tabled_set.specs.Narrowed.{StopsNarrowing};
 ghost use Rattle.tabled_set.specs.Truncated.{AddsEnded, Cut, HasEndedLines, IsMade, IsTruncated};
 ghost use Rattle.tabled_set.specs.Truncated.{IsUsed, suffix_columns, truncating_in_place};
@@ -287,6 +287,8 @@ impl<'a, W: Measurement<Width> + Drop, P: Peaker + Drop> Truncate<'a, W, P> {
             (if_wider (truncating by.suffix.now by.limit by.multiline))
             (W.measures self.entry.size rows.now cfg.now) rows.now cfg.now dims.old
             (cells_of_or changed rows.now) dims.new) }
+        ensures wider { IfOk result (λ changed. OnSome changed (MustNarrow
+            (W.measures self.entry.size rows.now cfg.now) rows.now cfg.now dims.old)) }
         ensures promised { let by = self.entry.transform in
             IfOk result (λ changed. AfterClearing None dims.new (λ left.
             TruncatesAsPromised P.shrinks self.entry.priority by.suffix.now by.limit by.multiline

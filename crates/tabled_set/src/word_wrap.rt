@@ -1,8 +1,8 @@
 //! The option `WordWrap`, which wraps cells between words and narrows tables.
-ghost use Rattle.std.specs.Prelude.{◌≡◌, IfErr, IfOk, Some, false, unwrap_or, ◌⊎◌};
+ghost use Rattle.std.specs.Prelude.{◌≡◌, IfErr, IfOk, OnSome, Some, false, unwrap_or, ◌⊎◌};
 ghost use Rattle.tabled_set.specs.Common.{effective, is_empty, Memory, Range, Row};
 ghost use Rattle.tabled_set.specs.CellChanges.{never_in_place, word_wrapping, Every, Wider};
-ghost use Rattle.tabled_set.specs.Narrowed.{Narrows, NarrowingOutOfRange, StopsEarly};
+ghost use Rattle.tabled_set.specs.Narrowed.{MustNarrow, Narrows, NarrowingOutOfRange, StopsEarly};
 ghost use Rattle.tabled_set.specs.Narrowed.{StopsNarrowing};
 ghost use Rattle.tabled_set.specs.Promised.{AfterClearing, WordWrapsAsPromised};
 
@@ -98,6 +98,9 @@ impl<W: Measurement<Width> + Drop, P: Peaker + Drop> WordWrap<W, P> {
         ensures ok { IfOk result (λ changed. Narrows P.shrinks self.priority word_wrapping
             (W.measures self.size (R.cells records.now) cfg.now) (R.cells records.now)
             cfg.now dims.old (unwrap_or changed (R.cells records.now)) dims.new) }
+        ensures wider { IfOk result (λ changed. OnSome changed (MustNarrow
+            (W.measures self.size (R.cells records.now) cfg.now)
+            (R.cells records.now) cfg.now dims.old)) }
         ensures promised { let t = effective (R.cells records.now) cfg.now dims.old in
             IfOk result (λ changed. AfterClearing (Some (Row 0)) dims.new (λ left.
             WordWrapsAsPromised P.shrinks self.priority

@@ -1,9 +1,9 @@
 //! The option `Wrap`, which wraps cells and narrows tables.
-ghost use Rattle.std.specs.Prelude.{◌≡◌, ◌<◌, IfErr, IfOk, OnErr, Some, false, length};
+ghost use Rattle.std.specs.Prelude.{◌≡◌, ◌<◌, IfErr, IfOk, OnErr, OnSome, Some, false, length};
 ghost use Rattle.std.specs.Prelude.{string_bytes, unwrap_or, ◌⊎◌};
 ghost use Rattle.tabled_set.specs.Common.{effective, is_empty, Memory, Range, Row};
 ghost use Rattle.tabled_set.specs.CellChanges.{never_in_place, wrapping, Every, Wider};
-ghost use Rattle.tabled_set.specs.Narrowed.{Narrows, NarrowingOutOfRange, StopsEarly};
+ghost use Rattle.tabled_set.specs.Narrowed.{MustNarrow, Narrows, NarrowingOutOfRange, StopsEarly};
 ghost use Rattle.tabled_set.specs.Narrowed.{StopsNarrowing};
 ghost use Rattle.tabled_set.specs.NarrowedCells.{cells_of_or};
 ghost use Rattle.tabled_set.specs.Promised.{AfterClearing, WrapsAsPromised};
@@ -96,6 +96,9 @@ impl<W: Measurement<Width> + Drop, P: Peaker + Drop> Wrap<W, P> {
             (wrapping self.transform.keep_words)
             (W.measures self.size (R.cells records.now) cfg.now) (R.cells records.now)
             cfg.now dims.old (unwrap_or changed (R.cells records.now)) dims.new) }
+        ensures wider { IfOk result (λ changed. OnSome changed (MustNarrow
+            (W.measures self.size (R.cells records.now) cfg.now)
+            (R.cells records.now) cfg.now dims.old)) }
         ensures promised { let t = effective (R.cells records.now) cfg.now dims.old in
             IfOk result (λ changed. AfterClearing (Some (Row 0)) dims.new (λ left.
             WrapsAsPromised P.shrinks self.priority self.transform.keep_words
@@ -125,6 +128,8 @@ impl<W: Measurement<Width> + Drop, P: Peaker + Drop> Wrap<W, P> {
             (wrapping self.transform.keep_words)
             (W.measures self.size rows.now cfg.now) rows.now
             cfg.now dims.old (cells_of_or changed rows.now) dims.new) }
+        ensures wider { IfOk result (λ changed. OnSome changed (MustNarrow
+            (W.measures self.size rows.now cfg.now) rows.now cfg.now dims.old)) }
         ensures promised { let t = effective rows.now cfg.now dims.old in
             IfOk result (λ changed. AfterClearing (Some (Row 0)) dims.new (λ left.
             WrapsAsPromised P.shrinks self.priority self.transform.keep_words

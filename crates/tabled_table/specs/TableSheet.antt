@@ -35,6 +35,6 @@ IsPlain table = IsPlainConfig (sheet table).config (length (cells_of table)) (co
 abbrev pub HasText : Table → Type 0
 HasText table = (is_empty (cells_of table) ≡ true) ⊎ IsPrintable (sheet table)
 
--- an allocation failed, or the table can't be printed
+-- the table has a row and a column, and an allocation failed, or it can't be printed
 abbrev pub HasNoText : Table → TableError → Type 0
-HasNoText table error = (error ≡ Memory) ⊎ ((is_empty (cells_of table) ≡ false) × IsFailure (sheet table) error)
+HasNoText table error = (is_empty (cells_of table) ≡ false) × ((error ≡ Memory) ⊎ IsFailure (sheet table) error)

@@ -279,7 +279,7 @@ impl Table {
     }
 
     /// Returns the printed table. Fails with `Memory`, and with each error that `write_to` returns
-    /// before its first byte.
+    /// before its first byte, but never for a table without rows or columns.
     ///
     /// `to_string` returns the same. But on a `&mut Table`, as `with` returns one, `to_string` is
     /// std's method, which reports every error as an allocation failure.

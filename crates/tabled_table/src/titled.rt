@@ -191,7 +191,8 @@ impl Table {
     }
 
     /// Returns the table below a title, as `write_titled` prints it. Fails with `Memory`, and with
-    /// each error that `write_to` returns before its first byte.
+    /// each error that `write_to` returns before its first byte, but never for a table without rows
+    /// or columns.
     ///
     /// ```rust
     /// table.to_titled_text(Title::new("Capitals of Europe").center())

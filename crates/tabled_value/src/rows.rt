@@ -2,8 +2,8 @@
 ghost use Rattle.std.specs.Cow.{cow_str_bytes};
 ghost use Rattle.std.specs.Iterator.{IsFiniteIterable};
 ghost use Rattle.std.specs.List.{AllZip, flat_map};
-ghost use Rattle.std.specs.Prelude.{IfErr, IfOk, List, OnOk, [], length, map, replicate, vec_len};
-ghost use Rattle.std.specs.Prelude.{ℕ, ◌++◌, ◌+◌, ◌∷◌, ◌≡◌};
+ghost use Rattle.std.specs.Prelude.{IfErr, IfOk, IsUtf8, List, OnOk, [], length, map, replicate};
+ghost use Rattle.std.specs.Prelude.{vec_len, ℕ, ◌++◌, ◌+◌, ◌∷◌, ◌≡◌};
 ghost use Rattle.tabled_base.specs.Cells.{row_texts};
 ghost use Rattle.tabled_base.specs.Given.{Given};
 ghost use Rattle.tabled_base.specs.declared.error.TableError.TheVariants.{Memory};
@@ -28,6 +28,7 @@ pub(crate) fn one_text<'a>(alloc: Global, text: CowStr<'a>) -> Result<Vec<CowStr
 /// Returns what `Display` writes of a value. A `Display` that fails is reported as `Memory`.
 pub(crate) fn displayed<'a, T: Display>(alloc: Global, value: &T) -> Result<CowStr<'a>, AllocError>
     ensures text { IfOk result (λ text. Says (T.output value.now) (cow_str_bytes text)) }
+    ensures utf8 { IfOk result (λ text. IsUtf8 (cow_str_bytes text)) }
 {
     Ok(CowStr::Owned(value.to_string(alloc)?))
 }

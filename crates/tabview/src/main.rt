@@ -10,7 +10,7 @@ use clap::ArgMatches;
 use std::env;
 use std::process::ExitCode;
 use std::rt::Env;
-use tabview_options::{Options, command};
+use tabview_options::{Options, command, width_of};
 use tabview_show::{ViewError, show};
 
 fn main(rt: HostRuntime) -> Result<ExitCode> {
@@ -58,5 +58,5 @@ fn outcome(
 /// Returns the columns of the terminal, by the variable `COLUMNS`.
 fn terminal_width<R: Env + Alloc>(rt: &R) -> Option<usize> {
     let columns = env::var(rt, "COLUMNS").ok()?;
-    columns.parse::<usize>().ok()
+    width_of(&columns)
 }

@@ -118,7 +118,7 @@ static WIDTHS: [Run; 4] = [
     },
 ];
 
-static INPUTS: [Run; 12] = [
+static INPUTS: [Run; 15] = [
     Run {
         words: &["tabview", "-s", "empty", "--no-header"],
         input: "\u{1b}[1mred,a\tb\n",
@@ -134,8 +134,14 @@ static INPUTS: [Run; 12] = [
         input: "a,b\n1\n",
         shown: "| a | b |\n|---|---|\n| 1 |   |\n",
     },
+    // a row is longer than the names
     Run {
-        words: &["tabview", "-s", "markdown", "-f", "tsv"],
+        words: &["tabview", "-s", "markdown", "--fill"],
+        input: "a,b\n2,3,4\n",
+        shown: "| a | b |   |\n|---|---|---|\n| 2 | 3 | 4 |\n",
+    },
+    Run {
+        words: &["tabview", "-s", "markdown"],
         input: "a\tb\n1\t2\n",
         shown: "| a | b |\n|---|---|\n| 1 | 2 |\n",
     },
@@ -159,6 +165,17 @@ static INPUTS: [Run; 12] = [
         words: &["tabview", "-s", "markdown", "-f", "json"],
         input: "[[\"a\"],[1]]",
         shown: "| a |\n|---|\n| 1 |\n",
+    },
+    // blank lines, and a key that the first line lacks
+    Run {
+        words: &["tabview", "-s", "markdown"],
+        input: "{\"a\":1}\r\n\n{\"b\":2}\n",
+        shown: "| a | b |\n|---|---|\n| 1 |   |\n|   | 2 |\n",
+    },
+    Run {
+        words: &["tabview", "-s", "markdown", "-f", "jsonl"],
+        input: "[\"a\"]\n[1]\n[2]",
+        shown: "| a |\n|---|\n| 1 |\n| 2 |\n",
     },
     // null has a text, an empty cell has none
     Run {
@@ -184,7 +201,7 @@ static INPUTS: [Run; 12] = [
     },
 ];
 
-static FAULTS: [Run; 10] = [
+static FAULTS: [Run; 18] = [
     Run {
         words: &["tabview", "--columns", "Town"],
         input: CITIES,
@@ -218,11 +235,51 @@ static FAULTS: [Run; 10] = [
     Run {
         words: &["tabview", "-f", "tsv"],
         input: "a\tb\n1\n",
-        shown: "line 2: 1 cells, but 2 in the first record (record 1, byte 4)",
+        shown: "line 2: 1 cell, but 2 in the first record (record 1, byte 4)",
     },
     Run {
         words: &["tabview"],
         input: "[{\"a\":1},\n {\"a\"}]",
+        shown: "line 2, column 6: invalid JSON",
+    },
+    Run {
+        words: &["tabview"],
+        input: "[{\"a\":1},\n {\"a\":}]",
+        shown: "line 2, column 7: invalid JSON",
+    },
+    Run {
+        words: &["tabview"],
+        input: "[{\"a\":1},\n {\"a\":1]]",
+        shown: "line 2, column 8: invalid JSON",
+    },
+    Run {
+        words: &["tabview"],
+        input: " [{\"a\":1},\n {\"a\":1,\"a\":2}]",
+        shown: "line 2, column 2: an object has a key twice",
+    },
+    Run {
+        words: &["tabview"],
+        input: "[{\"a\":1},\n [2]]",
+        shown: "line 2, column 2: objects and arrays are mixed",
+    },
+    Run {
+        words: &["tabview"],
+        input: "[[1,2],\n [3]]",
+        shown: "line 2, column 2: 1 cell, but 2 in the first row",
+    },
+    Run {
+        words: &["tabview"],
+        input: "[{},\n 3]",
+        shown: "line 2, column 2: a row is neither an object nor an array",
+    },
+    Run {
+        words: &["tabview", "-f", "json"],
+        input: "3",
+        shown: "line 1, column 1: a row is neither an object nor an array",
+    },
+    Run {
+        words: &["tabview"],
+        input: "{\"a\":1}\n{\"a\":\n",
         shown: "line 2, column 6: invalid JSON",
     },
     Run {
@@ -329,19 +386,21 @@ fn a_terminal_has_a_width(rt: HostRuntime) -> Result<(), Fail> {
 fn bytes_that_are_no_text(rt: HostRuntime) -> Result<(), Fail> {
     let text = shown(&rt, &["tabview"], None, b"a,b\n1,\xFF\n")?;
     check(text, "line 2, column 2: invalid UTF-8 (record 1)")?;
+    let text = shown(&rt, &["tabview"], None, b"[\"\xC3\xA4\",\n\xFF")?;
+    check(text, "line 2, column 1: invalid UTF-8")?;
     let words = ["tabview", "-s", "markdown", "--lossy"];
     let text = shown(&rt, &words, None, b"a,b\n1,\xFF\n")?;
     check(text, "| a | b |\n|---|---|\n| 1 | \u{fffd} |\n")?;
     Ok(())
 }
 
-/// Returns what is printed for a database of two tables, or the message of the error.
-fn queried(rt: &HostRuntime, words: &[&str]) -> Result<String, Fail> {
+/// Returns what is printed for a database, or the message of the error.
+fn queried(rt: &HostRuntime, tables: &[&str], words: &[&str]) -> Result<String, Fail> {
     let alloc = rt.alloc();
     let mut connection = Connection::open_in_memory(alloc)?;
-    connection.execute_batch("CREATE TABLE city (name TEXT, people INTEGER)")?;
-    connection.execute_batch("INSERT INTO city VALUES ('Vaduz', 5774), ('', NULL)")?;
-    connection.execute_batch("CREATE TABLE land (name TEXT)")?;
+    for table in tables {
+        connection.execute_batch(table)?;
+    }
     let matches = command(alloc)?.try_get_matches_from(words)?;
     let options = Options::of(alloc, &matches, None)?;
     let mut out = Vec::new(alloc);
@@ -353,15 +412,28 @@ fn queried(rt: &HostRuntime, words: &[&str]) -> Result<String, Fail> {
     Ok(text)
 }
 
+const CITY: &str = "CREATE TABLE city (name TEXT, people INTEGER, mark BLOB);
+    INSERT INTO city VALUES ('Vaduz', 5774, x'00ff'), ('', NULL, '')";
+
 #[test]
 fn databases_are_queried(rt: HostRuntime) -> Result<(), Fail> {
-    let query = "SELECT people, name FROM city";
-    let text = queried(&rt, &["tabview", "-s", "markdown", "-q", query])?;
+    let query = "SELECT people, name, mark FROM city";
+    let words = ["tabview", "-s", "markdown", "-q", query];
     check(
-        text,
-        "| people | name  |\n|--------|-------|\n|   5774 | Vaduz |\n|   NULL |       |\n",
+        queried(&rt, &[CITY], &words)?,
+        "| people | name  | mark    |\n\
+         |--------|-------|---------|\n\
+         |   5774 | Vaduz | x'00ff' |\n\
+         |   NULL |       |         |\n",
     )?;
-    let text = queried(&rt, &["tabview"])?;
+    Ok(())
+}
+
+#[test]
+fn a_database_has_one_table(rt: HostRuntime) -> Result<(), Fail> {
+    let text = queried(&rt, &[], &["tabview"])?;
+    check(text, "the database has no table")?;
+    let text = queried(&rt, &[CITY, "CREATE TABLE land (name TEXT)"], &["tabview"])?;
     check(text, "the database has several tables: city, land")?;
     Ok(())
 }

@@ -12,13 +12,13 @@ use Rattle.tabview_cells.specs.Escaping.{is_control, is_sign, is_escaped, sign_o
 in_range : (low high c : ℕ) → low ≤ c → c ≤ high → is_in_range low high c ≡ true
 in_range low high c l h = and_from (nat_le low c) (nat_le c high) (le-leb low c l) (le-leb c high h)
 
-below : (low high c : ℕ) → c < low → is_in_range low high c ≡ false
+pub below : (low high c : ℕ) → c < low → is_in_range low high c ≡ false
 below low high c h = and_left (nat_le low c) (nat_le c high) (lt-leb low c h)
 
-above : (low high c : ℕ) → high < c → is_in_range low high c ≡ false
+pub above : (low high c : ℕ) → high < c → is_in_range low high c ≡ false
 above low high c h = and_right (nat_le low c) (nat_le c high) (lt-leb c high h)
 
-inside : (low high c : ℕ) → is_in_range low high c ≡ true → (low ≤ c) × (c ≤ high)
+pub inside : (low high c : ℕ) → is_in_range low high c ≡ true → (low ≤ c) × (c ≤ high)
 inside low high c e =
     let p = and_parts (nat_le low c) (nat_le c high) e in (leb-true low c p.0, leb-true c high p.1)
 

@@ -3,3 +3,4 @@ pub mod Widest
 pub mod Choosing
 pub mod Longest
 pub mod Joined
+pub mod Printed

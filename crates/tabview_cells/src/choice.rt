@@ -1,11 +1,13 @@
 //! The cells that are shown of a row.
 ghost use Rattle.csv.specs.Records.{fields_of};
-ghost use Rattle.std.specs.Prelude.{◌≡◌, IfErr, IfOk, OnErr, OnOk, map, string_bytes};
+ghost use Rattle.std.specs.Prelude.{◌≡◌, IfErr, IfOk, OnErr, OnOk, map, string_bytes, true};
 ghost use Rattle.tabled_base.specs.declared.error.TableError.TheVariants.{Memory};
 ghost use Rattle.tabled_records.specs.Joined.{with_text};
 ghost use Rattle.tabview_cells.specs.Choice.{shown_cell, shown_text, with_texts};
+ghost use Rattle.tabview_cells.specs.Printable.{is_printable};
 
 use crate::escaping::{escape, escape_into};
+use crate::printable::is_printable;
 use csv::StringRecord;
 use std::alloc::{AllocError, Global};
 use tabled_base::TableError;
@@ -47,24 +49,43 @@ pub fn push_chosen(
     ensures ended { out.new.rows ≡ out.old.rows }
     ensures only { IfErr result (λ e. e ≡ Memory) }
 {
+    let printable = is_printable(row.as_byte_record().as_slice());
     for column in columns {
         let cell = row.get(*column).unwrap_or("");
-        push_shown(alloc, out, cell, shown)?;
+        push_shown(alloc, out, cell, shown, printable)?;
     }
     Ok(())
 }
 
-/// Adds a cell as it is shown.
+/// Whether a cell is printable ASCII. If that is `known`, the cell isn't read.
+#[inline(always)]
+fn is_plain(cell: &str, known: bool) -> bool
+    requires { known ≡ true → is_printable cell.now ≡ true }
+    ensures { result ≡ is_printable cell.now }
+{
+    if known {
+        return true;
+    }
+    is_printable(cell.as_bytes())
+}
+
+/// Adds a cell as it is shown. If it is known to be `printable` ASCII, it isn't read.
+#[inline(always)]
 fn push_shown(
     alloc: Global,
     out: &mut RecordsWriter,
     cell: &str,
     shown: Shown,
+    printable: bool,
 ) -> Result<(), TableError>
+    requires { printable ≡ true → is_printable cell.now ≡ true }
     ensures ok { OnOk result (out.new ≡ with_text out.old (shown_text shown cell.now)) }
     ensures err { OnErr result (out.new ≡ out.old) }
     ensures only { IfErr result (λ e. e ≡ Memory) }
 {
+    if is_plain(cell, printable) {
+        return out.push(cell, cell.len(), 1);
+    }
     match shown {
         Shown::Raw => push_cell(out, cell),
         Shown::Lines => push_cell(out, &escape(alloc, cell, true)?),

@@ -1,11 +1,15 @@
 //! What the cells of a column are, and whether the column keeps its width.
+ghost use Rattle.csv.specs.Records.{text_of};
 ghost use Rattle.std.specs.Char.{is_whitespace};
 ghost use Rattle.std.specs.List.{list_any};
-ghost use Rattle.std.specs.Prelude.{◌≡◌, chars};
+ghost use Rattle.std.specs.Prelude.{◌≡◌, chars, length, nat_le, true};
 ghost use Rattle.tabview_cells.specs.Kinds.{is_code, joined, keeps_width, kind_of};
+ghost use Rattle.tabview_cells.specs.Printable.{is_graphic};
 
 use crate::dates::is_date;
 use crate::numbers::is_number;
+use crate::printable::is_graphic;
+use csv::StringRecord;
 use tabled_text::text_width;
 
 /// The columns that a code takes at most.
@@ -72,6 +76,19 @@ impl Kind {
         }
     }
 
+    /// Returns the kind of a column with one more cell, as `with_cell` does. The cell is printable
+    /// ASCII without spaces: a code has as many columns as bytes, and isn't read.
+    #[inline(always)]
+    pub fn with_graphic(self, cell: &str) -> Kind
+        requires { is_graphic cell.now ≡ true }
+        ensures { result ≡ joined self (kind_of cell.now) }
+    {
+        match self {
+            Kind::Code if is_short(cell) => Kind::Code,
+            kind => kind.with_cell(cell),
+        }
+    }
+
     /// Whether a column of this kind keeps its width where others give: each but text does.
     pub fn keeps_width(self) -> bool
         ensures { result ≡ keeps_width self }
@@ -80,11 +97,29 @@ impl Kind {
     }
 }
 
+/// Whether all cells of a row are printable ASCII without spaces.
+pub fn is_graphic_row(row: &StringRecord) -> bool
+    ensures { result ≡ is_graphic (text_of row.now) }
+{
+    is_graphic(row.as_byte_record().as_slice())
+}
+
 /// Whether a cell is a word of at most 12 columns.
 fn is_code(cell: &str) -> bool
     ensures { result ≡ is_code cell.now }
 {
+    if is_graphic(cell.as_bytes()) {
+        return is_short(cell);
+    }
     text_width(cell) <= CODE_COLUMNS && !has_space(cell)
+}
+
+/// Whether a cell has at most as many bytes as a code has columns.
+#[inline(always)]
+fn is_short(cell: &str) -> bool
+    ensures { result ≡ nat_le (length cell.now) CODE_COLUMNS }
+{
+    cell.len() <= CODE_COLUMNS
 }
 
 fn has_space(cell: &str) -> bool

@@ -6,6 +6,7 @@
 //! - `fit`: the widths of columns of which some don't give.
 //! - `kinds`: what the cells of a column are: numbers, dates, codes or text.
 //! - `numbers`: decimal numbers.
+//! - `printable`: printable ASCII, which is shown as it is.
 #![tactic(auto)]
 
 mod choice;
@@ -14,8 +15,9 @@ mod escaping;
 mod fit;
 mod kinds;
 mod numbers;
+mod printable;
 
 pub use choice::{Shown, chosen_cells, push_cell, push_chosen};
 pub use escaping::{escape, escape_into, is_control};
 pub use fit::{AboveFloors, longest_word};
-pub use kinds::Kind;
+pub use kinds::{Kind, is_graphic_row};

@@ -10,4 +10,4 @@ mod options;
 mod table;
 
 pub use command_line::command;
-pub use options::{Choice, Input, Look, Options, Side, WrongOption};
+pub use options::{Choice, Input, Look, Options, Side, WrongOption, width_of};

@@ -4,3 +4,5 @@ pub mod Fitted
 pub mod PrintedTables
 pub mod Streams
 pub mod Expanded
+pub mod Fallback
+pub mod Styles

@@ -5,17 +5,23 @@
 //! - `fitting`: a table that is fitted to a width.
 //! - `expanded`: records one below the other.
 //! - `stream`: rows that are printed while they are read.
+//! - `fallback`: rows as a table, or one below the other.
+//! - `styles`: the styles by their names.
 //! - `rows`: the rows of a table, by reference.
 #![tactic(auto)]
 
 mod expanded;
+mod fallback;
 mod fitting;
 mod floors;
 mod layout;
 mod rows;
 mod stream;
+mod styles;
 
 pub use expanded::print_expanded;
+pub use fallback::print_or_expand;
 pub use fitting::print_table;
 pub use layout::{Column, Layout, Narrowing};
 pub use stream::print_stream;
+pub use styles::{style_for, style_of};

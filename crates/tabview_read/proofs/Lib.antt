@@ -1,3 +1,5 @@
 pub mod AddedCells
+pub mod Lines
 pub mod Parts
+pub mod Selected
 pub mod ShownCells

@@ -1,4 +1,6 @@
 pub mod Places
 pub mod Numbers
 pub mod Cells
+pub mod Selection
+pub mod Sheets
 pub mod Shown

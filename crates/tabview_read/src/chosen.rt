@@ -1,14 +1,15 @@
 //! The columns that are shown.
 ghost use Rattle.std.specs.Prelude.{◌≡◌};
+ghost use Rattle.tabview_read.specs.Selection.{Grows};
 
 use crate::error::ReadError;
 use crate::row::Row;
 use csv::StringRecord;
 use std::alloc::{AllocError, Global};
-use tabview_cells::Kind;
+use tabview_cells::{Kind, is_graphic_row};
 
 /// The columns that are shown, and what their cells are.
-#[derive(Debug, Drop)]
+#[derive(Drop)]
 pub struct Chosen<'a> {
     alloc: Global,
     /// The names or numbers of the columns that are wanted. If there are none, all are.
@@ -30,7 +31,9 @@ impl<'a> Chosen<'a> {
     }
 
     /// Finds the columns that are wanted. Fails at one that isn't there.
-    pub fn find(&mut self, names: Option<&StringRecord>, count: usize) -> Result<(), ReadError> {
+    pub fn find(&mut self, names: Option<&StringRecord>, count: usize) -> Result<(), ReadError>
+        ensures { Grows self.old.columns.items self.new.columns.items }
+    {
         for name in self.wanted {
             match column_of(names, count, name) {
                 Some(column) => self.push(column)?,
@@ -45,7 +48,9 @@ impl<'a> Chosen<'a> {
     }
 
     /// Shows all columns of a row of `count` cells, if none were wanted.
-    pub fn widen(&mut self, count: usize) -> Result<(), AllocError> {
+    pub fn widen(&mut self, count: usize) -> Result<(), AllocError>
+        ensures { Grows self.old.columns.items self.new.columns.items }
+    {
         if self.wanted.is_empty() {
             for column in self.columns.len()..count {
                 self.push(column)?;
@@ -54,7 +59,9 @@ impl<'a> Chosen<'a> {
         Ok(())
     }
 
-    fn push(&mut self, column: usize) -> Result<(), AllocError> {
+    fn push(&mut self, column: usize) -> Result<(), AllocError>
+        ensures { Grows self.old.columns.items self.new.columns.items }
+    {
         self.columns.push(column)?;
         self.kinds.push(Kind::Empty)?;
         Ok(())
@@ -65,32 +72,53 @@ impl<'a> Chosen<'a> {
     pub fn join_kinds(&mut self, row: &Row, blank: &str)
         ensures { self.new.columns.items ≡ self.old.columns.items }
     {
+        let graphic = is_graphic_row(&row.cells);
         for (kind, column) in self.kinds.iter_mut().zip(self.columns.iter()) {
             if *kind != Kind::Text
                 && let Some(cell) = row.cells.get(*column)
                 && cell != blank
             {
-                *kind = kind.with_cell(cell);
+                *kind = if graphic {
+                    kind.with_graphic(cell)
+                } else {
+                    kind.with_cell(cell)
+                };
             }
         }
     }
 }
 
-/// Whether a name is that of a column, or its number from 1.
+/// Whether a name is that of a column. If no column has that name, it may be the column's number,
+/// from 1.
 pub fn is_column(names: Option<&StringRecord>, column: usize, name: &str) -> bool {
-    names.is_some_and(|names| names.get(column) == Some(name))
-        || name.parse::<usize>() == Ok(column.saturating_add(1))
+    match names {
+        Some(names) if column_named(names, name).is_some() => names.get(column) == Some(name),
+        _ => index_of(name) == Some(column),
+    }
 }
 
-/// Returns the column of a name, or of a number from 1.
+/// Returns the column of a name. If no column has that name, it may be a number from 1.
 fn column_of(names: Option<&StringRecord>, count: usize, name: &str) -> Option<usize> {
     if let Some(names) = names
-        && let Some(column) = names.iter().position(|own| own == name)
+        && let Some(column) = column_named(names, name)
     {
         return Some(column);
     }
-    match name.parse::<usize>() {
-        Ok(number) if number > 0 && number <= count => Some(number - 1),
+    match index_of(name) {
+        Some(column) if column < count => Some(column),
         _ => None,
+    }
+}
+
+/// Returns the first column that has a name.
+fn column_named(names: &StringRecord, name: &str) -> Option<usize> {
+    names.iter().position(|own| own == name)
+}
+
+/// Returns the index that a number from 1 means.
+fn index_of(number: &str) -> Option<usize> {
+    match number.parse::<usize>() {
+        Ok(number) => number.checked_sub(1),
+        Err(_) => None,
     }
 }

@@ -7,7 +7,7 @@ use std::alloc::{AllocError, Global};
 use std::io::Read;
 
 /// How comma-separated values are read.
-#[derive(Clone, Copy, Debug, PartialEq, Eq)]
+#[derive(Clone, Copy)]
 pub struct CsvOptions {
     /// The byte between two cells.
     pub delimiter: u8,
@@ -20,13 +20,23 @@ pub struct CsvOptions {
 }
 
 /// Rows of comma-separated values. A byte-order mark is skipped, and CR LF ends a line.
-#[derive(Drop)]
 pub struct CsvRows<R: Read + Drop> {
     alloc: Global,
     reader: Reader<R>,
     names: Option<StringRecord>,
     /// The record as bytes, if it may be invalid UTF-8.
     bytes: Option<ByteRecord>,
+}
+
+impl<R: Read + Drop> Drop for CsvRows<R> {
+    fn drop(self) {
+        let CsvRows {
+            alloc: _,
+            reader: _,
+            names: _,
+            bytes: _,
+        } = self;
+    }
 }
 
 impl<R: Read + Drop> CsvRows<R> {

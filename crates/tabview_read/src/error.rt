@@ -6,7 +6,7 @@ use std::{error, fmt, io};
 use tabled_base::TableError;
 
 /// A place in a text. Lines, and the characters of a line, are counted from 1.
-#[derive(Clone, Copy, Debug, PartialEq, Eq)]
+#[derive(Clone, Copy)]
 pub struct Place {
     pub line: u64,
     pub column: u64,
@@ -43,7 +43,7 @@ impl fmt::Display for Place {
 }
 
 /// What is wrong with a JSON text.
-#[derive(Debug, Drop)]
+#[derive(Drop)]
 pub enum Fault {
     /// An allocation failed.
     Memory,
@@ -61,6 +61,11 @@ pub enum Fault {
     Unknown(String),
 }
 
+/// Returns the noun after a number of cells.
+fn noun_of(cells: u64) -> &'static str {
+    if cells == 1 { "cell" } else { "cells" }
+}
+
 impl fmt::Display for Fault {
     fn fmt<W: fmt::Write>(&self, f: &mut fmt::Formatter<W>) -> fmt::Result {
         match self {
@@ -68,10 +73,10 @@ impl fmt::Display for Fault {
             Fault::NotJson => f.write_str("invalid JSON"),
             Fault::NotRow => f.write_str("a row is neither an object nor an array"),
             Fault::Mixed => f.write_str("objects and arrays are mixed"),
-            Fault::Ragged { cells, wanted } => write!(
-                f,
-                "{cells} cells, but {wanted} in the first row"
-            ),
+            Fault::Ragged { cells, wanted } => {
+                let noun = noun_of(*cells as u64);
+                write!(f, "{cells} {noun}, but {wanted} in the first row")
+            }
             Fault::Doubled => f.write_str("an object has a key twice"),
             Fault::Unknown(key) => write!(f, "the key {key} is in none of the rows read ahead"),
         }
@@ -100,7 +105,7 @@ impl From<AllocError> for Fault {
 }
 
 /// Why rows can't be read.
-#[derive(Debug, Drop)]
+#[derive(Drop)]
 pub enum ReadError {
     /// An allocation failed.
     Memory,
@@ -144,9 +149,10 @@ impl fmt::Display for ReadError {
             }
             ReadError::Ragged { at, cells, wanted } => {
                 let (line, record, byte) = (at.line, at.record, at.byte);
+                let noun = noun_of(*cells);
                 write!(
                     f,
-                    "line {line}: {cells} cells, but {wanted} in the first record (record {record}, byte {byte})"
+                    "line {line}: {cells} {noun}, but {wanted} in the first record (record {record}, byte {byte})"
                 )
             }
             ReadError::Json(place, fault) => write!(f, "{place}: {fault}"),
@@ -155,6 +161,13 @@ impl fmt::Display for ReadError {
             ReadError::Tables(names) => write!(f, "the database has several tables: {names}"),
             ReadError::NoColumn(name) => write!(f, "there is no column {name}"),
         }
+    }
+}
+
+// The message says all.
+impl fmt::Debug for ReadError {
+    fn fmt<W: fmt::Write>(&self, f: &mut fmt::Formatter<W>) -> fmt::Result {
+        write!(f, "{self}")
     }
 }
 

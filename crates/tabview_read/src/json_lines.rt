@@ -69,7 +69,6 @@ fn on_line(error: ReadError, line: u64) -> ReadError {
 }
 
 /// Objects or arrays, one in each line. Blank lines are passed over.
-#[derive(Drop)]
 pub struct JsonLines<B: BufRead + Drop> {
     alloc: Global,
     lines: LinesOf<B>,
@@ -79,9 +78,21 @@ pub struct JsonLines<B: BufRead + Drop> {
     ahead: VecDeque<Line>,
 }
 
+impl<B: BufRead + Drop> Drop for JsonLines<B> {
+    fn drop(self) {
+        let JsonLines {
+            alloc: _,
+            lines: _,
+            scratch: _,
+            values: _,
+            ahead: _,
+        } = self;
+    }
+}
+
 impl<B: BufRead + Drop> JsonLines<B> {
-    /// Reads lines ahead, of which the names of the columns are taken. A key of a later line that
-    /// is none of these is an error.
+    /// Reads lines ahead, at least one, of which the names of the columns are taken. A key of a
+    /// later line that is none of these is an error.
     pub fn new(
         alloc: Global,
         options: JsonOptions,
@@ -89,7 +100,19 @@ impl<B: BufRead + Drop> JsonLines<B> {
         input: B,
         ahead: usize,
     ) -> Result<JsonLines<B>, ReadError> {
-        let mut rows = JsonLines {
+        let mut rows = JsonLines::begin(alloc, options, lossy, input);
+        for _line in 0..ahead.max(1) {
+            if !rows.read_ahead()? {
+                break;
+            }
+        }
+        rows.name()?;
+        Ok(rows)
+    }
+
+    /// Begins before the first line.
+    fn begin(alloc: Global, options: JsonOptions, lossy: bool, input: B) -> JsonLines<B> {
+        JsonLines {
             alloc,
             lines: LinesOf {
                 alloc,
@@ -100,15 +123,18 @@ impl<B: BufRead + Drop> JsonLines<B> {
             scratch: Scratch::new(alloc),
             values: Values::new(alloc, options),
             ahead: VecDeque::new(alloc),
-        };
-        for _line in 0..ahead {
-            match rows.lines.next_line()? {
-                Some(line) => rows.look(line)?,
-                None => break,
-            }
         }
-        rows.name()?;
-        Ok(rows)
+    }
+
+    /// Reads a line ahead, and returns whether there is one.
+    fn read_ahead(&mut self) -> Result<bool, ReadError> {
+        match self.lines.next_line()? {
+            Some(line) => {
+                self.look(line)?;
+                Ok(true)
+            }
+            None => Ok(false),
+        }
     }
 
     /// Looks at a line, and keeps it.

@@ -10,7 +10,6 @@ use json::Scratch;
 use std::alloc::Global;
 
 /// The rows of an array of objects or of arrays, or of one object.
-#[derive(Drop)]
 pub struct JsonRows<'a> {
     alloc: Global,
     text: &'a str,
@@ -20,6 +19,19 @@ pub struct JsonRows<'a> {
     count: usize,
     /// The rows that were read, or taken as names.
     taken: usize,
+}
+
+impl Drop for JsonRows<'_> {
+    fn drop(self) {
+        let JsonRows {
+            alloc: _,
+            text: _,
+            document: _,
+            values: _,
+            count: _,
+            taken: _,
+        } = self;
+    }
 }
 
 impl<'a> JsonRows<'a> {

@@ -13,7 +13,8 @@
 //! - `nesting`: which token of JSON may follow others.
 //! - `place`: places in a text.
 //! - `row`: rows, and what they are read from.
-//! - `sheet`: the rows that are shown.
+//! - `selector`: selects the rows that are shown.
+//! - `sheet`: the lines that are shown.
 //! - `sqlite_rows`: the rows of a query.
 //! - `stream`: rows that are shown as they are read.
 //! - `values`: how JSON values become rows.
@@ -32,11 +33,10 @@ mod keys;
 mod nesting;
 mod place;
 mod row;
+mod selector;
 mod sheet;
 mod sqlite_rows;
 mod stream;
-#[cfg(test)]
-mod tests;
 mod values;
 
 pub use chosen::{Chosen, is_column};
@@ -47,7 +47,8 @@ pub use json_lines::JsonLines;
 pub use json_rows::JsonRows;
 pub use place::text_of;
 pub use row::{Row, Rows};
-pub use sheet::{Sheet, Wanted, read_sheet};
+pub use selector::read_sheet;
+pub use sheet::{Sheet, Wanted};
 pub use sqlite_rows::{SqliteRows, query_of};
 pub use stream::Stream;
 pub use values::JsonOptions;

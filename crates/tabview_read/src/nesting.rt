@@ -4,7 +4,7 @@ use json::{MAX_DEPTH, Token};
 use std::alloc::{AllocError, Global};
 
 /// A bracket that is open.
-#[derive(Clone, Copy, Debug, PartialEq, Eq)]
+#[derive(Clone, Copy)]
 enum Bracket {
     Array,
     Object,

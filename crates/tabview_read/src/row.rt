@@ -1,6 +1,6 @@
 //! Rows, and what they are read from.
 ghost use Rattle.csv.specs.Records.{fields_of};
-ghost use Rattle.std.specs.Prelude.{◌≡◌, ◌==◌, ◌++◌, [], ◌∷◌, Contains, IfOk, IsTrue, OnOk, length, ◌↔◌};
+ghost use Rattle.std.specs.Prelude.{◌≡◌, ◌==◌, ◌++◌, [], ◌∷◌, ℕ, Contains, IfOk, IsTrue, List, None, OnOk, Option, Some, if◌then◌else◌, length, option_map, ⊤, ◌↔◌};
 ghost use Rattle.tabview_read.specs.Shown.{cell_or, is_null, shown_cells};
 
 use crate::error::ReadError;
@@ -8,7 +8,7 @@ use csv::StringRecord;
 use std::alloc::{AllocError, Global};
 
 /// A row: its cells, and which of them are null.
-#[derive(Debug, Drop)]
+#[derive(Drop)]
 pub struct Row {
     /// The text of each cell, empty if it is null.
     pub cells: StringRecord,
@@ -97,9 +97,20 @@ impl Row {
 
 /// Rows that are read one by one.
 pub trait Rows {
+    ghost use Rattle.tabview_read.specs.declared.row.Row.{Row};
+
+    /// Holds of a source and the names of its columns.
+    ghost names_give: { Self → Option (List (List ℕ)) → Type 0 } = { λ _ _. ⊤ };
+
+    /// Holds of the source before a call of `read`, the row that it read, and the source after.
+    ghost read_gives: { Self → Option Row → Self → Type 0 } = { λ _ _ _. ⊤ };
+
     /// Returns the names of the columns, if the rows have some.
-    fn names(&self) -> Option<&StringRecord>;
+    fn names(&self) -> Option<&StringRecord>
+        ensures { names_give self.now (option_map (λ n. fields_of n.now) result) };
 
     /// Reads the next row, and returns whether there is one.
-    fn read(&mut self, row: &mut Row) -> Result<bool, ReadError>;
+    fn read(&mut self, row: &mut Row) -> Result<bool, ReadError>
+        ensures { IfOk result (λ is_there.
+            read_gives self.old (if is_there then Some row.new else None) self.new) };
 }

@@ -1,13 +1,16 @@
 //! The rows that are shown.
 ghost use Rattle.csv.specs.Records.{fields_of};
-ghost use Rattle.std.specs.Prelude.{◌≡◌, IfOk, OnOk, decimal, string_bytes};
+ghost use Rattle.std.specs.Prelude.{◌≡◌, ◌++◌, [], IfOk, List, OnOk, decimal, map, string_bytes};
+ghost use Rattle.tabled_base.specs.Cells.{lengthened_rows};
 ghost use Rattle.tabled_records.specs.Joined.{with_row_ended};
 ghost use Rattle.tabview_cells.specs.Choice.{with_texts};
+ghost use Rattle.tabview_read.specs.Sheets.{HasLines, IsWidened, Line, name_lines, row_line};
 ghost use Rattle.tabview_read.specs.Shown.{number_of, shown_cells, texts_of};
+ghost use Rattle.tabview_read.specs.declared.sheet.Wanted.{Wanted};
 
 use crate::chosen::Chosen;
 use crate::error::ReadError;
-use crate::row::{Row, Rows};
+use crate::row::Row;
 use csv::StringRecord;
 use std::alloc::{AllocError, Global};
 use std::collections::VecDeque;
@@ -16,7 +19,7 @@ use tabled_records::{JoinedRecords, RecordsWriter};
 use tabview_cells::{Kind, Shown, push_cell, push_chosen};
 
 /// Which rows and columns are shown, and how.
-#[derive(Debug, Drop)]
+#[derive(Drop)]
 pub struct Wanted<'a> {
     /// The names of the columns, or their numbers from 1. If there are none, all are shown.
     pub columns: &'a [&'a str],
@@ -37,7 +40,6 @@ pub struct Wanted<'a> {
 }
 
 /// The rows that are shown, below the names of their columns.
-#[derive(Drop)]
 pub struct Sheet {
     pub records: JoinedRecords,
     /// Whether the first record has the names of the columns.
@@ -46,110 +48,86 @@ pub struct Sheet {
     pub columns: Vec<usize>,
     /// What their cells are.
     pub kinds: Vec<Kind>,
-    /// The count of the rows that aren't shown, if they are counted.
+    /// The count of the rows that were read and aren't shown.
     pub hidden: u64,
 }
 
-/// Reads all rows, and keeps those that are shown.
-pub fn read_sheet<T: Rows>(
-    alloc: Global,
-    wanted: &Wanted<'_>,
-    rows: &mut T,
-) -> Result<Sheet, ReadError> {
-    let mut collector = Collector::new(alloc, wanted);
-    if let Some(names) = rows.names() {
-        collector.take_names(names)?;
+impl Drop for Sheet {
+    fn drop(self) {
+        let Sheet {
+            records: _,
+            has_names: _,
+            columns: _,
+            kinds: _,
+            hidden: _,
+        } = self;
     }
-    let mut row = Row::new(alloc);
-    for _row in 0..u64::MAX {
-        if collector.is_full() || !rows.read(&mut row)? {
-            break;
-        }
-        collector.take(&mut row)?;
-    }
-    collector.finish()
 }
 
-/// The rows so far.
+/// The columns that are shown, and the lines that were written.
 #[derive(Drop)]
-struct Collector<'a> {
+pub(crate) struct Collector<'a> {
     alloc: Global,
-    wanted: &'a Wanted<'a>,
-    has_names: bool,
+    pub(crate) wanted: &'a Wanted<'a>,
     chosen: Chosen<'a>,
     writer: RecordsWriter,
-    /// The last rows, if these are shown.
-    last: VecDeque<Row>,
-    /// The rows that were read.
-    count: u64,
-    /// The rows that were written.
-    written: u64,
 }
 
 impl<'a> Collector<'a> {
-    fn new(alloc: Global, wanted: &'a Wanted<'a>) -> Collector<'a> {
+    pub(crate) fn new(alloc: Global, wanted: &'a Wanted<'a>) -> Collector<'a>
+        ensures { HasLines wanted.now [] result }
+    {
+        let writer = RecordsWriter::new(alloc);
         Collector {
             alloc,
             wanted,
-            has_names: false,
             chosen: Chosen::new(alloc, wanted.columns),
-            writer: RecordsWriter::new(alloc),
-            last: VecDeque::new(alloc),
-            count: 0,
-            written: 0,
+            writer,
         }
     }
 
-    /// Whether no further row is wanted.
-    fn is_full(&self) -> bool {
-        !self.wanted.count && self.wanted.rows.is_some_and(|n| self.count >= n as u64)
-    }
-
-    /// Takes the names of the columns.
-    fn take_names(&mut self, names: &StringRecord) -> Result<(), ReadError> {
-        self.has_names = true;
+    /// Finds the columns that are wanted, and writes their names.
+    pub(crate) fn write_names(&mut self, names: &StringRecord) -> Result<(), ReadError>
+        ensures { (w : Wanted) → HasLines w [] self.old → OnOk result
+            (HasLines w (name_lines (Some (fields_of names.now))) self.new) }
+    {
         self.chosen.find(Some(names), names.len())?;
         self.write(names, "#")?;
         Ok(())
     }
 
-    /// Takes a row, and shows it if it is one of the first or the last that are wanted.
-    fn take(&mut self, row: &mut Row) -> Result<(), ReadError> {
-        if self.count == 0 && !self.has_names {
-            self.chosen.find(None, row.cells.len())?;
-        }
-        self.count = self.count.saturating_add(1);
-        self.chosen.widen(row.cells.len())?;
-        let count = self.count;
-        if self.wanted.rows.is_some_and(|rows| count > rows as u64) {
-            return Ok(());
-        }
-        match self.wanted.tail {
-            Some(rows) => self.keep_last(row, rows),
-            None => self.write_row(row, count),
+    /// Finds the columns that are wanted at the first row if there are no names, and shows all
+    /// columns of a row if none are wanted.
+    pub(crate) fn find_columns(&mut self, is_first: bool, count: usize) -> Result<(), ReadError>
+        ensures { IsWidened self.old self.new }
+    {
+        if is_first {
+            self.chosen.find(None, count)
+        } else {
+            Ok(self.chosen.widen(count)?)
         }
     }
 
-    fn keep_last(&mut self, row: &mut Row, rows: usize) -> Result<(), ReadError> {
-        let spare = if self.last.len() < rows {
-            Row::new(self.alloc)
-        } else {
-            self.last.pop_front().unwrap_or(Row::new(self.alloc))
-        };
-        if rows > 0 {
-            self.last.push_back(std::mem::replace(row, spare))?;
+    /// Writes rows with their numbers.
+    pub(crate) fn write_rows(&mut self, mut rows: VecDeque<(u64, Row)>) -> Result<(), ReadError>
+        ensures { (w : Wanted) (lines : List Line) → HasLines w lines self.old → OnOk result
+            (HasLines w (lines ++ map (row_line w.null.now) rows.items) self.new) }
+    {
+        while let Some((number, row)) = rows.pop_front() {
+            self.write_row(&row, number)?;
         }
         Ok(())
     }
 
     /// Writes a row with its number, from 1.
-    fn write_row(&mut self, row: &Row, number: u64) -> Result<(), ReadError>
-        ensures { let w = self.old.wanted.now in OnOk result (self.new.writer
+    pub(crate) fn write_row(&mut self, row: &Row, number: u64) -> Result<(), ReadError>
+        ensures texts { let w = self.old.wanted.now in OnOk result (self.new.writer
             ≡ with_row_ended (with_texts self.old.writer (texts_of w.numbers (decimal number)
             w.shown (shown_cells w.null.now row.now) self.old.chosen.columns.items))) }
+        ensures columns { self.new.chosen.columns.items ≡ self.old.chosen.columns.items }
+        ensures wanted { self.new.wanted ≡ self.old.wanted }
     {
         self.chosen.join_kinds(row, self.wanted.blank);
-        self.written = self.written.saturating_add(1);
         let text = number_text(self.alloc, self.wanted.numbers, number)?;
         if row.has_no_null() {
             self.write(&row.cells, &text)?;
@@ -162,10 +140,12 @@ impl<'a> Collector<'a> {
 
     /// Writes the cells that are shown of a row, as they are or escaped, after its number.
     fn write(&mut self, cells: &StringRecord, number: &str) -> Result<(), TableError>
-        ensures { let w = self.old.wanted.now in OnOk result
+        ensures texts { let w = self.old.wanted.now in OnOk result
             (self.new.writer ≡ with_row_ended (with_texts self.old.writer
             (texts_of w.numbers number.now w.shown (fields_of cells.now)
             self.old.chosen.columns.items))) }
+        ensures columns { self.new.chosen.columns.items ≡ self.old.chosen.columns.items }
+        ensures wanted { self.new.wanted ≡ self.old.wanted }
     {
         let columns = self.chosen.columns.as_slice();
         push_number(&mut self.writer, self.wanted.numbers, number)?;
@@ -179,23 +159,22 @@ impl<'a> Collector<'a> {
         self.writer.end_row()
     }
 
-    /// Shows the last rows, and returns all that are shown.
-    fn finish(mut self) -> Result<Sheet, ReadError> {
-        let mut number = self.count.saturating_sub(self.last.len() as u64);
-        for _row in 0..self.last.len() {
-            if let Some(row) = self.last.pop_front() {
-                number = number.saturating_add(1);
-                self.write_row(&row, number)?;
-            }
-        }
-        let Chosen { columns, kinds, .. } = self.chosen;
-        Ok(Sheet {
-            records: self.writer.finish(),
-            has_names: self.has_names,
+    /// Returns the lines that were written.
+    pub(crate) fn finish(self, has_names: bool, hidden: u64) -> Sheet
+        ensures records { result.records ≡ lengthened_rows self.entry.writer.rows }
+        ensures columns { result.columns.items ≡ self.entry.chosen.columns.items }
+        ensures has_names { result.has_names ≡ has_names }
+        ensures hidden { result.hidden ≡ hidden }
+    {
+        let Collector { chosen, writer, .. } = self;
+        let Chosen { columns, kinds, .. } = chosen;
+        Sheet {
+            records: writer.finish(),
+            has_names,
             columns,
             kinds,
-            hidden: self.count.saturating_sub(self.written),
-        })
+            hidden,
+        }
     }
 }
 

@@ -113,11 +113,17 @@ fn put_value(
         ValueRef::Int(number) => row.push_text(&format!(in alloc; "{number}")?)?,
         ValueRef::Real(number) => row.push_text(&format!(in alloc; "{number}")?)?,
         ValueRef::Blob(bytes) => row.push_text(&hex(alloc, bytes)?)?,
-        ValueRef::Text(bytes) => match from_utf8(bytes) {
-            Ok(text) => row.push_text(text)?,
-            Err(_) if lossy => row.push_text(&String::from_utf8_lossy(alloc, bytes)?)?,
-            Err(_) => return Ok(false),
-        },
+        ValueRef::Text(bytes) => return put_text(alloc, row, bytes, lossy),
+    }
+    Ok(true)
+}
+
+/// Adds the cell of a text, unless it is invalid UTF-8 that isn't shown as U+FFFD.
+fn put_text(alloc: Global, row: &mut Row, bytes: &[u8], lossy: bool) -> Result<bool, AllocError> {
+    match from_utf8(bytes) {
+        Ok(text) => row.push_text(text)?,
+        Err(_) if lossy => row.push_text(&String::from_utf8_lossy(alloc, bytes)?)?,
+        Err(_) => return Ok(false),
     }
     Ok(true)
 }
@@ -149,16 +155,26 @@ fn tables_of<S: Alter>(
     alloc: Global,
     connection: &mut Connection<S>,
 ) -> Result<Vec<String>, ReadError> {
-    let mut tables = Vec::new(alloc);
-    let mut row = Row::new(alloc);
     let mut rows = SqliteRows::new(alloc, connection, TABLES, true)?;
+    let mut tables = Vec::new(alloc);
+    put_first_cells(alloc, &mut rows, &mut tables)?;
+    Ok(tables)
+}
+
+/// Adds the first cell of each row.
+fn put_first_cells<S: Alter>(
+    alloc: Global,
+    rows: &mut SqliteRows<'_, S>,
+    cells: &mut Vec<String>,
+) -> Result<(), ReadError> {
+    let mut row = Row::new(alloc);
     for _row in 0..u64::MAX {
         if !rows.read(&mut row)? {
             break;
         }
-        tables.push(String::from_str(alloc, row.cells.get(0).unwrap_or(""))?)?;
+        cells.push(String::from_str(alloc, row.cells.get(0).unwrap_or(""))?)?;
     }
-    Ok(tables)
+    Ok(())
 }
 
 /// Returns a query of a table.

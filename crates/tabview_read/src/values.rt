@@ -11,7 +11,7 @@ use json::Value;
 use std::alloc::Global;
 
 /// How a JSON text is read.
-#[derive(Clone, Copy, Debug, PartialEq, Eq)]
+#[derive(Clone, Copy)]
 pub struct JsonOptions {
     /// Whether the first array has the names of the columns. The names of objects are their keys.
     pub has_header: bool,
@@ -20,7 +20,7 @@ pub struct JsonOptions {
 }
 
 /// What rows are made of.
-#[derive(Clone, Copy, Debug, PartialEq, Eq)]
+#[derive(Clone, Copy)]
 enum Shape {
     Objects,
     Arrays { width: usize },

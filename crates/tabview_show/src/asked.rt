@@ -1,14 +1,17 @@
 //! What is asked for, in the words of the crates below.
+ghost use Rattle.std.specs.Prelude.{◌≡◌, if◌then◌else◌, unwrap_or};
+ghost use Rattle.tabview_show.specs.Asked.{IsWanted, alignment, measured, shown_by, side_of_kind};
 
-use tabled_base::ExactRecords;
-use tabled_config::{AlignmentHorizontal, Style};
-use tabview_cells::Shown;
+use tabled_config::AlignmentHorizontal;
+use tabview_cells::{Kind, Shown};
 use tabview_options::{Input, Options, Side};
 use tabview_print::Narrowing;
-use tabview_read::{CsvOptions, Format, JsonOptions, Sheet, Wanted};
+use tabview_read::{CsvOptions, Format, JsonOptions, Wanted};
 
 /// Returns which rows and columns are shown.
-pub(crate) fn wanted<'a>(options: &'a Options<'_>) -> Wanted<'a> {
+pub(crate) fn wanted<'a>(options: &'a Options<'_>) -> Wanted<'a>
+    ensures { IsWanted options.now result }
+{
     let columns = options.choice.columns.as_slice();
     let null = match options.input.null {
         Some(text) => text,
@@ -32,7 +35,14 @@ pub(crate) fn wanted<'a>(options: &'a Options<'_>) -> Wanted<'a> {
 
 /// Returns how comma-separated values are read, with the byte that is between cells if none is
 /// asked for.
-pub(crate) fn csv_options(input: &Input<'_>, delimiter: u8) -> CsvOptions {
+pub(crate) fn csv_options(input: &Input<'_>, delimiter: u8) -> CsvOptions
+    ensures { let i = input.now in result ≡ record {
+      delimiter = unwrap_or i.delimiter delimiter;
+      has_header = i.has_header;
+      fill = i.fill;
+      lossy = i.lossy;
+    } }
+{
     CsvOptions {
         delimiter: input.delimiter.unwrap_or(delimiter),
         has_header: input.has_header,
@@ -42,14 +52,16 @@ pub(crate) fn csv_options(input: &Input<'_>, delimiter: u8) -> CsvOptions {
 }
 
 /// Returns how JSON is read.
-pub(crate) fn json_options(input: &Input<'_>) -> JsonOptions {
+pub(crate) fn json_options(input: &Input<'_>) -> JsonOptions
+    ensures { result ≡ record { has_header = input.now.has_header; fill = input.now.fill } }
+{
     JsonOptions {
         has_header: input.has_header,
         fill: input.fill,
     }
 }
 
-/// Returns the format that was named, else that of the file's ending.
+/// Returns the format that was named, else that of the file's ending. `Format` decides which.
 pub(crate) fn format_of(input: &Input<'_>) -> Option<Format> {
     match input.format {
         Some(name) => Format::of_name(name),
@@ -57,15 +69,21 @@ pub(crate) fn format_of(input: &Input<'_>) -> Option<Format> {
     }
 }
 
-pub(crate) fn narrowing(cut: bool) -> Narrowing {
+pub(crate) fn narrowing(cut: bool) -> Narrowing
+    ensures { result ≡ (if cut then Narrowing.Cut else Narrowing.Wrap) }
+{
     if cut { Narrowing::Cut } else { Narrowing::Wrap }
 }
 
-fn shown(raw: bool) -> Shown {
+fn shown(raw: bool) -> Shown
+    ensures { result ≡ shown_by raw }
+{
     if raw { Shown::Raw } else { Shown::Lines }
 }
 
-pub(crate) fn alignment(side: Side) -> AlignmentHorizontal {
+pub(crate) fn alignment(side: Side) -> AlignmentHorizontal
+    ensures { result ≡ alignment side }
+{
     match side {
         Side::Left => AlignmentHorizontal::Left,
         Side::Right => AlignmentHorizontal::Right,
@@ -73,33 +91,21 @@ pub(crate) fn alignment(side: Side) -> AlignmentHorizontal {
     }
 }
 
-/// Returns the style for a sheet. Its line below the first row is drawn if this is a header, and if
-/// rows are below it or the table has no line at its bottom. Markdown always has it.
-pub(crate) fn style_for(name: Option<&str>, sheet: &Sheet) -> Style {
-    let style = style_of(name);
-    let has_bottom = style.get_borders().bottom.is_some();
-    let is_last = sheet.records.count_rows() == 1 && has_bottom;
-    if name != Some("markdown") && (is_last || !sheet.has_names) {
-        style.remove_horizontals()
+/// Returns the side of a column that none is asked for: numbers are at the right.
+pub(crate) fn side_of_kind(kind: Kind) -> Side
+    ensures { result ≡ side_of_kind kind }
+{
+    if kind == Kind::Number {
+        Side::Right
     } else {
-        style
+        Side::Left
     }
 }
 
-/// Returns the style of a name, `rounded` without one.
-pub(crate) fn style_of(name: Option<&str>) -> Style {
-    match name.unwrap_or("rounded") {
-        "sharp" => Style::sharp(),
-        "modern" => Style::modern(),
-        "modern-rounded" => Style::modern_rounded(),
-        "ascii" => Style::ascii(),
-        "ascii-rounded" => Style::ascii_rounded(),
-        "extended" => Style::extended(),
-        "markdown" => Style::markdown(),
-        "psql" => Style::psql(),
-        "rst" => Style::re_structured_text(),
-        "blank" => Style::blank(),
-        "empty" => Style::empty(),
-        _ => Style::rounded(),
-    }
+/// Returns the count of the rows that a stream measures, with that of the names.
+pub(crate) fn measured(rows: Option<usize>, has_names: bool) -> usize
+    ensures { result ≡ measured rows has_names }
+{
+    rows.unwrap_or(usize::MAX)
+        .saturating_add(usize::from(has_names))
 }

@@ -1,4 +1,10 @@
 //! The end of a table, and readers that went away.
+ghost use Rattle.std.specs.Io.{WritesAtMost};
+ghost use Rattle.std.specs.Io.KnownBytes.{Appends, WriteAppends};
+ghost use Rattle.std.specs.IoError.{error_kind};
+ghost use Rattle.std.specs.Prelude.{◌↔◌, ◌≡◌, IsTrue, OnOk, false, true};
+ghost use Rattle.std.specs.declared.io.ErrorKind.TheVariants.{BrokenPipe};
+ghost use Rattle.tabview_show.specs.Endings.{IsFailed, IsWritten, end_of, hidden_line, line_end};
 
 use crate::error::ViewError;
 use std::io::{self, Write};
@@ -12,7 +18,11 @@ pub(crate) struct Noted<'a, W: Write> {
 }
 
 impl<'a, W: Write> Noted<'a, W> {
-    pub fn new(out: &'a mut W) -> Noted<'a, W> {
+    pub fn new(out: &'a mut W) -> Noted<'a, W>
+        ensures same_reference { result.out.ghost_name ≡ out.entry.ghost_name }
+        ensures writer { result.out.now ≡ out.old }
+        ensures begun { result.is_begun ≡ false }
+    {
         Noted {
             out,
             is_begun: false,
@@ -30,7 +40,14 @@ impl<W: Write> Drop for Noted<'_, W> {
 }
 
 impl<W: Write> Write for Noted<'_, W> {
-    fn write(&mut self, bytes: &[u8]) -> io::Result<usize> {
+    ghost contents = { λ s. W.contents s.out.now };
+
+    fn write(&mut self, bytes: &[u8]) -> io::Result<usize>
+        ensures bound { WritesAtMost result bytes.now }
+        ensures bytes { WriteAppends (W.contents self.old.out.now) (W.contents self.new.out.now)
+            result bytes.now }
+        ensures begun { self.new.is_begun ≡ true }
+    {
         self.is_begun = true;
         self.out.write(bytes)
     }
@@ -68,19 +85,42 @@ pub(crate) fn end_stream<W: Write>(
     }
 }
 
-/// Ends the last line, if there is one.
-fn put_end<W: Write>(hidden: u64, out: &mut Noted<'_, W>) -> io::Result<()> {
-    if out.is_begun {
-        out.write_all(b"\n")?;
-    }
-    if hidden > 0 {
-        writeln!(out, "… {hidden} rows more")?;
-    }
+/// Ends the last line, if there is one, and says how many rows aren't shown.
+fn put_end<W: Write>(hidden: u64, out: &mut Noted<'_, W>) -> io::Result<()>
+    ensures { OnOk result (Appends (W.contents out.old.out.now) (W.contents out.new.out.now)
+        (end_of out.old.is_begun hidden)) }
+{
+    end_line(out)?;
+    put_hidden(hidden, out)?;
     out.flush()
 }
 
+/// Ends the last line, if something was printed.
+fn end_line<W: Write>(out: &mut Noted<'_, W>) -> io::Result<()>
+    ensures { OnOk result (Appends (W.contents out.old.out.now) (W.contents out.new.out.now)
+        (line_end out.old.is_begun)) }
+{
+    if out.is_begun {
+        return out.write_all(b"\n");
+    }
+    Ok(())
+}
+
+/// Says how many rows aren't shown, if there are some.
+fn put_hidden<W: Write>(hidden: u64, out: &mut Noted<'_, W>) -> io::Result<()>
+    ensures { OnOk result (Appends (W.contents out.old.out.now) (W.contents out.new.out.now)
+        (hidden_line hidden)) }
+{
+    if hidden > 0 {
+        return writeln!(out, "… {hidden} rows more");
+    }
+    Ok(())
+}
+
 /// Says why a table wasn't printed. The writer says why it failed.
-fn failed<W: Write>(error: TableError, out: &mut W) -> Result<(), ViewError> {
+fn failed<W: Write>(error: TableError, out: &mut W) -> Result<(), ViewError>
+    ensures { IsFailed error result }
+{
     match (error, out.flush()) {
         (TableError::Writer, Err(error)) => unless_closed(Err(error)),
         (error, _) => Err(ViewError::Table(error)),
@@ -88,10 +128,19 @@ fn failed<W: Write>(error: TableError, out: &mut W) -> Result<(), ViewError> {
 }
 
 /// A reader that went away, as `head` does, is no error.
-fn unless_closed(written: io::Result<()>) -> Result<(), ViewError> {
+fn unless_closed(written: io::Result<()>) -> Result<(), ViewError>
+    ensures { IsWritten written result }
+{
     match written {
         Ok(()) => Ok(()),
-        Err(error) if error.kind() == io::ErrorKind::BrokenPipe => Ok(()),
+        Err(error) if is_closed(&error) => Ok(()),
         Err(error) => Err(ViewError::Output(error)),
     }
+}
+
+/// Whether a write failed because the reader went away.
+fn is_closed(error: &io::Error) -> bool
+    ensures { IsTrue result ↔ (error_kind error.now ≡ BrokenPipe) }
+{
+    matches!(error.kind(), io::ErrorKind::BrokenPipe)
 }

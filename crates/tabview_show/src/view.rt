@@ -1,6 +1,7 @@
 //! Shows rows: all that are read, or each as it is read.
+ghost use Rattle.std.specs.Prelude.{◌≡◌, if◌then◌else◌};
 
-use crate::asked::{style_of, wanted};
+use crate::asked::{measured, wanted};
 use crate::ending::{Noted, end, end_stream};
 use crate::error::ViewError;
 use std::alloc::Global;
@@ -10,7 +11,7 @@ use tabled_config::Style;
 use tabled_grid::IoSink;
 use tabled_records::TryRows;
 use tabview_options::{Choice, Options};
-use tabview_print::{Layout, print_expanded, print_stream, print_table};
+use tabview_print::{Layout, print_or_expand, print_stream, style_of};
 use tabview_read::{ReadError, Rows, Sheet, Stream};
 
 /// Prints the rows of a sheet, and how many aren't shown if that is asked for.
@@ -30,7 +31,9 @@ pub(crate) fn put_sheet<W: Write>(
 }
 
 /// Returns the count of the rows that aren't shown, 0 if that isn't asked for.
-fn hidden(choice: &Choice<'_>, sheet: &Sheet) -> u64 {
+fn hidden(choice: &Choice<'_>, sheet: &Sheet) -> u64
+    ensures { result ≡ (if choice.now.count then sheet.now.hidden else 0) }
+{
     if choice.count { sheet.hidden } else { 0 }
 }
 
@@ -41,12 +44,7 @@ fn print_sheet<W: Write>(
     sheet: &Sheet,
     out: &mut W,
 ) -> Result<(), TableError> {
-    let width = layout.width;
-    let mut sink = IoSink::new(out);
-    if !expand && print_table(alloc, &sheet.records, layout, &mut sink)? {
-        return Ok(());
-    }
-    print_expanded(alloc, &sheet.records, sheet.has_names, width, &mut sink)
+    print_or_expand(alloc, &sheet.records, layout, expand, &mut IoSink::new(out))
 }
 
 /// Prints rows as they are read, as wide as the first ones.
@@ -57,18 +55,12 @@ pub(crate) fn put_stream<T: Rows, W: Write>(
     out: &mut W,
 ) -> Result<(), ViewError> {
     let wanted = wanted(options);
-    let measured = measured(options, rows);
+    let measured = measured(options.stream, rows.names().is_some());
     let stream = Stream::new(alloc, &wanted, rows)?;
     let mut out = Noted::new(out);
     let style = style_of(options.look.style);
     let (printed, read) = print_rows(alloc, stream, style, measured, &mut out);
     end_stream(printed, read, &mut out)
-}
-
-/// Returns the count of the rows that are measured, with that of the names.
-fn measured<T: Rows>(options: &Options<'_>, rows: &T) -> usize {
-    let names = usize::from(rows.names().is_some());
-    options.stream.unwrap_or(usize::MAX).saturating_add(names)
 }
 
 fn print_rows<T: Rows, W: Write>(

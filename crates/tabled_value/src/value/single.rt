@@ -2,8 +2,9 @@
 ghost use Rattle.std.specs.Cow.{cow_str_bytes};
 ghost use Rattle.std.specs.Fmt.{signed_decimal};
 ghost use Rattle.std.specs.Prelude.{◌≡◌, ◌∷◌, [], IfErr, IfOk, codes, decimal, encode_utf8};
-ghost use Rattle.std.specs.Prelude.{if◌then◌else◌, length, map, string_bytes, vec_len};
+ghost use Rattle.std.specs.Prelude.{if◌then◌else◌, map, string_bytes, vec_len};
 ghost use Rattle.tabled_base.specs.declared.error.TableError.TheVariants.{Memory};
+ghost use Rattle.tabled_value.specs.Fields.{IsOneText};
 
 use super::Tabled;
 use crate::rows::{displayed, one_text, push_text};
@@ -370,9 +371,9 @@ impl Tabled for usize {
     }
 }
 
-/// Shown as `Display` shows it. The contract says only that it is one text.
+/// Shown as `Display` shows it. The contract says only that it is one text, in UTF-8.
 impl Tabled for f32 {
-    ghost shows = { λ _ row. length row ≡ 1 };
+    ghost shows = { λ _ row. IsOneText row };
 
     ghost names = { codes "f32" ∷ [] };
 
@@ -389,9 +390,9 @@ impl Tabled for f32 {
     }
 }
 
-/// Shown as `Display` shows it. The contract says only that it is one text.
+/// Shown as `Display` shows it. The contract says only that it is one text, in UTF-8.
 impl Tabled for f64 {
-    ghost shows = { λ _ row. length row ≡ 1 };
+    ghost shows = { λ _ row. IsOneText row };
 
     ghost names = { codes "f64" ∷ [] };
 

@@ -3,7 +3,7 @@ use Rattle.std.specs.Option.{is_some}
 use Rattle.tabled_entity.specs.Changes.{shared}
 use Rattle.tabled_set.specs.CellChanges.{if_wider, truncating}
 use Rattle.tabled_set.proofs.NarrowedCells.{rows-cut, shrunk-unpadded}
-use Rattle.tabled_set.proofs.NarrowingTables.{are-shrunk, at-none, at-some, early-found, if-err, narrows-fitting, narrows-shrunk}
+use Rattle.tabled_set.proofs.NarrowingTables.{are-shrunk, at-none, at-some, early-found, if-err, must-narrow, narrows-fitting, narrows-shrunk}
 use Rattle.tabled_set.proofs.narrowed_cells.cut_rows.Goals as goal
 
 pub returns-in_err-found-clause-err : goal.returns-in_err-found-clause-err
@@ -35,3 +35,6 @@ returns-clause-ok g c =
     (are-shrunk _ _ _ _ _ _ _ c.clear_height.new.self found h (c.clear_height.ensures.widths ∙ c.set_widths.ensures.widths) c.clear_height.ensures.heights) in
     let cut = rows-cut found.content.items c.args.option.transform.limit rows c.are_texts.ensures.utf8 in
     rw c.in_ok-cut.ensures.ok (narrows-shrunk _ _ _ _ _ _ _ _ _ _ shrunk cut)
+
+pub returns-clause-wider : goal.returns-clause-wider
+returns-clause-wider g c = must-narrow _ _ _ _ _ _ _ _ (at-some _ _ c.in-Some.found c.in-Some.is c.in_ok-found.ensures.some)

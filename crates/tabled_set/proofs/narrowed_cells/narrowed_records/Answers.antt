@@ -1,6 +1,6 @@
 use Rattle.tabled_set.proofs.Names.{◌∙◌}
 use Rattle.tabled_set.specs.CellChanges.{if_taken}
-use Rattle.tabled_set.proofs.NarrowingTables.{are-shrunk, at-none, at-some, early-found, if-err, narrows-fitting, narrows-shrunk}
+use Rattle.tabled_set.proofs.NarrowingTables.{are-shrunk, at-none, at-some, early-found, if-err, must-narrow, narrows-fitting, narrows-shrunk}
 use Rattle.tabled_set.proofs.narrowed_cells.narrowed_records.Goals as goal
 
 pub returns-in_err-found-clause-err : goal.returns-in_err-found-clause-err
@@ -27,3 +27,6 @@ returns-clause-ok g c =
     narrows-shrunk _ _ _ _ _ _ _ _ _ _
     (are-shrunk _ _ _ _ _ _ _ c.clear_height.new.self found h (c.clear_height.ensures.widths ∙ c.set_widths.ensures.widths) c.clear_height.ensures.heights)
     c.in_ok-changed.ensures.ok
+
+pub returns-clause-wider : goal.returns-clause-wider
+returns-clause-wider g c = must-narrow _ _ _ _ _ _ _ _ (at-some _ _ c.in-Some.found c.in-Some.is c.in_ok-found.ensures.some)

@@ -3,7 +3,7 @@ use Rattle.std.specs.Option.{is_some}
 use Rattle.tabled_entity.specs.Changes.{shared}
 use Rattle.tabled_set.specs.CellChanges.{wrapping}
 use Rattle.tabled_set.proofs.NarrowedCells.{rows-wrapped, shrunk-unpadded}
-use Rattle.tabled_set.proofs.NarrowingTables.{are-shrunk, at-none, at-some, early-found, if-err, narrows-fitting, narrows-shrunk}
+use Rattle.tabled_set.proofs.NarrowingTables.{are-shrunk, at-none, at-some, early-found, if-err, must-narrow, narrows-fitting, narrows-shrunk}
 use Rattle.tabled_set.proofs.narrowed_cells.wrapped_rows.Goals as goal
 
 pub returns-in_err-found-clause-err : goal.returns-in_err-found-clause-err
@@ -35,3 +35,6 @@ returns-clause-ok g c =
     (are-shrunk _ _ _ _ _ _ _ c.clear_height.new.self found h (c.clear_height.ensures.widths ∙ c.set_widths.ensures.widths) c.clear_height.ensures.heights) in
     let wrapped = rows-wrapped c.args.option.transform.keep_words found.content.items rows c.are_texts.ensures.utf8 in
     rw c.in_ok-wrapped.ensures.ok (narrows-shrunk _ _ _ _ _ _ _ _ _ _ shrunk wrapped)
+
+pub returns-clause-wider : goal.returns-clause-wider
+returns-clause-wider g c = must-narrow _ _ _ _ _ _ _ _ (at-some _ _ c.in-Some.found c.in-Some.is c.in_ok-found.ensures.some)

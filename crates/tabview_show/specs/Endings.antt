@@ -1,0 +1,36 @@
+-- The end of the output, and its errors.
+use Rattle.std.specs.Prelude.{◌≡◌, ◌≢◌, ◌⊎◌, ℕ, ◌++◌, ◌==◌, Bool, List, [], ◌∷◌, Result, Ok, Err, codes, decimal, if◌then◌else◌}
+use Rattle.std.specs.IoError.{error_kind}
+use Rattle.std.specs.declared.io.Error.{Error}
+use Rattle.std.specs.declared.io.ErrorKind.TheVariants.{BrokenPipe}
+use Rattle.tabled_base.specs.declared.error.TableError.{TableError}
+use Rattle.tabled_base.specs.declared.error.TableError.TheVariants.{Writer}
+use Rattle.tabview_show.specs.declared.error.ViewError.{ViewError}
+use Rattle.tabview_show.specs.declared.error.ViewError.TheVariants.{Output, Table}
+
+-- a line feed, if something was printed
+abbrev pub line_end : Bool → List ℕ
+line_end begun = if begun then 10 ∷ [] else []
+
+-- `… 12 rows more`, if rows aren't shown
+abbrev pub hidden_line : ℕ → List ℕ
+hidden_line hidden =
+    if hidden == 0 then [] else (0xE2 ∷ 0x80 ∷ 0xA6 ∷ 32 ∷ []) ++ decimal hidden ++ codes " rows more\n"
+
+-- what ends the output
+abbrev pub end_of : Bool → ℕ → List ℕ
+end_of begun hidden = line_end begun ++ hidden_line hidden
+
+-- a failed write is an error, unless the reader went away
+pub record FailsBy (error : Error) (result : Result Unit ViewError) : Type 0 where
+  pub closed : error_kind error ≡ BrokenPipe → result ≡ Ok tt
+  pub other : error_kind error ≢ BrokenPipe → result ≡ Err (Output error)
+
+-- what a write returns, and what is returned for it
+abbrev pub IsWritten : Result Unit Error → Result Unit ViewError → Type 0
+IsWritten (Ok done) result = result ≡ Ok tt
+IsWritten (Err error) result = FailsBy error result
+
+-- why a table isn't printed: where the writer failed, it may say why itself
+abbrev pub IsFailed : TableError → Result Unit ViewError → Type 0
+IsFailed error result = (result ≡ Err (Table error)) ⊎ ((error ≡ Writer) × ((cause : Error) × FailsBy cause result))
