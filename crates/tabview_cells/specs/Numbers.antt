@@ -31,13 +31,13 @@ skip_fraction [] = []
 skip_fraction (c ∷ cs) = if c == 46 && begins_with_digit cs then skip_digits cs else c ∷ cs
 
 -- digits alone, at least one
-abbrev pub is_power : List ℕ → Bool
-is_power text = begins_with_digit text && (length (skip_digits text) == 0)
+abbrev pub is_digits : List ℕ → Bool
+is_digits text = begins_with_digit text && (length (skip_digits text) == 0)
 
 -- nothing, `%`, or an exponent: `e` or `E`, a sign or none, and digits
 abbrev pub is_suffix : List ℕ → Bool
 is_suffix [] = true
-is_suffix (c ∷ cs) = if c == 37 then length cs == 0 else (((c == 101) || (c == 69)) && is_power (skip_sign cs))
+is_suffix (c ∷ cs) = if c == 37 then length cs == 0 else (((c == 101) || (c == 69)) && is_digits (skip_sign cs))
 
 -- a sign or none, digits that commas may group, a fraction or none, and then a suffix
 abbrev pub is_number : List ℕ → Bool

@@ -1,12 +1,13 @@
 //! The cells that are shown of a row.
-ghost use Rattle.csv.specs.Records.{fields_of};
+ghost use Rattle.csv.specs.Records.{fields_of, text_of};
 ghost use Rattle.std.specs.Prelude.{◌≡◌, IfErr, IfOk, OnErr, OnOk, map, string_bytes, true};
 ghost use Rattle.tabled_base.specs.declared.error.TableError.TheVariants.{Memory};
 ghost use Rattle.tabled_records.specs.Joined.{with_text};
 ghost use Rattle.tabview_cells.specs.Choice.{shown_cell, shown_text, with_texts};
-ghost use Rattle.tabview_cells.specs.Printable.{is_printable};
+ghost use Rattle.tabview_cells.specs.Printable.{is_graphic, is_printable};
 
 use crate::escaping::{escape, escape_into};
+use crate::kinds::Kind;
 use crate::printable::is_printable;
 use csv::StringRecord;
 use std::alloc::{AllocError, Global};
@@ -55,6 +56,46 @@ pub fn push_chosen(
         push_shown(alloc, out, cell, shown, printable)?;
     }
     Ok(())
+}
+
+/// Adds the chosen cells of a row of printable ASCII, as `push_chosen` does, and takes each into the
+/// kind of its column. If the row is known to be `graphic`, its cells have no spaces. Error:
+/// `Memory`; the rows that are ended are unchanged then.
+pub fn push_joining(
+    out: &mut RecordsWriter,
+    row: &StringRecord,
+    columns: &[usize],
+    kinds: &mut [Kind],
+    graphic: bool,
+) -> Result<(), TableError>
+    requires printable { is_printable (text_of row.now) ≡ true }
+    requires graphic { graphic ≡ true → is_graphic (text_of row.now) ≡ true }
+    ensures ok { (shown : Shown) → OnOk result (out.new
+        ≡ with_texts out.old (map (shown_cell shown (fields_of row.now)) columns.now)) }
+    ensures ended { out.new.rows ≡ out.old.rows }
+    ensures only { IfErr result (λ e. e ≡ Memory) }
+{
+    for index in 0..columns.len() {
+        let cell = row.get(columns[index]).unwrap_or("");
+        join(kinds, index, cell, graphic);
+        out.push(cell, cell.len(), 1)?;
+    }
+    Ok(())
+}
+
+/// Takes a cell into the kind of its column, if the column has one. A `graphic` cell has no spaces.
+#[inline(always)]
+fn join(kinds: &mut [Kind], column: usize, cell: &str, graphic: bool)
+    requires { graphic ≡ true → is_graphic cell.now ≡ true }
+{
+    if column >= kinds.len() {
+        return;
+    }
+    kinds[column] = if graphic {
+        kinds[column].with_graphic(cell)
+    } else {
+        kinds[column].with_cell(cell)
+    };
 }
 
 /// Whether a cell is printable ASCII. If that is `known`, the cell isn't read.

@@ -4,11 +4,11 @@ ghost use Rattle.std.specs.Char.{is_whitespace};
 ghost use Rattle.std.specs.List.{list_any};
 ghost use Rattle.std.specs.Prelude.{◌≡◌, chars, length, nat_le, true};
 ghost use Rattle.tabview_cells.specs.Kinds.{is_code, joined, keeps_width, kind_of};
-ghost use Rattle.tabview_cells.specs.Printable.{is_graphic};
+ghost use Rattle.tabview_cells.specs.Printable.{is_graphic, is_printable};
 
 use crate::dates::is_date;
-use crate::numbers::is_number;
-use crate::printable::is_graphic;
+use crate::numbers::{is_digits, is_number};
+use crate::printable::{is_graphic, is_printable};
 use csv::StringRecord;
 use tabled_text::text_width;
 
@@ -84,7 +84,9 @@ impl Kind {
         ensures { result ≡ joined self (kind_of cell.now) }
     {
         match self {
+            Kind::Text => Kind::Text,
             Kind::Code if is_short(cell) => Kind::Code,
+            Kind::Number if is_digits(cell.as_bytes()) => Kind::Number,
             kind => kind.with_cell(cell),
         }
     }
@@ -102,6 +104,13 @@ pub fn is_graphic_row(row: &StringRecord) -> bool
     ensures { result ≡ is_graphic (text_of row.now) }
 {
     is_graphic(row.as_byte_record().as_slice())
+}
+
+/// Whether all cells of a row are printable ASCII.
+pub fn is_printable_row(row: &StringRecord) -> bool
+    ensures { result ≡ is_printable (text_of row.now) }
+{
+    is_printable(row.as_byte_record().as_slice())
 }
 
 /// Whether a cell is a word of at most 12 columns.

@@ -1,6 +1,6 @@
 //! Decimal numbers.
 ghost use Rattle.std.specs.Prelude.{◌≡◌};
-ghost use Rattle.tabview_cells.specs.Numbers.{begins_with_digit, is_number, is_power, is_suffix};
+ghost use Rattle.tabview_cells.specs.Numbers.{begins_with_digit, is_number, is_digits, is_suffix};
 ghost use Rattle.tabview_cells.specs.Numbers.{skip_digits, skip_fraction, skip_sign, skip_whole};
 
 /// Whether a text is a decimal number: digits, which commas may group, with a sign, a fraction, an
@@ -89,12 +89,12 @@ fn is_suffix(text: &[u8]) -> bool
     if *first == b'%' {
         return rest.is_empty();
     }
-    (*first == b'e' || *first == b'E') && is_power(skip_sign(rest))
+    (*first == b'e' || *first == b'E') && is_digits(skip_sign(rest))
 }
 
 /// Whether a text is digits alone, at least one.
-fn is_power(text: &[u8]) -> bool
-    ensures { result ≡ is_power text.now }
+pub(crate) fn is_digits(text: &[u8]) -> bool
+    ensures { result ≡ is_digits text.now }
 {
     begins_with_digit(text) && skip_digits(text).is_empty()
 }
