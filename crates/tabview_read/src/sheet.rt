@@ -1,9 +1,12 @@
 //! The rows that are shown.
-ghost use Rattle.csv.specs.Records.{fields_of};
-ghost use Rattle.std.specs.Prelude.{◌≡◌, ◌++◌, [], IfOk, List, OnOk, decimal, map, string_bytes};
+ghost use Rattle.csv.specs.Records.{fields_of, text_of};
+ghost use Rattle.std.specs.Prelude.{◌≡◌, ◌==◌, ◌&&◌, ◌++◌, [], IfOk, List, OnOk, decimal, length};
+ghost use Rattle.std.specs.Prelude.{map, string_bytes, true};
 ghost use Rattle.tabled_base.specs.Cells.{lengthened_rows};
 ghost use Rattle.tabled_records.specs.Joined.{with_row_ended};
-ghost use Rattle.tabview_cells.specs.Choice.{with_texts};
+ghost use Rattle.tabview_cells.specs.Choice.{shown_cell, with_texts};
+ghost use Rattle.tabview_cells.specs.Printable.{is_printable};
+ghost use Rattle.tabview_cells.specs.declared.choice.Shown.{Shown};
 ghost use Rattle.tabview_read.specs.Sheets.{HasLines, IsWidened, Line, name_lines, row_line};
 ghost use Rattle.tabview_read.specs.Shown.{number_of, shown_cells, texts_of};
 ghost use Rattle.tabview_read.specs.declared.sheet.Wanted.{Wanted};
@@ -16,7 +19,9 @@ use std::alloc::{AllocError, Global};
 use std::collections::VecDeque;
 use tabled_base::TableError;
 use tabled_records::{JoinedRecords, RecordsWriter};
-use tabview_cells::{Kind, Shown, push_cell, push_chosen};
+use tabview_cells::{
+    Kind, Shown, is_graphic_row, is_printable_row, push_cell, push_chosen, push_joining,
+};
 
 /// Which rows and columns are shown, and how.
 #[derive(Drop)]
@@ -127,6 +132,45 @@ impl<'a> Collector<'a> {
         ensures columns { self.new.chosen.columns.items ≡ self.old.chosen.columns.items }
         ensures wanted { self.new.wanted ≡ self.old.wanted }
     {
+        if self.is_joinable(row) {
+            self.write_joining(&row.cells, number)?;
+            return Ok(());
+        }
+        self.write_apart(row, number)
+    }
+
+    /// Whether the cells of a row are printable ASCII, none is null, and none is compared with a
+    /// text that doesn't count.
+    fn is_joinable(&self, row: &Row) -> bool
+        ensures { result ≡ ((length row.now.nulls.items == 0)
+            && ((length self.now.wanted.now.blank.now == 0)
+            && is_printable (text_of row.now.cells))) }
+    {
+        row.has_no_null() && self.wanted.blank.is_empty() && is_printable_row(&row.cells)
+    }
+
+    /// Writes a row of printable ASCII, and takes its cells into the kinds of their columns.
+    fn write_joining(&mut self, cells: &StringRecord, number: u64) -> Result<(), TableError>
+        requires { is_printable (text_of cells.now) ≡ true }
+        ensures texts { let w = self.old.wanted.now in OnOk result (self.new.writer
+            ≡ with_row_ended (with_texts self.old.writer (texts_of w.numbers (decimal number)
+            w.shown (fields_of cells.now) self.old.chosen.columns.items))) }
+        ensures columns { self.new.chosen.columns.items ≡ self.old.chosen.columns.items }
+        ensures wanted { self.new.wanted ≡ self.old.wanted }
+    {
+        push_row_number(self.alloc, &mut self.writer, self.wanted.numbers, number)?;
+        push_cells(&mut self.writer, &mut self.chosen, cells)?;
+        self.writer.end_row()
+    }
+
+    /// Writes a row, and takes its cells into the kinds of their columns beforehand.
+    fn write_apart(&mut self, row: &Row, number: u64) -> Result<(), ReadError>
+        ensures texts { let w = self.old.wanted.now in OnOk result (self.new.writer
+            ≡ with_row_ended (with_texts self.old.writer (texts_of w.numbers (decimal number)
+            w.shown (shown_cells w.null.now row.now) self.old.chosen.columns.items))) }
+        ensures columns { self.new.chosen.columns.items ≡ self.old.chosen.columns.items }
+        ensures wanted { self.new.wanted ≡ self.old.wanted }
+    {
         self.chosen.join_kinds(row, self.wanted.blank);
         let text = number_text(self.alloc, self.wanted.numbers, number)?;
         if row.has_no_null() {
@@ -198,4 +242,38 @@ fn push_number(writer: &mut RecordsWriter, numbers: bool, number: &str) -> Resul
         push_cell(writer, number)?;
     }
     Ok(())
+}
+
+/// Adds the number of a row, from 1, if rows have one.
+fn push_row_number(
+    alloc: Global,
+    writer: &mut RecordsWriter,
+    numbers: bool,
+    number: u64,
+) -> Result<(), TableError>
+    ensures { OnOk result (writer.new
+        ≡ with_texts writer.old (number_of numbers (decimal number))) }
+{
+    if numbers {
+        push_cell(writer, &format!(in alloc; "{number}")?)?;
+    }
+    Ok(())
+}
+
+/// Adds the chosen cells of a row of printable ASCII, and takes them into the kinds of their
+/// columns.
+fn push_cells(
+    writer: &mut RecordsWriter,
+    chosen: &mut Chosen<'_>,
+    cells: &StringRecord,
+) -> Result<(), TableError>
+    requires { is_printable (text_of cells.now) ≡ true }
+    ensures texts { (shown : Shown) → OnOk result (writer.new ≡ with_texts writer.old
+        (map (shown_cell shown (fields_of cells.now)) chosen.old.columns.items)) }
+    ensures columns { chosen.new.columns.items ≡ chosen.old.columns.items }
+{
+    let graphic = is_graphic_row(cells);
+    let columns = chosen.columns.as_slice();
+    let kinds = chosen.kinds.as_mut_slice();
+    push_joining(writer, cells, columns, kinds, graphic)
 }

@@ -4,7 +4,7 @@ use Rattle.tabled_records.specs.Joined.{with_row_ended}
 use Rattle.tabview_cells.specs.Choice.{with_texts}
 use Rattle.tabview_read.proofs.ShownCells.{shown_all, texts-same}
 use Rattle.tabview_read.specs.Shown.{number_of, shown_cells, texts_of}
-use Rattle.tabview_read.proofs.sheet.Collector.write_row.Goals as goal
+use Rattle.tabview_read.proofs.sheet.Collector.write_apart.Goals as goal
 
 pub returns-then-has_no_null-clause-texts : goal.returns-then-has_no_null-clause-texts
 returns-then-has_no_null-clause-texts c =
