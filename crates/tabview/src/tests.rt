@@ -87,7 +87,7 @@ static TABLES: [Run; 9] = [
 
 const GATE: &str = "id,remark\n1234567890,the east gate\n";
 
-static WIDTHS: [Run; 4] = [
+static WIDTHS: [Run; 5] = [
     Run {
         words: &["tabview", "-s", "markdown", "-w", "24", "--wrap"],
         input: GATE,
@@ -115,6 +115,47 @@ static WIDTHS: [Run; 4] = [
         words: &["tabview", "--stream", "1", "-s", "psql", "-n"],
         input: "id,name\n1,Oslo\n2,Thiruvananthapuram\n",
         shown: " # | id | name \n 1 | 1  | Oslo \n 2 | 2  | Thi… \n",
+    },
+    // the names alone are measured
+    Run {
+        words: &["tabview", "--stream", "0", "-s", "psql", "-n"],
+        input: "id,name\n1,Vaduz\n",
+        shown: " # | id | name \n 1 | 1  | Vad… \n",
+    },
+];
+
+/// The ending of a path comes before the first bytes of the input.
+static ENDINGS: [Run; 6] = [
+    Run {
+        words: &["tabview", "-s", "markdown", "a.json.csv"],
+        input: "[a],b\nx,1\n",
+        shown: "| [a] | b |\n|-----|---|\n| x   | 1 |\n",
+    },
+    Run {
+        words: &["tabview", "-s", "markdown", "a.tsv"],
+        input: "a,b\tc\nx,y\t3\n",
+        shown: "| a,b | c |\n|-----|---|\n| x,y | 3 |\n",
+    },
+    Run {
+        words: &["tabview", "-s", "markdown", "a.ndjson"],
+        input: "[1,2]\n[3,4]\n",
+        shown: "| 1 | 2 |\n|---|---|\n| 3 | 4 |\n",
+    },
+    Run {
+        words: &["tabview", "a.sqlite3"],
+        input: "a,b\n",
+        shown: "a database",
+    },
+    // no ending, and one that is no format
+    Run {
+        words: &["tabview", "-s", "markdown", "a.csv/b"],
+        input: "[[\"a\"],[\"b\"]]",
+        shown: "| a |\n|---|\n| b |\n",
+    },
+    Run {
+        words: &["tabview", "-s", "markdown", "csv"],
+        input: "[[\"a\"],[\"b\"]]",
+        shown: "| a |\n|---|\n| b |\n",
     },
 ];
 
@@ -355,6 +396,11 @@ fn tables_are_shown(rt: HostRuntime) -> Result<(), Fail> {
 #[test]
 fn tables_fit_a_width(rt: HostRuntime) -> Result<(), Fail> {
     check_runs(&rt, &WIDTHS)
+}
+
+#[test]
+fn endings_name_formats(rt: HostRuntime) -> Result<(), Fail> {
+    check_runs(&rt, &ENDINGS)
 }
 
 #[test]

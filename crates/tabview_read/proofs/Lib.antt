@@ -1,4 +1,5 @@
 pub mod AddedCells
+pub mod CsvRecords
 pub mod Lines
 pub mod Parts
 pub mod Selected

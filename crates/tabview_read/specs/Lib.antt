@@ -4,3 +4,4 @@ pub mod Cells
 pub mod Selection
 pub mod Sheets
 pub mod Shown
+pub mod Csv

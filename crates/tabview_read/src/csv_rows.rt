@@ -1,4 +1,8 @@
 //! Rows of comma- or tab-separated values.
+ghost use Rattle.csv.specs.Records.{fields_of};
+ghost use Rattle.std.specs.Prelude.{◌≡◌, IfOk, OnOk, map, option_map};
+ghost use Rattle.std.specs.Str.Lossy.{utf8_lossy};
+ghost use Rattle.tabview_read.specs.Csv.{BeginsCsv, CsvGives, IsPlain, ReadsCells, ReadsFields, ReadsLossy};
 
 use crate::error::ReadError;
 use crate::row::{Row, Rows};
@@ -41,25 +45,37 @@ impl<R: Read + Drop> Drop for CsvRows<R> {
 
 impl<R: Read + Drop> CsvRows<R> {
     /// Begins to read. The first record is read if it has the names.
-    pub fn new(alloc: Global, options: CsvOptions, input: R) -> Result<CsvRows<R>, ReadError> {
-        let mut builder = ReaderBuilder::new();
-        builder
-            .has_headers(false)
-            .flexible(options.fill)
-            .delimiter(options.delimiter);
-        let mut rows = CsvRows {
-            alloc,
-            reader: builder.from_reader(alloc, input),
-            names: None,
-            bytes: options.lossy.then(|| ByteRecord::new(alloc)),
-        };
+    pub fn new(alloc: Global, options: CsvOptions, input: R) -> Result<CsvRows<R>, ReadError>
+        ensures { IfOk result (λ rows. IsPlain rows.reader) }
+    {
+        let mut rows = CsvRows::begin(alloc, options, input);
         if options.has_header {
             rows.read_names()?;
         }
         Ok(rows)
     }
 
-    fn read_names(&mut self) -> Result<(), ReadError> {
+    /// Begins before the first record.
+    fn begin(alloc: Global, options: CsvOptions, input: R) -> CsvRows<R>
+        ensures { BeginsCsv R.remaining options input result }
+    {
+        let mut builder = ReaderBuilder::new();
+        CsvRows {
+            alloc,
+            reader: builder
+                .has_headers(false)
+                .flexible(options.fill)
+                .delimiter(options.delimiter)
+                .from_reader(alloc, input),
+            names: None,
+            bytes: options.lossy.then(|| ByteRecord::new(alloc)),
+        }
+    }
+
+    /// Takes the names of the columns from the first record, if there is one.
+    fn read_names(&mut self) -> Result<(), ReadError>
+        ensures { IsPlain self.old.reader → OnOk result (IsPlain self.new.reader) }
+    {
         let mut names = StringRecord::new(self.alloc);
         if self.read_cells(&mut names)? {
             self.names = Some(names);
@@ -67,38 +83,71 @@ impl<R: Read + Drop> CsvRows<R> {
         Ok(())
     }
 
-    fn read_cells(&mut self, cells: &mut StringRecord) -> Result<bool, ReadError> {
-        let found = match &mut self.bytes {
-            None => self.reader.read_record(cells),
-            Some(bytes) => self.reader.read_byte_record(bytes),
-        };
-        match (found, &self.bytes) {
-            (Ok(true), Some(bytes)) => {
-                put_lossy(self.alloc, bytes, cells)?;
-                Ok(true)
-            }
-            (Ok(found), _) => Ok(found),
-            (Err(error), _) => Err(read_error(error)),
+    /// Reads the cells of the next record, and returns whether there is one.
+    #[tactic(auto, using(crate::proofs::CsvRecords::cells_text, crate::proofs::CsvRecords::cells_lossy))]
+    fn read_cells(&mut self, cells: &mut StringRecord) -> Result<bool, ReadError>
+        ensures { IfOk result (λ found. IsPlain self.old.reader → ReadsCells R.remaining self.old
+            found (fields_of cells.new) self.new) }
+    {
+        match &mut self.bytes {
+            None => read_text(&mut self.reader, cells),
+            Some(bytes) => read_lossy(self.alloc, &mut self.reader, bytes, cells),
         }
     }
 }
 
+/// Reads the next record, and returns whether there is one.
+#[tactic(auto, using(crate::proofs::CsvRecords::reads_fields))]
+fn read_text<R: Read>(reader: &mut Reader<R>, cells: &mut StringRecord) -> Result<bool, ReadError>
+    ensures { IfOk result (λ found. IsPlain reader.old
+        → ReadsFields R.remaining reader.old found (fields_of cells.new) reader.new) }
+{
+    match reader.read_record(cells) {
+        Ok(found) => Ok(found),
+        Err(error) => Err(read_error(error)),
+    }
+}
+
+/// Reads the next record with U+FFFD for invalid UTF-8, and returns whether there is one.
+#[tactic(auto, using(crate::proofs::CsvRecords::reads_lossy, crate::proofs::CsvRecords::reads_none))]
+fn read_lossy<R: Read>(
+    alloc: Global,
+    reader: &mut Reader<R>,
+    bytes: &mut ByteRecord,
+    cells: &mut StringRecord,
+) -> Result<bool, ReadError>
+    ensures { IfOk result (λ found. IsPlain reader.old
+        → ReadsLossy R.remaining reader.old found (fields_of cells.new) reader.new) }
+{
+    match reader.read_byte_record(bytes) {
+        Ok(true) => {
+            put_lossy(alloc, bytes, cells)?;
+            Ok(true)
+        }
+        Ok(false) => Ok(false),
+        Err(error) => Err(read_error(error)),
+    }
+}
+
 impl<R: Read + Drop> Rows for CsvRows<R> {
+    ghost names_give = { λ s names. names ≡ option_map fields_of s.names };
+
+    ghost read_gives = { λ from row to. IsPlain from.reader → CsvGives R.remaining from row to };
+
     fn names(&self) -> Option<&StringRecord> {
         self.names.as_ref()
     }
 
     fn read(&mut self, row: &mut Row) -> Result<bool, ReadError> {
+        row.nulls.clear();
         self.read_cells(&mut row.cells)
     }
 }
 
 /// Puts the cells of a record of bytes, with U+FFFD for invalid UTF-8.
-fn put_lossy(
-    alloc: Global,
-    bytes: &ByteRecord,
-    cells: &mut StringRecord,
-) -> Result<(), AllocError> {
+fn put_lossy(alloc: Global, bytes: &ByteRecord, cells: &mut StringRecord) -> Result<(), AllocError>
+    ensures { OnOk result (fields_of cells.new ≡ map utf8_lossy (fields_of bytes.now)) }
+{
     cells.clear();
     for field in bytes {
         cells.push_field(&String::from_utf8_lossy(alloc, field)?)?;

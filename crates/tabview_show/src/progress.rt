@@ -1,4 +1,5 @@
 //! How far reading is.
+ghost use Rattle.std.specs.Prelude.{◌≡◌};
 
 use csv::StringRecord;
 use std::rt::Clock;
@@ -30,7 +31,10 @@ impl<T: Rows, R: Clock + Eprint> Drop for Progress<'_, T, R> {
 }
 
 impl<'a, T: Rows, R: Clock + Eprint> Progress<'a, T, R> {
-    pub fn new(rt: &'a R, rows: &'a mut T) -> Progress<'a, T, R> {
+    pub fn new(rt: &'a R, rows: &'a mut T) -> Progress<'a, T, R>
+        ensures same_reference { result.rows.ghost_name ≡ rows.entry.ghost_name }
+        ensures rows { result.rows.now ≡ rows.old }
+    {
         Progress {
             rows,
             rt,
@@ -40,7 +44,11 @@ impl<'a, T: Rows, R: Clock + Eprint> Progress<'a, T, R> {
         }
     }
 
-    fn show(&mut self) {
+    /// Shows the count, if reading has taken more than two seconds.
+    fn show(&mut self)
+        ensures same_reference { self.new.rows.ghost_name ≡ self.old.rows.ghost_name }
+        ensures rows { self.new.rows.now ≡ self.old.rows.now }
+    {
         let Some(start) = self.start else {
             return;
         };
@@ -54,7 +62,10 @@ impl<'a, T: Rows, R: Clock + Eprint> Progress<'a, T, R> {
     }
 
     /// Takes the count away.
-    pub fn clear(&mut self) {
+    pub fn clear(&mut self)
+        ensures same_reference { self.new.rows.ghost_name ≡ self.old.rows.ghost_name }
+        ensures rows { self.new.rows.now ≡ self.old.rows.now }
+    {
         if self.is_shown {
             self.is_shown = false;
             let _cleared = eprint!(self.rt; "\r\u{1b}[K");
@@ -63,6 +74,10 @@ impl<'a, T: Rows, R: Clock + Eprint> Progress<'a, T, R> {
 }
 
 impl<T: Rows, R: Clock + Eprint> Rows for Progress<'_, T, R> {
+    ghost names_give = { λ s names. T.Rows.names_give s.rows.now names };
+
+    ghost read_gives = { λ from row to. T.Rows.read_gives from.rows.now row to.rows.now };
+
     fn names(&self) -> Option<&StringRecord> {
         self.rows.names()
     }
