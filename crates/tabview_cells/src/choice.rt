@@ -58,8 +58,8 @@ pub fn push_chosen(
     Ok(())
 }
 
-/// Adds the chosen cells of a row of printable ASCII, as `push_chosen` does, and takes each into the
-/// kind of its column. If the row is known to be `graphic`, its cells have no spaces. Error:
+/// Adds the chosen cells of a row of printable ASCII, as `push_chosen` does, and joins each with
+/// the kind of its column. If the row is known to be `graphic`, its cells have no spaces. Error:
 /// `Memory`; the rows that are ended are unchanged then.
 pub fn push_joining(
     out: &mut RecordsWriter,
