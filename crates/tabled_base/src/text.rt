@@ -7,6 +7,7 @@ ghost use Rattle.std.specs.Prelude.{◌+◌, ◌-◌, ◌<◌, ◌^◌, ◌≡�
 ghost use Rattle.std.specs.Str.{IsCharBoundary};
 ghost use Rattle.tabled_base.specs.ShortOr.{FitsBehind, IsMeasured, bytes_of};
 ghost use Rattle.tabled_base.specs.ShortOr.{columns_in, lines_in};
+ghost use Rattle.tabled_text.specs.Measure.{lines_of, text_columns};
 ghost use Rattle.tabled_base.specs.declared.error.TableError.TheVariants.{Memory};
 
 use crate::error::TableError;
@@ -58,19 +59,40 @@ impl<S: AsStr> CellText for Text<S> {
 
     #[inline(always)]
     fn width(&self) -> usize {
-        match self.text.columns() {
-            u32::MAX => text_width(self.text()),
-            columns => columns as usize,
+        let columns = self.text.columns();
+        if columns < u32::MAX {
+            columns as usize
+        } else {
+            many_columns(self.text())
         }
     }
 
     #[inline(always)]
     fn count_lines(&self) -> usize {
-        match self.text.lines() {
-            u16::MAX => count_lines(self.text()),
-            lines => lines as usize,
+        let lines = self.text.lines();
+        if lines < u16::MAX {
+            lines as usize
+        } else {
+            many_lines(self.text())
         }
     }
+}
+
+/// Measures a text of more columns than 32 bits hold. As a function of its own it keeps `width`
+/// short.
+#[inline(never)]
+fn many_columns(text: &str) -> usize
+    ensures { result ≡ text_columns text.now }
+{
+    text_width(text)
+}
+
+/// Counts the lines of a text that has more than 16 bits hold.
+#[inline(never)]
+fn many_lines(text: &str) -> usize
+    ensures { result ≡ length (lines_of text.now) }
+{
+    count_lines(text)
 }
 
 impl Text<String> {

@@ -12,8 +12,8 @@ returns-in_err-reserve_rows-clause-unequal c =
     c.longest_row-columns.ensures ∙ ap (λ l. longest (row_texts l)) c.as_slice.ensures.value in
     on-err c.from_residual.result (λ equal. c.in_err-reserve_rows.ensures.short (rw (most, same) (rectangular-longest rows equal)))
 
-pub invariant_of-result : goal.invariant_of-result
-invariant_of-result c =
+pub new-records-requires : goal.new-records-requires
+new-records-requires c =
     let old = c.args.rows.items in
     let first = c.as_mut_slice-all.result.now in
     let new = c.lengthen_rows.new.rows in
