@@ -1,6 +1,6 @@
 -- Records as they are stored, seen as rows of texts.
 use Rattle.tabled_base.proofs.Names.{Global, IsRectangular, List, Vec, [], ap, arith, columns, length, length-map, map, refl, subst, sym, zero, ℕ}
-use Rattle.tabled_base.proofs.Names.{drop, map-set, set, slice_index_or, take, with_cell, ◌+◌, ◌<◌, ◌∙◌, ◌≡◌, ◌≤◌}
+use Rattle.tabled_base.proofs.Names.{drop, map-set, set, texts_of, slice_index_or, take, with_cell, ◌+◌, ◌<◌, ◌∙◌, ◌≡◌, ◌≤◌}
 use Rattle.std.proofs.Common.{length-set, get_or-drop, get_or-take}
 use Rattle.std.proofs.Common.{◌*◌}
 use Rattle.tabled_base.specs.Cells.{IsInside, cell_at}
@@ -110,7 +110,17 @@ listed-cell {f = f} {cells = cells} {c = c} {n = n} {all = all} i j d l inside =
     let within : j < c = omega (arith, column, wide) in
     let texts = map f cells.items in
     sym (get_or-map f cells.items (i * c + j) d [] (listed-place i j l inside))
-    ∙ sym (get_or-drop texts (i * c) j [])
-    ∙ sym (get_or-take (drop (i * c) texts) c j [] within)
+    ∙ sym (get_or-drop (i * c) texts j [])
+    ∙ sym (get_or-take c (drop (i * c) texts) j [] within)
     ∙ ap (λ r. slice_index_or r j []) (sym (in_rows-row n c texts i [] there))
     ∙ ap (λ a. cell_at a i j) l.view
+
+-- ---- rows in vectors
+
+pub rowed-view : {T : Type 0} (f : T → List ℕ) (s : Stored T) (rows : Vec (Vec T Global) Global) (all : List (List (List ℕ)))
+    → s ≡ InRows rows → stored_texts f s ≡ all → texts_of f rows.items ≡ all
+rowed-view f s rows all e view = sym (ap (stored_texts f) e) ∙ view
+
+pub rowed-whole : {T : Type 0} (f : T → List ℕ) (s : Stored T) (rows : Vec (Vec T Global) Global)
+    → s ≡ InRows rows → IsWhole f s → IsRectangular (texts_of f rows.items)
+rowed-whole f s rows e whole = subst (IsWhole f) e whole

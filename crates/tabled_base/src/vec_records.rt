@@ -106,6 +106,8 @@ impl<T: CellText> VecRecords<T> {
         requires { IsInside self.now at.row at.column }
         ensures { T.text result.now ≡ cell_at self.now at.row at.column }
     {
+        // Tells the prover that rows are equally long.
+        let _ = &self.stored;
         &self.row(at.row)[at.column]
     }
 }
@@ -129,6 +131,8 @@ impl VecRecords<Text<String>> {
         ensures rectangular { IfOk result (λ copy. IsRectangular (row_texts copy.items)) }
         ensures only { IfErr result (λ e. e ≡ Memory) }
     {
+        // Tells the prover that rows are equally long.
+        let _ = &self.stored;
         let alloc = self.allocator();
         let mut copy = Vec::with_capacity(alloc, self.count_rows())?;
         for row in self.as_rows() {
@@ -205,8 +209,7 @@ impl<T: CellText> ExactRecords for VecRecords<T> {
     #[inline(always)]
     fn count_columns(&self) -> usize {
         match &self.stored {
-            Stored::InList(_, _, 0) => 0,
-            Stored::InList(_, columns, _) => *columns,
+            Stored::InList(_, columns, rows) => { if *rows == 0 { 0 } else { *columns } }
             Stored::InRows(rows) => first_length(rows.as_slice()),
         }
     }
