@@ -1,7 +1,7 @@
 -- The cells of values are put behind others, in one list.
 use Rattle.tabled_value.proofs.Names.{All-nil, AllZip, List, ValuesAdded, [], all_zipped_more, ap, append_assoc, length, map, refl, subst, suc}
-use Rattle.tabled_value.proofs.Names.{sym, zero, ℕ, ◌++◌, ◌+◌, ◌∙◌, ◌∷◌, ◌≡◌}
-use Rattle.std.proofs.Common.{All, append-nil, arith, drop, length-append, take, ◌*◌}
+use Rattle.tabled_value.proofs.Names.{sym, ℕ, ◌++◌, ◌+◌, ◌∙◌, ◌∷◌, ◌≡◌}
+use Rattle.std.proofs.Common.{All, append-nil, arith, drop, length-append, ◌*◌}
 use Rattle.std.proofs.Math.Nat.{suc-mul, zero-mul}
 use Rattle.std.proofs.lemmas.Grind.{flat_map-append}
 use Rattle.std.proofs.lemmas.List.{drop_at, map-id, take_at}

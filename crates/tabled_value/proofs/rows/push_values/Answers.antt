@@ -11,4 +11,4 @@ values-preserved g c =
     let new = c.push_cells.new.row in
     values_added g.I.Item.Tabled.shows g.I.Item.Tabled.LENGTH c.values.count _ c.values.yielded _ old.items new.items c.in-Some.value
     c.values.invariant c.in_ok-push_cells.ensures.texts (omega (arith, c.in_ok-push_cells.ensures.length, old.ok.0, new.ok.0))
-    c.in_ok-one_more.ensures.ok
+    c.in_ok-count.ensures.ok
