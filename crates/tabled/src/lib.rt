@@ -316,7 +316,7 @@ pub mod grid {
         /// for row in records.as_rows() {
         /// ```
         pub mod vec_records {
-            pub use tabled_base::{Text, VecRecords};
+            pub use tabled_base::{RowSlices, Text, VecRecords};
         }
     }
 

@@ -1,19 +1,17 @@
 -- Rows that are copied or compared.
-use Rattle.tabled_base.proofs.Names.{Global, List, Vec, [], ap, get_or-map, length, length-map, map, map-append, map-id, nat_eq, pointwise}
-use Rattle.tabled_base.proofs.Names.{refl, row_texts, slice_index_or, sym, take, ℕ, ◌++◌, ◌+◌, ◌<◌, ◌∙◌, ◌∷◌, ◌≡◌}
+use Rattle.tabled_base.proofs.Names.{Global, List, Vec, [], ap, append_assoc, map, map-append, map-id, nat_eq, pointwise}
+use Rattle.tabled_base.proofs.Names.{refl, row_texts, sym, ℕ, ◌++◌, ◌∙◌, ◌∷◌, ◌≡◌}
 use Rattle.std.proofs.Common.{Bool, ◌&&◌}
-use Rattle.std.proofs.lemmas.List.{take_more}
 
 -- one more row is copied
-pub copied-more : (copy rows : List (Vec (List ℕ) Global)) (i : ℕ) (row new : Vec (List ℕ) Global) → i < length rows
-    → row ≡ slice_index_or rows i row → row_texts copy ≡ take i (row_texts rows) → new.items ≡ row.items
-    → row_texts (copy ++ new ∷ []) ≡ take (i + 1) (row_texts rows)
-copied-more copy rows i row new h is so_far same =
+pub copied-next : (copy : List (Vec (List ℕ) Global)) (new : Vec (List ℕ) Global) (row : List (List ℕ)) (left rest all : List (List (List ℕ)))
+    → row_texts copy ++ left ≡ all → left ≡ map (λ t. t) row ∷ rest → new.items ≡ row → row_texts (copy ++ new ∷ []) ++ rest ≡ all
+copied-next copy new row left rest all so_far step same =
     let texts : Vec (List ℕ) Global → List (List ℕ) = λ v. map (λ t. t) v.items in
-    map-append texts copy (new ∷ [])
-    ∙ ap (λ l. l ++ texts new ∷ []) so_far
-    ∙ ap (λ l. take i (row_texts rows) ++ l ∷ []) (ap (map (λ t. t)) same ∙ ap texts is ∙ sym (get_or-map texts rows i row [] h))
-    ∙ sym (take_more (row_texts rows) i [] (rw length-map h))
+    ap (λ l. l ++ rest) (map-append texts copy (new ∷ []))
+    ∙ append_assoc (row_texts copy) (texts new ∷ []) rest
+    ∙ ap (λ l. row_texts copy ++ l) (ap (λ r. map (λ t. t) r ∷ rest) same ∙ sym step)
+    ∙ so_far
 
 -- the texts are the items
 items-texts : (rows : List (Vec (List ℕ) Global)) → map (λ row. row.items) rows ≡ row_texts rows

@@ -8,3 +8,5 @@ pub mod PicksLaws
 pub mod RowsGiven
 pub mod Settings
 pub mod ShortOr
+pub mod Slices
+pub mod Stored

@@ -10,7 +10,7 @@ ghost use Rattle.tabled_base.specs.Given.{Given};
 ghost use Rattle.tabled_base.specs.declared.error.TableError.TheVariants.{Memory};
 
 use crate::error::TableError;
-use crate::records::{CellText, IntoRecords};
+use crate::records::{CellText, ExactRecords, IntoRecords};
 use crate::text::Text;
 use crate::vec_records::{VecRecords, first_length};
 use std::alloc::{AllocError, Global};
@@ -20,7 +20,7 @@ use std::marker::Model;
 /// are equally long.
 #[derive(Debug, Drop)]
 pub struct Builder {
-    rows: Vec<Vec<Text<String>>>,
+    records: VecRecords<Text<String>>,
     // The capacity of each new row, in cells.
     room: usize,
 }
@@ -28,9 +28,9 @@ pub struct Builder {
 impl Model for Builder {
     ghost Value = { List (List (List ℕ)) };
 
-    ghost view = { λ b. row_texts b.rows.items };
+    ghost view = { λ b. b.records };
 
-    ghost invariant = { λ b. IsRectangular (row_texts b.rows.items) };
+    ghost invariant = { λ b. IsRectangular b.records };
 }
 
 impl Builder {
@@ -40,8 +40,8 @@ impl Builder {
     pub fn new(alloc: Global) -> Builder
         ensures { result ≡ [] }
     {
-        let rows = Vec::new(alloc);
-        Builder { rows, room: 0 }
+        let records = VecRecords::new(Vec::new(alloc));
+        Builder { records, room: 0 }
     }
 
     /// Makes a builder without rows, with capacity for `rows` rows. Each row that is added starts
@@ -51,7 +51,7 @@ impl Builder {
         ensures only { IfErr result (λ e. e ≡ Memory) }
     {
         Ok(Builder {
-            rows: Vec::with_capacity(alloc, rows)?,
+            records: VecRecords::new(Vec::with_capacity(alloc, rows)?),
             room: columns,
         })
     }
@@ -67,7 +67,8 @@ impl Builder {
         let all = rows.as_mut_slice();
         reserve_rows(all, columns)?;
         lengthen_rows(all, columns);
-        Ok(Builder { rows, room: 0 })
+        let records = VecRecords::new(rows);
+        Ok(Builder { records, room: 0 })
     }
 
     /// Makes a builder of the rows of a source, and fills up the shorter ones with empty cells.
@@ -101,8 +102,8 @@ impl Builder {
         ensures rectangular { IsRectangular self.new }
         ensures only { IfErr result (λ e. e ≡ Memory) }
     {
-        let row = collect_row(*self.rows.allocator(), self.room, cells)?;
-        push_row(&mut self.rows, row)
+        let row = collect_row(self.records.allocator(), self.room, cells)?;
+        self.records.push_row(row)
     }
 
     /// Adds a row as `add_record` does, and returns the builder to chain calls. If it fails with
@@ -132,7 +133,7 @@ impl Builder {
         ensures value { result ≡ self }
         ensures rectangular { IsRectangular result }
     {
-        VecRecords::new(self.rows)
+        self.records
     }
 }
 
@@ -141,8 +142,9 @@ impl From<VecRecords<Text<String>>> for Builder {
     ghost from_gives = { λ records builder. builder ≡ records };
 
     fn from(records: VecRecords<Text<String>>) -> Builder {
-        let rows = records.into_rows();
-        Builder { rows, room: 0 }
+        // The rows are equally long, as the contract of their number says.
+        let _columns = records.count_columns();
+        Builder { records, room: 0 }
     }
 }
 
@@ -180,7 +182,10 @@ fn longest_row(rows: &[Vec<Text<String>>]) -> usize
 }
 
 /// Appends a row, and fills up the shorter ones.
-fn push_row(rows: &mut Vec<Vec<Text<String>>>, mut row: Vec<Text<String>>) -> Result<(), TableError>
+pub(crate) fn push_row(
+    rows: &mut Vec<Vec<Text<String>>>,
+    mut row: Vec<Text<String>>,
+) -> Result<(), TableError>
     requires { IsRectangular (row_texts rows.old.items) }
     ensures ok { OnOk result
         (row_texts rows.new.items ≡ with_record (row_texts rows.old.items) row.items) }

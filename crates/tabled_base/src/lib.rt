@@ -3,7 +3,8 @@
 //!
 //! - `text.rt`: `Text`, a string with its measures, and `ShortOr`, one that is stored inline if it
 //!   is short.
-//! - `vec_records.rt`: `VecRecords`, rows of equal length in vectors.
+//! - `vec_records.rt`: `VecRecords`, rows of equal length, in one list or in a vector for each row;
+//!   `row_slices.rt`: `RowSlices`, the rows as slices.
 //! - `builder.rt`: `Builder`, which makes records row by row.
 //! - `records.rt`: the traits of records and of their cells, and of the sources of rows that are
 //!   read once.
@@ -21,6 +22,7 @@ mod objects;
 mod options;
 mod position;
 mod records;
+mod row_slices;
 mod segment;
 mod settings;
 mod text;
@@ -34,6 +36,7 @@ pub use objects::{Cell, Columns, Object, Rows};
 pub use options::{CellOption, StoredSizes, TableOption};
 pub use position::{Entity, Position};
 pub use records::{CellText, ExactRecords, IntoRecords, PeekableRecords, Records, RecordsMut};
+pub use row_slices::RowSlices;
 pub use segment::Segment;
 pub use settings::Settings;
 pub use text::{SHORT_TEXT, Text};

@@ -1,31 +1,47 @@
-//! `VecRecords`, rows of equal length in vectors.
+//! `VecRecords`, rows of equal length, in one list or in a vector for each row.
 ghost use Rattle.std.specs.Cmp.{partial_equiv_from_equiv};
 ghost use Rattle.std.specs.Cmp.Lexicographic.{lists_equiv, nat_list_eq_equiv, pointwise};
 ghost use Rattle.std.specs.Prelude.{◌≡◌, ℕ, List, IfErr, IfOk, OnErr, OnOk, map, nat_eq, ⊤};
-ghost use Rattle.std.specs.Prelude.{string_bytes};
+ghost use Rattle.std.specs.Prelude.{[], length, slice_index_or, string_bytes, ◌*◌, ◌<◌};
 ghost use Rattle.tabled_base.specs.Cells.{IsInside, IsRectangular, cell_at, columns, texts_of};
-ghost use Rattle.tabled_base.specs.Cells.{with_cell};
+ghost use Rattle.tabled_base.specs.Cells.{row_texts, with_cell, with_record};
+ghost use Rattle.tabled_base.specs.Stored.{IsWhole, in_rows, stored_texts};
+ghost use Rattle.tabled_base.specs.Slices.{slices_left};
 ghost use Rattle.tabled_base.specs.declared.error.TableError.TheVariants.{Memory};
 
+use crate::builder::push_row;
 use crate::error::TableError;
 use crate::position::Position;
 use crate::records::{CellText, ExactRecords, PeekableRecords, Records, RecordsMut};
+use crate::row_slices::RowSlices;
 use crate::text::Text;
 use std::alloc::Global;
 use std::marker::Model;
 
+/// The cells of records.
+#[derive(Debug, Drop)]
+pub(crate) enum Stored<T> {
+    /// All cells in one list, row by row, with the number of columns and of rows.
+    InList(Vec<T>, usize, usize),
+    /// A vector for each row.
+    InRows(Vec<Vec<T>>),
+}
+
 /// Records stored as rows of equal length.
 #[derive(Debug, Drop)]
 pub struct VecRecords<T: CellText> {
-    rows: Vec<Vec<T>>,
+    stored: Stored<T>,
 }
 
 impl<T: CellText> Model for VecRecords<T> {
+    ghost use Rattle.std.specs.Prelude.{ℕ, List};
+    ghost use Rattle.tabled_base.specs.Stored.{IsWhole, stored_texts};
+
     ghost Value = { List (List (List ℕ)) };
 
-    ghost view = { λ r. texts_of T.text r.rows.items };
+    ghost view = { λ r. stored_texts T.text r.stored };
 
-    ghost invariant = { λ r. IsRectangular (texts_of T.text r.rows.items) };
+    ghost invariant = { λ r. IsWhole T.text r.stored };
 }
 
 impl<T: CellText> VecRecords<T> {
@@ -34,19 +50,54 @@ impl<T: CellText> VecRecords<T> {
         requires { IsRectangular (texts_of T.text rows.items) }
         ensures { result ≡ texts_of T.text rows.items }
     {
-        VecRecords { rows }
+        VecRecords {
+            stored: Stored::InRows(rows),
+        }
+    }
+
+    /// Makes records of `rows` rows of `columns` cells each, from a list of all cells.
+    pub fn from_cells(cells: Vec<T>, columns: usize, rows: usize) -> Self
+        requires { length cells.items ≡ rows * columns }
+        ensures { result ≡ in_rows rows columns (map T.text cells.items) }
+    {
+        VecRecords {
+            stored: Stored::InList(cells, columns, rows),
+        }
     }
 
     /// Returns the allocator of the records.
     pub fn allocator(&self) -> Global {
-        *self.rows.allocator()
+        match &self.stored {
+            Stored::InList(cells, _, _) => *cells.allocator(),
+            Stored::InRows(rows) => *rows.allocator(),
+        }
     }
 
-    /// Returns the rows as a slice.
-    pub fn as_rows(&self) -> &[Vec<T>]
-        ensures { texts_of T.text result.now ≡ self.now }
+    /// Returns an iterator over the rows as slices.
+    pub fn as_rows(&self) -> RowSlices<'_, T>
+        ensures { slices_left result ≡ self.now }
     {
-        self.rows.as_slice()
+        RowSlices {
+            records: self,
+            next: 0,
+        }
+    }
+
+    /// Returns a row.
+    #[inline(always)]
+    pub(crate) fn row(&self, index: usize) -> &[T]
+        requires { index < length self.now }
+        ensures { map T.text result.now ≡ slice_index_or self.now index [] }
+    {
+        match &self.stored {
+            Stored::InList(cells, columns, _) => {
+                // The number of cells is a `usize`, and so each index is in range.
+                let _count = cells.len();
+                let start = index * *columns;
+                &cells[start..start + *columns]
+            }
+            Stored::InRows(rows) => rows[index].as_slice(),
+        }
     }
 
     /// Returns a cell.
@@ -55,16 +106,9 @@ impl<T: CellText> VecRecords<T> {
         requires { IsInside self.now at.row at.column }
         ensures { T.text result.now ≡ cell_at self.now at.row at.column }
     {
-        let row = &self.rows[at.row];
-        &row[at.column]
-    }
-
-    /// Returns the rows, which are equally long.
-    pub(crate) fn into_rows(self) -> Vec<Vec<T>>
-        ensures rows { texts_of T.text result.items ≡ self }
-        ensures rectangular { IsRectangular (texts_of T.text result.items) }
-    {
-        self.rows
+        // Tells the prover that rows are equally long.
+        let _ = &self.stored;
+        &self.row(at.row)[at.column]
     }
 }
 
@@ -74,13 +118,44 @@ impl VecRecords<Text<String>> {
         ensures ok { IfOk result (λ copy. copy ≡ self.now) }
         ensures only { IfErr result (λ e. e ≡ Memory) }
     {
-        let alloc = self.allocator();
-        let rows = self.rows.as_slice();
-        let mut copy = Vec::with_capacity(alloc, rows.len())?;
-        for row in rows {
-            copy.push(clone_row(alloc, row.as_slice())?)?;
+        if let Stored::InList(cells, columns, rows) = &self.stored {
+            let cells = clone_row(*cells.allocator(), cells.as_slice())?;
+            return Ok(VecRecords::from_cells(cells, *columns, *rows));
         }
-        Ok(VecRecords { rows: copy })
+        Ok(VecRecords::new(self.copied_rows()?))
+    }
+
+    /// Copies each row into a vector of its own.
+    fn copied_rows(&self) -> Result<Vec<Vec<Text<String>>>, TableError>
+        ensures ok { IfOk result (λ copy. row_texts copy.items ≡ self.now) }
+        ensures rectangular { IfOk result (λ copy. IsRectangular (row_texts copy.items)) }
+        ensures only { IfErr result (λ e. e ≡ Memory) }
+    {
+        // Tells the prover that rows are equally long.
+        let _ = &self.stored;
+        let alloc = self.allocator();
+        let mut copy = Vec::with_capacity(alloc, self.count_rows())?;
+        for row in self.as_rows() {
+            copy.push(clone_row(alloc, row)?)?;
+        }
+        Ok(copy)
+    }
+
+    /// Appends a row, and fills up shorter ones with empty cells. If it fails with `Memory`, the
+    /// records are unchanged.
+    pub(crate) fn push_row(&mut self, row: Vec<Text<String>>) -> Result<(), TableError>
+        ensures ok { OnOk result (self.new ≡ with_record self.old row.items) }
+        ensures err { OnErr result (self.new ≡ self.old) }
+        ensures rectangular { IsRectangular self.new }
+        ensures only { IfErr result (λ e. e ≡ Memory) }
+    {
+        if let Stored::InRows(rows) = &mut self.stored {
+            return push_row(rows, row);
+        }
+        let mut rows = self.copied_rows()?;
+        push_row(&mut rows, row)?;
+        self.stored = Stored::InRows(rows);
+        Ok(())
     }
 }
 
@@ -90,7 +165,16 @@ impl PartialEq for VecRecords<Text<String>> {
     ghost laws = { partial_equiv_from_equiv (lists_equiv (lists_equiv nat_list_eq_equiv)) };
 
     fn eq(&self, other: &VecRecords<Text<String>>) -> bool {
-        self.rows == other.rows
+        let count = self.count_rows();
+        if count != other.count_rows() {
+            return false;
+        }
+        for index in 0..count {
+            if self.row(index) != other.row(index) {
+                return false;
+            }
+        }
+        true
     }
 }
 
@@ -100,26 +184,34 @@ impl Eq for VecRecords<Text<String>> {
 
 /// Borrowed records yield their rows as slices.
 impl<'a, T: CellText> Records for &'a VecRecords<T> {
-    type Iter = &'a [Vec<T>];
+    type Iter = RowSlices<'a, T>;
 
     ghost ends = { λ _. ⊤ };
 
     ghost gives = { λ records cells. map (map (λ cell. T.text cell.now)) cells ≡ records.now };
 
-    fn iter_rows(self) -> &'a [Vec<T>] {
-        self.rows.as_slice()
+    fn iter_rows(self) -> RowSlices<'a, T> {
+        self.as_rows()
     }
 }
 
 impl<T: CellText> ExactRecords for VecRecords<T> {
     ghost cells = { λ r. r };
 
+    #[inline(always)]
     fn count_rows(&self) -> usize {
-        self.rows.len()
+        match &self.stored {
+            Stored::InList(_, _, rows) => *rows,
+            Stored::InRows(rows) => rows.len(),
+        }
     }
 
+    #[inline(always)]
     fn count_columns(&self) -> usize {
-        first_length(self.rows.as_slice())
+        match &self.stored {
+            Stored::InList(_, columns, rows) => { if *rows == 0 { 0 } else { *columns } }
+            Stored::InRows(rows) => first_length(rows.as_slice()),
+        }
     }
 }
 
@@ -152,18 +244,36 @@ impl RecordsMut for VecRecords<Text<String>> {
         ensures never { OnErr result ⊥ }
     {
         let cell = Text::new(text);
-        let row = &mut self.rows[at.row];
-        row[at.column] = cell;
+        match &mut self.stored {
+            Stored::InList(cells, columns, _) => {
+                // The number of cells is a `usize`, and so each index is in range.
+                let _count = cells.len();
+                cells[at.row * *columns + at.column] = cell;
+            }
+            Stored::InRows(rows) => {
+                let row = &mut rows[at.row];
+                row[at.column] = cell;
+            }
+        }
         Ok(())
     }
 
     fn shorten(&mut self, at: Position, bytes: usize, ending: &str) {
-        let row = &mut self.rows[at.row];
-        row[at.column].shorten(bytes, ending);
+        match &mut self.stored {
+            Stored::InList(cells, columns, _) => {
+                // The number of cells is a `usize`, and so each index is in range.
+                let _count = cells.len();
+                cells[at.row * *columns + at.column].shorten(bytes, ending);
+            }
+            Stored::InRows(rows) => {
+                let row = &mut rows[at.row];
+                row[at.column].shorten(bytes, ending);
+            }
+        }
     }
 
     fn allocator(&self) -> Global {
-        *self.rows.allocator()
+        VecRecords::allocator(self)
     }
 }
 

@@ -1,6 +1,6 @@
 -- The names of the crates below, and of the definitions of this one, that its proofs use. Declares
 -- nothing.
-pub use Rattle.std.proofs.Common.{List, Result, [], ap, append_assoc, length, map, refl, rules, subst, sym, take, vec_len, ℕ, ◌++◌, ◌+◌}
+pub use Rattle.std.proofs.Common.{List, Result, [], ap, append_assoc, length, map, refl, rules, subst, suc, sym, take, vec_len, zero, ℕ, ◌++◌, ◌+◌}
 pub use Rattle.std.proofs.Common.{◌∙◌, ◌∷◌, ◌≡◌}
 pub use Rattle.std.proofs.lemmas.List.{map-append}
 pub use Rattle.std.proofs.lemmas.List.Elements.{All-cons, All-nil}

@@ -1,6 +1,6 @@
 //! The records that values make, with or without a header, from the strings of their fields.
 ghost use Rattle.std.specs.Cow.{cow_str_bytes};
-ghost use Rattle.std.specs.Iterator.{IsFiniteIterable};
+ghost use Rattle.std.specs.Iterator.{Drains, IsFinite, IsFiniteIterable};
 ghost use Rattle.std.specs.List.{AllZip, flat_map};
 ghost use Rattle.std.specs.Prelude.{IfErr, IfOk, IsUtf8, List, OnOk, [], length, map, replicate};
 ghost use Rattle.std.specs.Prelude.{vec_len, ℕ, ◌++◌, ◌+◌, ◌∷◌, ◌≡◌};
@@ -8,7 +8,7 @@ ghost use Rattle.tabled_base.specs.Cells.{row_texts};
 ghost use Rattle.tabled_base.specs.Given.{Given};
 ghost use Rattle.tabled_base.specs.declared.error.TableError.TheVariants.{Memory};
 ghost use Rattle.tabled_value.specs.Fields.{CellsAdded, Says};
-ghost use Rattle.tabled_value.specs.ValueRows.{pairs};
+ghost use Rattle.tabled_value.specs.ValueRows.{ValuesAdded, pairs};
 
 use crate::value::Tabled;
 use std::alloc::{AllocError, Global};
@@ -81,7 +81,6 @@ pub(crate) fn push_texts(row: &mut Vec<Text<String>>, texts: Vec<CowStr>) -> Res
 }
 
 /// Makes a row of each value. Fails only with `Memory`.
-#[tactic(auto, using(crate::proofs::RowsAdded::all_added, crate::proofs::RowsAdded::rectangular_all))]
 pub fn value_records<I: IntoIterator>(
     alloc: Global,
     iter: I,
@@ -94,11 +93,9 @@ where
         × AllZip I.Item.shows values records) }
     ensures only { IfErr result (λ e. e ≡ Memory) }
 {
-    let mut rows = Vec::new(alloc);
-    'values: for value in iter {
-        rows.push(value_row(alloc, &value)?)?;
-    }
-    Ok(VecRecords::new(rows))
+    let mut cells = Vec::new(alloc);
+    let count = push_values(&mut cells, iter.into_iter())?;
+    Ok(VecRecords::from_cells(cells, I::Item::length(), count))
 }
 
 /// Makes a row of the field names, then a row of each value. `room` is the number of rows to
@@ -117,15 +114,40 @@ where
     ensures only { IfErr result (λ e. e ≡ Memory) }
 {
     let values = iter.into_iter();
-    let mut rows = Vec::with_capacity(alloc, room)?;
     let headers = I::Item::headers(alloc)?;
-    let mut names = Vec::with_capacity(alloc, headers.len())?;
-    push_texts(&mut names, headers)?;
-    rows.push(names)?;
+    let columns = headers.len();
+    let mut cells = Vec::with_capacity(alloc, room.saturating_mul(columns))?;
+    push_texts(&mut cells, headers)?;
+    let count = push_values(&mut cells, values)?;
+    Ok(VecRecords::from_cells(cells, columns, one_more(count)?))
+}
+
+/// Appends the cells of each value to a list, and returns the number of values.
+fn push_values<I: Iterator>(cells: &mut Vec<Text<String>>, values: I) -> Result<usize, TableError>
+where
+    I::Item: Tabled + Drop,
+    requires can_next { I.can_next values }
+    requires ends { IsFinite (I.remaining values) }
+    ensures ok { IfOk result (λ count. (given : List I.Item) × Drains I.next_gives values given
+        × ValuesAdded I.Item.shows I.Item.LENGTH given count cells.old.items cells.new.items) }
+    ensures only { IfErr result (λ e. e ≡ Memory) }
+{
+    let mut count: usize = 0;
     'values: for value in values {
-        rows.push(value_row(alloc, &value)?)?;
+        value.push_cells(cells)?;
+        count = one_more(count)?;
     }
-    Ok(VecRecords::new(rows))
+    Ok(count)
+}
+
+/// Adds one. A sum that exceeds `usize::MAX`, which only rows without cells reach, is reported as
+/// `Memory`.
+#[inline(always)]
+fn one_more(count: usize) -> Result<usize, TableError>
+    ensures ok { IfOk result (λ more. more ≡ count + 1) }
+    ensures only { IfErr result (λ e. e ≡ Memory) }
+{
+    count.checked_add(1).ok_or(TableError::Memory)
 }
 
 /// Makes a row of name and string for each field of each value. Fails only with `Memory`.
@@ -169,14 +191,4 @@ fn push_fields(
         rows.push(row)?;
     }
     Ok(())
-}
-
-fn value_row<T: Tabled>(alloc: Global, value: &T) -> Result<Vec<Text<String>>, TableError>
-    ensures texts { IfOk result (λ row. T.shows value.now row.items) }
-    ensures length { IfOk result (λ row. length row.items ≡ T.LENGTH) }
-    ensures only { IfErr result (λ e. e ≡ Memory) }
-{
-    let mut row = Vec::with_capacity(alloc, T::length())?;
-    value.push_cells(&mut row)?;
-    Ok(row)
 }

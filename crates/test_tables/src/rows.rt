@@ -4,7 +4,7 @@ use crate::showing::assert_text;
 use crate::shown::{records_of, shown};
 use std::alloc::Global;
 use std::test::Fail;
-use tabled_base::{Builder, CellText, IntoRecords, Records, TableError};
+use tabled_base::{Builder, CellText, IntoRecords, Records, RowSlices, TableError, Text};
 use tabled_records::{CutCell, EmptyRecords};
 
 const MESSAGES: [(TableError, &str); 6] = [
@@ -52,7 +52,7 @@ fn iterators_of_rows_are_iterated(rt: HostRuntime) -> Result<(), Fail> {
 #[test]
 fn borrowed_records_give_their_rows(rt: HostRuntime) -> Result<(), Fail> {
     let records = records_of(rt.alloc(), &[&["a", "bb"], &["ccc", ""]])?;
-    let rows = Records::iter_rows(&records);
+    let rows: RowSlices<'_, Text<String>> = Records::iter_rows(&records);
     assert_text(&rt, collect_rows(rt.alloc(), rows), WANT)
 }
 

@@ -26,6 +26,7 @@ impl<T: Tabled> Tabled for &T {
         T::headers(alloc)
     }
 
+    #[inline(always)]
     fn push_cells(&self, row: &mut Vec<Text<String>>) -> Result<(), TableError> {
         T::push_cells(*self, row)
     }

@@ -36,6 +36,7 @@ impl Tabled for &str {
         one_text(alloc, CowStr::Borrowed("&str"))
     }
 
+    #[inline(always)]
     fn push_cells(&self, row: &mut Vec<Text<String>>) -> Result<(), TableError> {
         push_text(row, self)
     }
@@ -102,6 +103,7 @@ impl Tabled for bool {
         one_text(alloc, CowStr::Borrowed("bool"))
     }
 
+    #[inline(always)]
     fn push_cells(&self, row: &mut Vec<Text<String>>) -> Result<(), TableError> {
         push_text(row, if *self { "true" } else { "false" })
     }

@@ -1,10 +1,19 @@
-use Rattle.tabled_base.proofs.RowLemmas.{column_inside, cell_read}
+use Rattle.tabled_base.proofs.Names.{ap, arith, ◌∙◌}
+use Rattle.tabled_base.proofs.StoredRows.{row-cell, row-column}
 use Rattle.tabled_base.proofs.vec_records.VecRecords.cell.Goals as goal
 
-pub index-requires : goal.index-requires
-index-requires g c = column_inside g.T.CellText.text c.self.inside.rows.items _ _ _ c.index-row.result.now
-    c.self.view_is c.self.invariant c.requires c.index-row.ensures
+pub bounds-row-at : goal.bounds-row-at
+bounds-row-at g c = row-column g.T.CellText.text c.self.inside.stored c.args.self.now _ _ c.row.result.now
+    c.self.view_is c.self.invariant c.requires c.row.ensures
+
+pub offset_bounds-row-at : goal.offset_bounds-row-at
+offset_bounds-row-at g c =
+    let inside = row-column g.T.CellText.text c.self.inside.stored c.args.self.now _ _ c.row.result.now
+    c.self.view_is c.self.invariant c.requires c.row.ensures in omega (arith, inside)
 
 pub returns : goal.returns
-returns g c = cell_read g.T.CellText.text c.self.inside.rows.items _ _ _ c.index-row.result.now
-    c.index.result.now c.self.view_is c.self.invariant c.requires c.index-row.ensures c.index.ensures
+returns g c =
+    let f = g.T.CellText.text in
+    let inside = row-column f c.self.inside.stored c.args.self.now _ _ c.row.result.now
+    c.self.view_is c.self.invariant c.requires c.row.ensures in
+    ap f c.index-row-at.is ∙ row-cell f c.args.self.now c.args.at.row c.args.at.column c.row.result.now _ c.row.ensures inside

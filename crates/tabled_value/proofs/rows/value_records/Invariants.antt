@@ -1,5 +1,0 @@
-use Rattle.tabled_value.proofs.Names.{ValuesAdded, [], row_texts}
-use Rattle.tabled_value.proofs.rows.value_records.Given as goal
-
-abbrev pub invariant-values : goal.invariant-values
-invariant-values g l = ValuesAdded g.I.Item.Tabled.shows g.I.Item.Tabled.LENGTH l.yielded [] (row_texts l.rows.items)
