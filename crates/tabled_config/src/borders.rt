@@ -4,7 +4,8 @@
 ghost use Rattle.std.specs.Cmp.{and_equiv, and_per, nat_eq_equiv, on_equiv, on_per};
 ghost use Rattle.std.specs.Cmp.{partial_equiv_from_equiv};
 ghost use Rattle.std.specs.Cmp.Lexicographic.{lists_equiv, lists_per, pointwise};
-ghost use Rattle.std.specs.Prelude.{IfOk, None, OnErr, OnOk, Some, [], if◌then◌else◌, nat_eq, ℕ};
+ghost use Rattle.std.specs.Prelude.{IfOk, IsTrue, None, OnErr, OnOk, Some, [], if◌then◌else◌, nat_eq};
+ghost use Rattle.std.specs.Prelude.{ℕ};
 ghost use Rattle.std.specs.Prelude.{◌&&◌, ◌==◌, ◌≡◌};
 ghost use Rattle.tabled_config.specs.Frame.{border_at, frame_of, has_bar, has_inner, has_left};
 ghost use Rattle.tabled_config.specs.Frame.{has_right, if_any, inner_line, line_of, no_borders};
@@ -337,6 +338,13 @@ impl Borders<char> {
         line.if_any()
     }
 
+    /// Returns the horizontal line between two rows. `None` if none of its characters is set.
+    pub fn line_between(&self) -> Option<HorizontalLine>
+        ensures { result ≡ if_any (inner_line self.now) }
+    {
+        self.inner_line().if_any()
+    }
+
     /// Returns the characters of the lines between rows.
     fn inner_line(&self) -> HorizontalLine
         ensures { result ≡ inner_line self.now }
@@ -443,6 +451,13 @@ impl HorizontalLines {
     {
         self.lines.insert(index, line)?;
         Ok(())
+    }
+
+    /// Whether no line is set.
+    pub fn is_empty(&self) -> bool
+        ensures { IsTrue result → self.now ≡ [] }
+    {
+        self.lines.is_empty()
     }
 
     pub fn get(&self, index: usize) -> Option<HorizontalLine>

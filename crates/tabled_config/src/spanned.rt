@@ -1,5 +1,5 @@
 //! The configuration of a table, with settings for rows, columns and cells (`SpannedConfig`).
-ghost use Rattle.std.specs.Prelude.{◌≡◌, ◌==◌, ℕ, if◌then◌else◌, IfErr, IfOk, IsSome, None, OnErr};
+ghost use Rattle.std.specs.Prelude.{◌≡◌, ◌==◌, ℕ, if◌then◌else◌, IfErr, IfOk, IfSome, IsSome, None, OnErr};
 ghost use Rattle.std.specs.Prelude.{OnOk, Some, [], length, ◌<◌};
 ghost use Rattle.tabled_base.specs.declared.error.TableError.TheVariants.{Memory};
 ghost use Rattle.tabled_config.specs.Lines.{line_set, with_line};
@@ -252,6 +252,20 @@ impl SpannedConfig {
         match self.lines.get(index) {
             Some(line) => Some(line),
             None => self.borders.line_at(rows, index),
+        }
+    }
+
+    /// Returns the horizontal line between two rows, if no line was set by index: then it is the
+    /// same between any two.
+    #[tactic(auto, unfolding(crate::specs::Settings::rule_at))]
+    pub fn shared_rule(&self) -> Option<Option<HorizontalLine>>
+        ensures { IfSome result (λ rule. (rows index : ℕ) → 0 < index → index < rows
+            → rule_at self.now rows index ≡ rule) }
+    {
+        if self.lines.is_empty() {
+            Some(self.borders.line_between())
+        } else {
+            None
         }
     }
 

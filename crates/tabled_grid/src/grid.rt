@@ -41,6 +41,8 @@ pub(crate) struct Grid<'a, R: ContentRecords, D: Dimension> {
     pub uniform: Option<UniformPlacement>,
     // The style of all cells, if nothing was set for a part of the table.
     shared: Option<CellStyle>,
+    // The horizontal line between any two rows, if none was set by index.
+    shared_rule: Option<Option<HorizontalLine>>,
     by_column: Option<ColumnStyles<'a>>,
 }
 
@@ -57,7 +59,9 @@ impl<'a, R: ContentRecords, D: Dimension> Model for Grid<'a, R, D> {
         × IfSome g.by_column (let count = columns (R.cells g.records.now) in
         AreStyles g.config.now (slice_index (reached (D.width_at g.dimension.now) count)) count)
         × IfSome g.shared (λ style. (row column : ℕ)
-        → style_at g.config.now row column ≡ style) };
+        → style_at g.config.now row column ≡ style)
+        × IfSome g.shared_rule (λ rule. (rows index : ℕ) → 0 < index → index < rows
+        → rule_at g.config.now rows index ≡ rule) };
 }
 
 impl<'a, R: ContentRecords, D: Dimension> Grid<'a, R, D> {
@@ -94,6 +98,7 @@ impl<'a, R: ContentRecords, D: Dimension> Grid<'a, R, D> {
                 None => None,
             },
             shared,
+            shared_rule: config.shared_rule(),
             by_column,
         }
     }
@@ -123,10 +128,15 @@ impl<'a, R: ContentRecords, D: Dimension> Grid<'a, R, D> {
     }
 
     /// Returns the horizontal line above a row, or below the last one, if there is one.
+    #[inline(always)]
     pub fn rule_at(&self, index: usize) -> Option<HorizontalLine>
         ensures { result ≡ rule_at self.now.config (length self.now.cells) index }
     {
-        self.config.rule_at(self.records.count_rows(), index)
+        let rows = self.records.count_rows();
+        match self.shared_rule {
+            Some(rule) if 0 < index && index < rows => rule,
+            _ => self.config.rule_at(rows, index),
+        }
     }
 
     pub fn width(&self, column: usize) -> usize
