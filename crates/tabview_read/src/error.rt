@@ -43,7 +43,6 @@ impl fmt::Display for Place {
 }
 
 /// What is wrong with a JSON text.
-#[derive(Drop)]
 pub enum Fault {
     /// An allocation failed.
     Memory,
@@ -59,6 +58,24 @@ pub enum Fault {
     Doubled,
     /// An object has a key that none of the rows read ahead has.
     Unknown(String),
+}
+
+/// Drops a fault in one call, so that callers need no proof for each kind.
+impl Drop for Fault {
+    fn drop(self) {
+        match self {
+            Fault::Memory => {}
+            Fault::NotJson => {}
+            Fault::NotRow => {}
+            Fault::Mixed => {}
+            Fault::Ragged {
+                cells: _,
+                wanted: _,
+            } => {}
+            Fault::Doubled => {}
+            Fault::Unknown(_) => {}
+        }
+    }
 }
 
 /// Returns the noun after a number of cells.
@@ -105,7 +122,6 @@ impl From<AllocError> for Fault {
 }
 
 /// Why rows can't be read.
-#[derive(Drop)]
 pub enum ReadError {
     /// An allocation failed.
     Memory,
@@ -132,6 +148,28 @@ pub enum ReadError {
     Tables(String),
     /// There is no such column.
     NoColumn(String),
+}
+
+/// Drops an error in one call, so that callers need no proof for each kind.
+impl Drop for ReadError {
+    fn drop(self) {
+        match self {
+            ReadError::Memory => {}
+            ReadError::Input(_) => {}
+            ReadError::NotUtf8(_) => {}
+            ReadError::CellNotUtf8(_, _) => {}
+            ReadError::Ragged {
+                at: _,
+                cells: _,
+                wanted: _,
+            } => {}
+            ReadError::Json(_, _) => {}
+            ReadError::Query(_) => {}
+            ReadError::NoTable => {}
+            ReadError::Tables(_) => {}
+            ReadError::NoColumn(_) => {}
+        }
+    }
 }
 
 impl fmt::Display for ReadError {

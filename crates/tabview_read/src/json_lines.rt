@@ -58,14 +58,13 @@ impl<B: BufRead + Drop> LinesOf<B> {
 }
 
 /// Returns an error in a text that is a line.
-fn on_line(error: ReadError, line: u64) -> ReadError {
-    match error {
-        ReadError::NotUtf8(Place { column, .. }) => ReadError::NotUtf8(Place { line, column }),
-        ReadError::Json(Place { column, .. }, fault) => {
-            ReadError::Json(Place { line, column }, fault)
-        }
-        other => other,
+fn on_line(mut error: ReadError, line: u64) -> ReadError {
+    match &mut error {
+        ReadError::NotUtf8(place) => place.line = line,
+        ReadError::Json(place, _) => place.line = line,
+        _ => {}
     }
+    error
 }
 
 /// Objects or arrays, one in each line. Blank lines are passed over.
