@@ -1,5 +1,5 @@
 -- One more cell is chosen.
-use Rattle.std.proofs.Common.{append_assoc, ◌≡◌, ℕ, ◌+◌, ◌<◌, List, [], ◌∷◌, ◌++◌, Option, Some, None, length, map, take, get_or, option_map, sym, ap, ◌∙◌}
+use Rattle.std.proofs.Common.{append-nil, append_assoc, ◌≡◌, ℕ, ◌+◌, ◌<◌, List, [], ◌∷◌, ◌++◌, Option, Some, None, length, map, take, get_or, option_map, sym, ap, ◌∙◌}
 use Rattle.std.specs.Prelude.{unwrap_or}
 use Rattle.std.specs.Borrow.{Bor}
 use Rattle.std.proofs.lemmas.List.{map-append, take_more}
@@ -26,3 +26,7 @@ pub begun-more : (w : Written) (front all : List (List ℕ)) (text : List ℕ) �
     → with_text (with_texts w front) text ≡ with_texts w all
 begun-more w front all text e =
     ap (λ (t : List (List ℕ)). with_begun w t) (append_assoc w.begun front (text ∷ []) ∙ ap (λ t. w.begun ++ t) e)
+
+-- without further texts it stays
+pub begun-none : (w : Written) → with_texts w [] ≡ w
+begun-none w = ap (λ (t : List (List ℕ)). with_begun w t) (append-nil w.begun)

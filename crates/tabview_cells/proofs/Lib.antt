@@ -4,3 +4,4 @@ pub mod Choosing
 pub mod Longest
 pub mod Joined
 pub mod Printed
+pub mod JoinedKinds

@@ -1,5 +1,5 @@
 -- What the cells of a column are. A cell is the list of its bytes.
-use Rattle.std.specs.Prelude.{ℕ, ◌==◌, ◌&&◌, Bool, true, false, not, List, if◌then◌else◌, chars, length, nat_le}
+use Rattle.std.specs.Prelude.{ℕ, ◌==◌, ◌&&◌, Bool, true, false, not, List, [], ◌∷◌, if◌then◌else◌, chars, get_or, length, nat_le, set}
 use Rattle.std.specs.Char.{is_whitespace}
 use Rattle.std.specs.List.{list_any}
 use Rattle.tabled_text.specs.Measure.{text_columns}
@@ -33,3 +33,13 @@ abbrev pub kind_of : List ℕ → Kind
 kind_of cell =
     if length cell == 0 then Empty
     else (if is_number cell then Number else (if is_date cell then Date else (if is_code cell then Code else Text)))
+
+-- the kinds of columns after one more row: each is joined with that of its cell, if it has one
+unfoldable pub joined_kinds : List Kind → List (List ℕ) → List Kind
+joined_kinds [] cells = []
+joined_kinds (kind ∷ kinds) [] = kind ∷ kinds
+joined_kinds (kind ∷ kinds) (cell ∷ cells) = joined kind (kind_of cell) ∷ joined_kinds kinds cells
+
+-- the kinds of columns after one more cell of the column at an index
+abbrev pub joined_at : List Kind → ℕ → List ℕ → List Kind
+joined_at kinds index cell = set kinds index (joined (get_or kinds index Empty) (kind_of cell))

@@ -3,7 +3,8 @@ ghost use Rattle.csv.specs.Records.{fields_of, text_of};
 ghost use Rattle.std.specs.Prelude.{◌≡◌, IfErr, IfOk, OnErr, OnOk, map, string_bytes, true};
 ghost use Rattle.tabled_base.specs.declared.error.TableError.TheVariants.{Memory};
 ghost use Rattle.tabled_records.specs.Joined.{with_text};
-ghost use Rattle.tabview_cells.specs.Choice.{shown_cell, shown_text, with_texts};
+ghost use Rattle.tabview_cells.specs.Choice.{cell_of, shown_cell, shown_text, with_texts};
+ghost use Rattle.tabview_cells.specs.Kinds.{joined_at, joined_kinds};
 ghost use Rattle.tabview_cells.specs.Printable.{is_graphic, is_printable};
 
 use crate::escaping::{escape, escape_into};
@@ -72,21 +73,25 @@ pub fn push_joining(
     requires graphic { graphic ≡ true → is_graphic (text_of row.now) ≡ true }
     ensures ok { (shown : Shown) → OnOk result (out.new
         ≡ with_texts out.old (map (shown_cell shown (fields_of row.now)) columns.now)) }
+    ensures kinds { OnOk result (kinds.new
+        ≡ joined_kinds kinds.old (map (cell_of (fields_of row.now)) columns.now)) }
     ensures ended { out.new.rows ≡ out.old.rows }
     ensures only { IfErr result (λ e. e ≡ Memory) }
 {
     for index in 0..columns.len() {
         let cell = row.get(columns[index]).unwrap_or("");
-        join(kinds, index, cell, graphic);
+        join_kind(kinds, index, cell, graphic);
         out.push(cell, cell.len(), 1)?;
     }
     Ok(())
 }
 
-/// Takes a cell into the kind of its column, if the column has one. A `graphic` cell has no spaces.
+/// Joins the kind of a column, if it has one, with that of a cell. If the cell is known to be
+/// `graphic`, it is printable ASCII without spaces.
 #[inline(always)]
-fn join(kinds: &mut [Kind], column: usize, cell: &str, graphic: bool)
+pub fn join_kind(kinds: &mut [Kind], column: usize, cell: &str, graphic: bool)
     requires { graphic ≡ true → is_graphic cell.now ≡ true }
+    ensures { kinds.new ≡ joined_at kinds.old column cell.now }
 {
     if column >= kinds.len() {
         return;
