@@ -1,6 +1,9 @@
 -- The kinds of columns after one more cell of a row.
-use Rattle.std.proofs.Common.{List, [], ◌∷◌, ◌++◌, ℕ, ◌+◌, ◌<◌, ◌≡◌, ◌∙◌, ap, arith, get_or, length, map, refl, sym, take}
+use Rattle.std.proofs.Common.{Bool, true, false, if◌then◌else◌, nat_eq, List, [], ◌∷◌, ◌++◌, ℕ, ◌+◌, ◌<◌, ◌≡◌, ◌∙◌, ap, arith, get_or, length, map, refl, sym, take}
+use Rattle.std.specs.Cmp.Lexicographic.{pointwise}
+use Rattle.std.specs.List.{list_all}
 use Rattle.std.proofs.lemmas.List.{length-map, length-take-le, map-append, take_more}
+use Rattle.tabview_cells.specs.Choice.{counting}
 use Rattle.tabview_cells.specs.Kinds.{joined, joined_at, joined_kinds, kind_of}
 use Rattle.tabview_cells.specs.declared.kinds.Kind.{Kind}
 
@@ -31,3 +34,11 @@ joined-more f columns i kinds cell h e =
     ∙ joined-behind kinds (map f (take i columns)) cell
     ∙ ap (λ c. joined_kinds kinds (map f (take i columns) ++ c ∷ [])) e
     ∙ ap (joined_kinds kinds) more
+
+-- what holds of all bytes of a cell holds of one that counts
+pub counting-all : (test : ℕ → Bool) (blank cell : List ℕ) → list_all test cell ≡ true → list_all test (counting blank cell) ≡ true
+counting-all test blank cell h = by_case (pointwise nat_eq cell blank)
+  where
+    by_case : (b : Bool) → list_all test (if b then [] else cell) ≡ true
+    by_case true = refl
+    by_case false = h

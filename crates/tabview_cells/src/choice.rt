@@ -3,12 +3,12 @@ ghost use Rattle.csv.specs.Records.{fields_of, text_of};
 ghost use Rattle.std.specs.Prelude.{◌≡◌, IfErr, IfOk, OnErr, OnOk, map, string_bytes, true};
 ghost use Rattle.tabled_base.specs.declared.error.TableError.TheVariants.{Memory};
 ghost use Rattle.tabled_records.specs.Joined.{with_text};
-ghost use Rattle.tabview_cells.specs.Choice.{cell_of, shown_cell, shown_text, with_texts};
+ghost use Rattle.tabview_cells.specs.Choice.{cell_of, counting, counting_cell, shown_cell, shown_text, with_texts};
 ghost use Rattle.tabview_cells.specs.Kinds.{joined_at, joined_kinds};
 ghost use Rattle.tabview_cells.specs.Printable.{is_graphic, is_printable};
 
 use crate::escaping::{escape, escape_into};
-use crate::kinds::Kind;
+use crate::kinds::{Kind, is_graphic_row};
 use crate::printable::is_printable;
 use csv::StringRecord;
 use std::alloc::{AllocError, Global};
@@ -86,10 +86,30 @@ pub fn push_joining(
     Ok(())
 }
 
+/// Joins the kinds of columns with those of the chosen cells of a row. A cell that the row lacks, or
+/// that is `blank`, changes nothing.
+pub fn join_kinds(kinds: &mut [Kind], columns: &[usize], row: &StringRecord, blank: &str)
+    ensures { kinds.new ≡ joined_kinds kinds.old
+        (map (counting_cell blank.now (fields_of row.now)) columns.now) }
+{
+    let graphic = is_graphic_row(row);
+    for index in 0..columns.len() {
+        let cell = row.get(columns[index]).unwrap_or("");
+        join_kind(kinds, index, counting(cell, blank), graphic);
+    }
+}
+
+/// Returns a cell, or an empty one if it is `blank`.
+fn counting<'t>(cell: &'t str, blank: &str) -> &'t str
+    ensures { result.now ≡ counting blank.now cell.now }
+{
+    if cell == blank { "" } else { cell }
+}
+
 /// Joins the kind of a column, if it has one, with that of a cell. If the cell is known to be
 /// `graphic`, it is printable ASCII without spaces.
 #[inline(always)]
-pub fn join_kind(kinds: &mut [Kind], column: usize, cell: &str, graphic: bool)
+fn join_kind(kinds: &mut [Kind], column: usize, cell: &str, graphic: bool)
     requires { graphic ≡ true → is_graphic cell.now ≡ true }
     ensures { kinds.new ≡ joined_at kinds.old column cell.now }
 {

@@ -1,12 +1,15 @@
 //! The columns that are shown.
-ghost use Rattle.std.specs.Prelude.{◌≡◌};
+ghost use Rattle.csv.specs.Records.{fields_of};
+ghost use Rattle.std.specs.Prelude.{◌≡◌, map};
+ghost use Rattle.tabview_cells.specs.Choice.{counting_cell};
+ghost use Rattle.tabview_cells.specs.Kinds.{joined_kinds};
 ghost use Rattle.tabview_read.specs.Selection.{Grows};
 
 use crate::error::ReadError;
 use crate::row::Row;
 use csv::StringRecord;
 use std::alloc::{AllocError, Global};
-use tabview_cells::{Kind, is_graphic_row};
+use tabview_cells::{Kind, join_kinds};
 
 /// The columns that are shown, and what their cells are.
 #[derive(Drop)]
@@ -67,24 +70,15 @@ impl<'a> Chosen<'a> {
         Ok(())
     }
 
-    /// Takes the cells of a row into the kinds of their columns. Null, and cells that are `blank`,
+    /// Joins the kinds of the columns with those of a row's cells. Null, and cells that are `blank`,
     /// don't count.
     pub fn join_kinds(&mut self, row: &Row, blank: &str)
-        ensures { self.new.columns.items ≡ self.old.columns.items }
+        ensures columns { self.new.columns.items ≡ self.old.columns.items }
+        ensures kinds { self.new.kinds.items ≡ joined_kinds self.old.kinds.items
+            (map (counting_cell blank.now (fields_of row.now.cells)) self.old.columns.items) }
     {
-        let graphic = is_graphic_row(&row.cells);
-        for (kind, column) in self.kinds.iter_mut().zip(self.columns.iter()) {
-            if *kind != Kind::Text
-                && let Some(cell) = row.cells.get(*column)
-                && cell != blank
-            {
-                *kind = if graphic {
-                    kind.with_graphic(cell)
-                } else {
-                    kind.with_cell(cell)
-                };
-            }
-        }
+        let columns = self.columns.as_slice();
+        join_kinds(self.kinds.as_mut_slice(), columns, &row.cells, blank);
     }
 }
 

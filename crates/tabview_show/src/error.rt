@@ -6,7 +6,7 @@ use tabled_base::TableError;
 use tabview_read::ReadError;
 
 /// Why a table isn't shown, or not to its end.
-#[derive(Debug, Drop)]
+#[derive(Debug)]
 pub enum ViewError {
     /// The rows can't be read.
     Read(ReadError),
@@ -18,6 +18,19 @@ pub enum ViewError {
     Database,
     /// There is a query, but no database.
     NoDatabase,
+}
+
+/// Drops an error in one call, so that callers need no proof for each kind.
+impl Drop for ViewError {
+    fn drop(self) {
+        match self {
+            ViewError::Read(_) => {}
+            ViewError::Table(_) => {}
+            ViewError::Output(_) => {}
+            ViewError::Database => {}
+            ViewError::NoDatabase => {}
+        }
+    }
 }
 
 impl fmt::Display for ViewError {
