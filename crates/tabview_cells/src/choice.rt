@@ -86,8 +86,8 @@ pub fn push_joining(
     Ok(())
 }
 
-/// Joins the kinds of columns with those of the chosen cells of a row. A cell that the row lacks, or
-/// that is `blank`, changes nothing.
+/// Joins the kinds of columns with those of the chosen cells of a row. A cell that the row lacks,
+/// or that is `blank`, changes nothing.
 pub fn join_kinds(kinds: &mut [Kind], columns: &[usize], row: &StringRecord, blank: &str)
     ensures { kinds.new ≡ joined_kinds kinds.old
         (map (counting_cell blank.now (fields_of row.now)) columns.now) }

@@ -70,8 +70,8 @@ impl<'a> Chosen<'a> {
         Ok(())
     }
 
-    /// Joins the kinds of the columns with those of a row's cells. Null, and cells that are `blank`,
-    /// don't count.
+    /// Joins the kinds of the columns with those of a row's cells. Null, and cells that are
+    /// `blank`, don't count.
     pub fn join_kinds(&mut self, row: &Row, blank: &str)
         ensures columns { self.new.columns.items ≡ self.old.columns.items }
         ensures kinds { self.new.kinds.items ≡ joined_kinds self.old.kinds.items
