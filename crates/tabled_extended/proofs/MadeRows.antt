@@ -1,8 +1,13 @@
 -- Rows that are collected or escaped one after another, and the first of them.
 use Rattle.tabled_extended.proofs.Names.{AllZip, Global, List, Vec, [], all_zipped_more, ap, map, map-append, row_texts}
-use Rattle.tabled_extended.proofs.Names.{row_texts-push, sym, ℕ, ◌++◌, ◌∙◌, ◌∷◌, ◌≡◌, arith, drop, length, map-id, refl, ◌<◌}
+use Rattle.tabled_extended.proofs.Names.{sym, ℕ, ◌++◌, ◌∙◌, ◌∷◌, ◌≡◌, arith, drop, length, map-id, refl, ◌<◌}
 use Rattle.std.proofs.Common.{slice_index_or}
 use Rattle.std.specs.Prelude.{remove}
+
+row_texts-push : (rows : List (Vec (List ℕ) Global)) (row : Vec (List ℕ) Global) → row_texts (rows ++ row ∷ []) ≡ row_texts rows ++ row.items ∷ []
+row_texts-push rows row =
+    map-append (λ (r : Vec (List ℕ) Global). map (λ t. t) r.items) rows (row ∷ [])
+    ∙ ap (λ items. row_texts rows ++ items ∷ []) (map-id row.items)
 
 -- a made row stands for each value so far, with its texts
 pub record Made {V S : Type 0} (is : V → S → Type 0) (texts : S → List (List ℕ)) (values : List V) (all : List (List (List ℕ))) : Type 0 where

@@ -25,4 +25,3 @@ pub use Rattle.tabled_line.specs.Leading.{LineSends}
 pub use Rattle.tabled_set.specs.CellChanges.{if_sized}
 pub use Rattle.tabled_text.specs.Lines.{lines_left}
 pub use Rattle.tabled_text.specs.Measure.{text_columns}
-pub use Rattle.tabled_value.proofs.RowsAdded.{row_texts-push}
