@@ -1,3 +1,4 @@
+pub mod CopiedRows
 pub mod CutOff
 pub mod Dashed
 pub mod Digits

@@ -1,5 +1,5 @@
 use Rattle.tabled_extended.proofs.Names.{ap, arith, row_texts, ◌∙◌}
-use Rattle.tabled_base.proofs.CopiedRows.{copied-more}
+use Rattle.tabled_extended.proofs.CopiedRows.{copied-more}
 use Rattle.tabled_extended.proofs.extended_table.ExtendedTable.clone.Goals as goal
 
 pub loop-record-preserved : goal.loop-record-preserved
