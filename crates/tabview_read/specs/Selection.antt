@@ -1,5 +1,5 @@
 -- Which rows are shown, in the order in which they were read.
-use Rattle.std.specs.Prelude.{◌≡◌, ℕ, ◌+◌, ◌-◌, Bool, true, false, List, [], ◌∷◌, ◌++◌, Option, Some, None, drop, length, min, nat_le, refl, take}
+use Rattle.std.specs.Prelude.{◌≡◌, ℕ, ◌+◌, ◌-◌, Bool, false, List, [], ◌∷◌, ◌++◌, Option, Some, None, drop, length, min, nat_le, refl, take}
 
 -- the first n of a list, or all
 abbrev pub first : {A : Type 0} → Option ℕ → List A → List A

@@ -15,6 +15,6 @@ returns-then-has_no_null-clause-texts c =
     let whole = shown_all w.null.now row (sym c.has_no_null.ensures ∙ c.if-has_no_null.true) in
     let number = ap (number_of w.numbers) c.deref.ensures ∙ c.in_ok-text.ensures in
     c.in_ok-write.ensures.texts
-    ∙ ap (λ (columns : List ℕ). with_row_ended (with_texts self.writer (texts_of w.numbers name w.shown (fields_of row.cells) columns))) c.join_kinds.ensures
+    ∙ ap (λ (columns : List ℕ). with_row_ended (with_texts self.writer (texts_of w.numbers name w.shown (fields_of row.cells) columns))) c.join_kinds.ensures.columns
     ∙ ap (λ (texts : List (List ℕ)). with_row_ended (with_texts self.writer texts))
     (texts-same w.numbers w.shown name (decimal c.args.number) (fields_of row.cells) (shown_cells w.null.now row) self.chosen.columns.items number (sym whole))
