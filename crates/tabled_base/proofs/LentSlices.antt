@@ -1,5 +1,5 @@
 -- What rows that are lent as slices give.
-use Rattle.tabled_base.proofs.Names.{AllZip, Given, List, YieldsList, [], ap, map, refl, subst, sym, ℕ, ◌∙◌, ◌∷◌, ◌≡◌}
+use Rattle.tabled_base.proofs.Names.{AllZip, Given, List, [], ap, map, refl, sym, ℕ, ◌∙◌, ◌∷◌, ◌≡◌}
 use Rattle.std.proofs.Common.{Bor, Iter}
 use Rattle.std.specs.Iterator.{YieldsFirstBy}
 use Rattle.std.specs.Slice.Iter.{iter_rest, iter_steps}

@@ -1,11 +1,10 @@
 -- Rows of equal length in one list.
-use Rattle.tabled_base.proofs.Names.{All, IsRectangular, List, [], ap, append-nil, arith, cell_at, columns, drop, length, length-map, map, refl}
-use Rattle.tabled_base.proofs.Names.{set, slice_index_or, suc, sym, take, with_cell, zero, ℕ, ◌++◌, ◌+◌, ◌-◌, ◌<◌, ◌∙◌, ◌∷◌, ◌≡◌, ◌≤◌}
+use Rattle.tabled_base.proofs.Names.{All, IsRectangular, List, [], ap, arith, columns, drop, length, map, refl}
+use Rattle.tabled_base.proofs.Names.{set, slice_index_or, suc, sym, take, zero, ℕ, ◌+◌, ◌<◌, ◌∙◌, ◌∷◌, ◌≡◌, ◌≤◌}
 use Rattle.std.proofs.Common.{◌*◌}
 use Rattle.std.proofs.Math.Nat.{mul-le-mul_right, suc-mul, zero-mul}
 use Rattle.std.proofs.Math.Seq.{take-set-lt}
 use Rattle.std.proofs.lemmas.List.{drop-drop, drop-map, drop-set-add, drop-set-lt, length-drop, length-take, take-map, take-set-le}
-use Rattle.tabled_base.specs.Cells.{IsInside}
 use Rattle.tabled_base.specs.Stored.{in_rows}
 
 pub in_rows-length : {T : Type 0} (n c : ℕ) (xs : List T) → length (in_rows n c xs) ≡ n

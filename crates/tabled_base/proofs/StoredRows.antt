@@ -1,5 +1,5 @@
 -- Records as they are stored, seen as rows of texts.
-use Rattle.tabled_base.proofs.Names.{Global, IsRectangular, List, Vec, [], ap, arith, columns, length, length-map, map, refl, subst, sym, zero, ℕ}
+use Rattle.tabled_base.proofs.Names.{Global, IsRectangular, List, Vec, [], ap, arith, columns, length, length-map, map, subst, sym, ℕ}
 use Rattle.tabled_base.proofs.Names.{drop, map-set, set, texts_of, slice_index_or, take, with_cell, ◌+◌, ◌<◌, ◌∙◌, ◌≡◌, ◌≤◌}
 use Rattle.std.proofs.Common.{length-set, get_or-drop, get_or-take}
 use Rattle.std.proofs.Common.{◌*◌}

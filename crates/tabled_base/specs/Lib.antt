@@ -5,6 +5,7 @@ pub mod Given
 pub mod Laws
 pub mod Picks
 pub mod PicksLaws
+pub mod Printable
 pub mod RowsGiven
 pub mod Settings
 pub mod ShortOr

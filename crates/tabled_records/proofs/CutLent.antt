@@ -15,7 +15,7 @@ use Rattle.tabled_text.proofs.Pieces.{IsAscii-printable, parted-printable}
 use Rattle.tabled_text.proofs.PlainLines.{plain_line-lines, plain_line-printable, text_columns-plain_line}
 use Rattle.tabled_records.proofs.SizedRows.{cell-sized, inside-sized}
 use Rattle.tabled_records.specs.CutLentRows.{IsCutKnown, cut_cell, cut_rows, cuts, tells_cut}
-use Rattle.tabled_records.specs.Joined.{IsPrintable}
+use Rattle.tabled_base.specs.Printable.{IsPrintable}
 use Rattle.tabled_records.specs.NarrowedTexts.{AreKnown}
 use Rattle.tabled_records.specs.declared.narrowed_texts.NarrowedTexts.{NarrowedTexts}
 use Rattle.tabled_base.specs.Cells.{IsInside}

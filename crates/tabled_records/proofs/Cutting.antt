@@ -15,7 +15,8 @@ use Rattle.std.proofs.lemmas.List.Elements.{All-drop, All-from_get_or, All-repli
 use Rattle.std.proofs.lemmas.List.Sums.{list_all-from_AllPass}
 use Rattle.tabled_base.specs.Cells.{longest}
 use Rattle.tabled_records.specs.CutLentRows.{ArePrintable}
-use Rattle.tabled_records.specs.Joined.{AreJoined, IsLent, IsPrintable}
+use Rattle.tabled_base.specs.Printable.{IsPrintable}
+use Rattle.tabled_records.specs.Joined.{AreJoined, IsLent}
 use Rattle.tabled_records.proofs.Joining.{behind-next, kept-next, length-texts, texts-next}
 use Rattle.tabled_records.proofs.Rows.{part-last, parts-append, ranges-grown, ranges-next}
 use Rattle.tabled_records.proofs.RowsLeft.{prepended, prepended-more, prepended-none, rows-end, rows-feed, rows-tab, rows_of}

@@ -15,7 +15,7 @@ use Rattle.tabled_text.specs.Walk.{append_all, pending}
 use Rattle.tabled_text.specs.declared.line_ends.LineEnds.{LineEnds}
 use Rattle.tabled_text.specs.declared.line_ends.LineEnds.TheVariants.{Bytes, Columns}
 use Rattle.tabled_records.proofs.SizedRows.{cell-sized, inside-sized}
-use Rattle.tabled_records.specs.Joined.{IsPrintable}
+use Rattle.tabled_base.specs.Printable.{IsPrintable}
 use Rattle.tabled_records.specs.NarrowedTexts.{AreKnown}
 use Rattle.tabled_records.specs.WrappedLentRows.{IsKnown, tells_wrapped, wrapped_cell, wrapped_rows, wraps}
 use Rattle.tabled_records.specs.declared.narrowed_texts.NarrowedTexts.{NarrowedTexts}

@@ -1,7 +1,7 @@
 -- Rows of texts in which each text is cut to the width of its column, in columns.
 use Rattle.std.specs.Prelude.{◌≡◌, ◌<◌, ◌==◌, ℕ, List, MatchBool, Option, Some, None, length, nat_lt, if◌then◌else◌}
 use Rattle.tabled_base.specs.Cells.{cell_at}
-use Rattle.tabled_records.specs.Joined.{IsPrintable}
+use Rattle.tabled_base.specs.Printable.{IsPrintable}
 use Rattle.tabled_records.specs.NarrowedTexts.{AreKnown}
 use Rattle.tabled_records.specs.SizedRows.{sized_rows, sized_text}
 use Rattle.tabled_records.specs.declared.narrowed_texts.NarrowedTexts.{NarrowedTexts}

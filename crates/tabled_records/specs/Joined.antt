@@ -2,11 +2,11 @@
 -- byte where a text ends, and the columns of the text.
 use Rattle.std.specs.Prelude.{◌≡◌, ⊤, ℕ, zero, suc, ◌+◌, ◌<◌, ◌≤◌, List, [], ◌∷◌, length, slice_index_or, drop, map, take, ◌==◌, false}
 use Rattle.std.specs.Prelude.{Bool, true, ◌++◌}
-use Rattle.std.specs.List.{slice_range, All, list_all}
+use Rattle.std.specs.List.{slice_range, All}
 use Rattle.std.specs.Str.{IsCharBoundary}
+use Rattle.tabled_base.specs.Printable.{IsPrintable}
 use Rattle.tabled_text.specs.Measure.{lines_of, text_columns, greatest}
 use Rattle.tabled_base.specs.Cells.{lengthened_rows}
-use Rattle.std.specs.Int.{is_in_range}
 
 -- the texts at places: the first begins at `start`, each other one `gap` bytes after the end of the
 -- one before it
@@ -92,10 +92,6 @@ pub record IsCell (texts : List (List ℕ)) (cell told : List ℕ) (columns plac
 -- a text doesn't contain a byte
 abbrev pub HasNo : ℕ → List ℕ → Type 0
 HasNo byte text = All (λ b. (b == byte) ≡ false) text
-
--- a text is printable ASCII
-abbrev pub IsPrintable : List ℕ → Type 0
-IsPrintable text = list_all (is_in_range 0x20 0x7E) text ≡ true
 
 -- a cell is one line of its text, and its columns are right
 pub record IsLent (text : List ℕ) (start : ℕ) (cell : ℕ × ℕ) : Type 0 where

@@ -13,7 +13,8 @@ ghost use Rattle.tabled_records.specs.TextRows.{cells_of, most_cells, text_rows}
 ghost use Rattle.tabled_text.specs.Measure.{lines_of, text_columns};
 ghost use Rattle.tabled_records.specs.CutLentRows.{ArePrintable};
 ghost use Rattle.tabled_records.specs.Joined.{AreLentRows, AreMeasures, AreRanges, HasNo, IsLent};
-ghost use Rattle.tabled_records.specs.Joined.{IsPrintable, rows_in, texts_from};
+ghost use Rattle.tabled_base.specs.Printable.{IsPrintable};
+ghost use Rattle.tabled_records.specs.Joined.{rows_in, texts_from};
 
 use crate::row_ranges::{Pairs, RowRanges, text_at};
 use std::alloc::{AllocError, Global};

@@ -1,4 +1,5 @@
 pub mod CellsBehind
+pub mod Decimals
 pub mod FieldRows
 pub mod Joining
 pub mod Names

@@ -1,16 +1,20 @@
 //! The records that values make, with or without a header, from the strings of their fields.
 ghost use Rattle.std.specs.Cow.{cow_str_bytes};
+ghost use Rattle.std.specs.Fmt.{signed_decimal};
 ghost use Rattle.std.specs.Iterator.{Drains, IsFinite, IsFiniteIterable};
 ghost use Rattle.std.specs.List.{AllZip, flat_map};
-ghost use Rattle.std.specs.Prelude.{IfErr, IfOk, IsUtf8, List, OnOk, [], length, map, replicate};
+ghost use Rattle.std.specs.Prelude.{IfErr, IfOk, IsUtf8, List, OnOk, [], decimal, length, map};
+ghost use Rattle.std.specs.Prelude.{replicate};
 ghost use Rattle.std.specs.Prelude.{vec_len, ℕ, ◌++◌, ◌+◌, ◌∷◌, ◌≡◌};
 ghost use Rattle.tabled_base.specs.Cells.{row_texts};
 ghost use Rattle.tabled_base.specs.Given.{Given};
+ghost use Rattle.tabled_base.specs.Printable.{IsPrintable};
 ghost use Rattle.tabled_base.specs.declared.error.TableError.TheVariants.{Memory};
 ghost use Rattle.tabled_value.specs.Fields.{CellsAdded, Says};
 ghost use Rattle.tabled_value.specs.ValueRows.{ValuesAdded, pairs};
 
 use crate::value::Tabled;
+use itoa::Buffer;
 use std::alloc::{AllocError, Global};
 use std::borrow::CowStr;
 use std::fmt::Display;
@@ -66,6 +70,38 @@ pub(crate) fn push_text(row: &mut Vec<Text<String>>, text: &str) -> Result<(), T
 {
     let text = Text::copied(*row.allocator(), text)?;
     Ok(row.push(text)?)
+}
+
+#[inline(always)]
+pub(crate) fn push_printable(row: &mut Vec<Text<String>>, text: &str) -> Result<(), TableError>
+    requires { IsPrintable text.now }
+    ensures texts { OnOk result
+        (CellsAdded (λ texts. texts ≡ text.now ∷ []) row.old.items row.new.items) }
+    ensures length { OnOk result (vec_len row.new ≡ vec_len row.old + 1) }
+    ensures only { IfErr result (λ e. e ≡ Memory) }
+{
+    let text = Text::copied_printable(*row.allocator(), text)?;
+    Ok(row.push(text)?)
+}
+
+#[inline(always)]
+pub(crate) fn push_signed(row: &mut Vec<Text<String>>, number: i64) -> Result<(), TableError>
+    ensures texts { OnOk result
+        (CellsAdded (λ texts. texts ≡ signed_decimal number ∷ []) row.old.items row.new.items) }
+    ensures length { OnOk result (vec_len row.new ≡ vec_len row.old + 1) }
+    ensures only { IfErr result (λ e. e ≡ Memory) }
+{
+    push_printable(row, Buffer::new().format(number))
+}
+
+#[inline(always)]
+pub(crate) fn push_unsigned(row: &mut Vec<Text<String>>, number: u64) -> Result<(), TableError>
+    ensures texts { OnOk result
+        (CellsAdded (λ texts. texts ≡ decimal number ∷ []) row.old.items row.new.items) }
+    ensures length { OnOk result (vec_len row.new ≡ vec_len row.old + 1) }
+    ensures only { IfErr result (λ e. e ≡ Memory) }
+{
+    push_printable(row, Buffer::new().format(number))
 }
 
 pub(crate) fn push_texts(row: &mut Vec<Text<String>>, texts: Vec<CowStr>) -> Result<(), AllocError>

@@ -16,7 +16,8 @@ use Rattle.tabview_cells.proofs.Escapes.{above, below, escaped-none, inside}
 use Rattle.tabview_cells.specs.Choice.{shown_text}
 use Rattle.tabview_cells.specs.Escaping.{escaped, is_control, is_escaped, is_sign}
 use Rattle.tabview_cells.specs.Kinds.{is_code}
-use Rattle.tabview_cells.specs.Printable.{is_graphic, is_printable}
+use Rattle.tabled_base.specs.Printable.{is_printable}
+use Rattle.tabview_cells.specs.Graphic.{is_graphic}
 use Rattle.tabview_cells.specs.declared.choice.Shown.{Shown}
 use Rattle.tabview_cells.specs.declared.choice.Shown.TheVariants.{Lines, OneLine, Raw}
 use Rattle.tabview_cells.specs.declared.kinds.TheConstants.{CODE_COLUMNS}

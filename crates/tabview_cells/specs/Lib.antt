@@ -6,4 +6,4 @@ pub mod Laws
 pub mod Words
 pub mod Numbers
 pub mod Dates
-pub mod Printable
+pub mod Graphic

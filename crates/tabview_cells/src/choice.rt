@@ -5,7 +5,8 @@ ghost use Rattle.tabled_base.specs.declared.error.TableError.TheVariants.{Memory
 ghost use Rattle.tabled_records.specs.Joined.{with_text};
 ghost use Rattle.tabview_cells.specs.Choice.{cell_of, counting, counting_cell, shown_cell, shown_text, with_texts};
 ghost use Rattle.tabview_cells.specs.Kinds.{joined_at, joined_kinds};
-ghost use Rattle.tabview_cells.specs.Printable.{is_graphic, is_printable};
+ghost use Rattle.tabled_base.specs.Printable.{is_printable};
+ghost use Rattle.tabview_cells.specs.Graphic.{is_graphic};
 
 use crate::escaping::{escape, escape_into};
 use crate::kinds::{Kind, is_graphic_row};

@@ -4,7 +4,8 @@ ghost use Rattle.std.specs.Char.{is_whitespace};
 ghost use Rattle.std.specs.List.{list_any};
 ghost use Rattle.std.specs.Prelude.{◌≡◌, chars, length, nat_le, true};
 ghost use Rattle.tabview_cells.specs.Kinds.{is_code, joined, keeps_width, kind_of};
-ghost use Rattle.tabview_cells.specs.Printable.{is_graphic, is_printable};
+ghost use Rattle.tabled_base.specs.Printable.{is_printable};
+ghost use Rattle.tabview_cells.specs.Graphic.{is_graphic};
 
 use crate::dates::is_date;
 use crate::numbers::{is_digits, is_number};

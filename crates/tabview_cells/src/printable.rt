@@ -1,6 +1,7 @@
 //! Printable ASCII, which is shown as it is.
 ghost use Rattle.std.specs.Prelude.{◌≡◌};
-ghost use Rattle.tabview_cells.specs.Printable.{is_graphic, is_printable};
+ghost use Rattle.tabled_base.specs.Printable.{is_printable};
+ghost use Rattle.tabview_cells.specs.Graphic.{is_graphic};
 
 use tabled_text::run_end;
 

@@ -5,7 +5,7 @@ ghost use Rattle.std.specs.Prelude.{map, string_bytes, true};
 ghost use Rattle.tabled_base.specs.Cells.{lengthened_rows};
 ghost use Rattle.tabled_records.specs.Joined.{with_row_ended};
 ghost use Rattle.tabview_cells.specs.Choice.{shown_cell, with_texts};
-ghost use Rattle.tabview_cells.specs.Printable.{is_printable};
+ghost use Rattle.tabled_base.specs.Printable.{is_printable};
 ghost use Rattle.tabview_cells.specs.declared.choice.Shown.{Shown};
 ghost use Rattle.tabview_read.specs.Sheets.{HasLines, IsWidened, Line, name_lines, row_line};
 ghost use Rattle.tabview_read.specs.Shown.{number_of, shown_cells, texts_of};

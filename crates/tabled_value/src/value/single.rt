@@ -7,7 +7,7 @@ ghost use Rattle.tabled_base.specs.declared.error.TableError.TheVariants.{Memory
 ghost use Rattle.tabled_value.specs.Fields.{IsOneText};
 
 use super::Tabled;
-use crate::rows::{displayed, one_text, push_text};
+use crate::rows::{displayed, one_text, push_printable, push_signed, push_text, push_unsigned};
 use itoa::Buffer;
 use std::alloc::Global;
 use std::borrow::CowStr;
@@ -105,7 +105,7 @@ impl Tabled for bool {
 
     #[inline(always)]
     fn push_cells(&self, row: &mut Vec<Text<String>>) -> Result<(), TableError> {
-        push_text(row, if *self { "true" } else { "false" })
+        push_printable(row, if *self { "true" } else { "false" })
     }
 }
 
@@ -127,7 +127,7 @@ impl Tabled for i8 {
     }
 
     fn push_cells(&self, row: &mut Vec<Text<String>>) -> Result<(), TableError> {
-        push_text(row, Buffer::new().format(*self))
+        push_signed(row, *self as i64)
     }
 }
 
@@ -149,7 +149,7 @@ impl Tabled for i16 {
     }
 
     fn push_cells(&self, row: &mut Vec<Text<String>>) -> Result<(), TableError> {
-        push_text(row, Buffer::new().format(*self))
+        push_signed(row, *self as i64)
     }
 }
 
@@ -171,7 +171,7 @@ impl Tabled for i32 {
     }
 
     fn push_cells(&self, row: &mut Vec<Text<String>>) -> Result<(), TableError> {
-        push_text(row, Buffer::new().format(*self))
+        push_signed(row, *self as i64)
     }
 }
 
@@ -193,7 +193,7 @@ impl Tabled for i64 {
     }
 
     fn push_cells(&self, row: &mut Vec<Text<String>>) -> Result<(), TableError> {
-        push_text(row, Buffer::new().format(*self))
+        push_signed(row, *self)
     }
 }
 
@@ -237,7 +237,7 @@ impl Tabled for isize {
     }
 
     fn push_cells(&self, row: &mut Vec<Text<String>>) -> Result<(), TableError> {
-        push_text(row, Buffer::new().format(*self))
+        push_signed(row, *self as i64)
     }
 }
 
@@ -259,7 +259,7 @@ impl Tabled for u8 {
     }
 
     fn push_cells(&self, row: &mut Vec<Text<String>>) -> Result<(), TableError> {
-        push_text(row, Buffer::new().format(*self))
+        push_unsigned(row, *self as u64)
     }
 }
 
@@ -281,7 +281,7 @@ impl Tabled for u16 {
     }
 
     fn push_cells(&self, row: &mut Vec<Text<String>>) -> Result<(), TableError> {
-        push_text(row, Buffer::new().format(*self))
+        push_unsigned(row, *self as u64)
     }
 }
 
@@ -303,7 +303,7 @@ impl Tabled for u32 {
     }
 
     fn push_cells(&self, row: &mut Vec<Text<String>>) -> Result<(), TableError> {
-        push_text(row, Buffer::new().format(*self))
+        push_unsigned(row, *self as u64)
     }
 }
 
@@ -325,7 +325,7 @@ impl Tabled for u64 {
     }
 
     fn push_cells(&self, row: &mut Vec<Text<String>>) -> Result<(), TableError> {
-        push_text(row, Buffer::new().format(*self))
+        push_unsigned(row, *self)
     }
 }
 
@@ -369,7 +369,7 @@ impl Tabled for usize {
     }
 
     fn push_cells(&self, row: &mut Vec<Text<String>>) -> Result<(), TableError> {
-        push_text(row, Buffer::new().format(*self))
+        push_unsigned(row, *self as u64)
     }
 }
 

@@ -2,7 +2,7 @@ use Rattle.tabled_records.proofs.Names.{All-nil, AreRanges, [], ap, arith, false
 use Rattle.tabled_records.proofs.Names.{lines_of, rows_in, slice_range, subst, sym, texts_from, true, ℕ, ◌++◌, ◌+◌, ◌-◌, ◌<◌, ◌∙◌, ◌∷◌, ◌≡◌, ◌≤◌}
 use Rattle.tabled_records.proofs.Cutting.{split-begun, IsWithin, cut-feed, cut-tab, cut-start, lent-next, no-feed, placed-next, plain-next, rows-cut}
 use Rattle.tabled_records.proofs.Cutting.{within-end, within-more, within-run}
-use Rattle.tabled_records.specs.Joined.{IsPrintable}
+use Rattle.tabled_base.specs.Printable.{IsPrintable}
 use Rattle.tabled_records.proofs.Rows.{rows-lines}
 use Rattle.tabled_records.proofs.joined_records.split_rows.Goals as goal
 

@@ -1,5 +1,5 @@
 use Rattle.tabled_records.proofs.Names.{All, length, texts_from, true, ◌-◌, ◌≡◌}
-use Rattle.tabled_records.specs.Joined.{IsPrintable}
+use Rattle.tabled_base.specs.Printable.{IsPrintable}
 use Rattle.tabled_records.proofs.Cutting.{IsSplit}
 use Rattle.tabled_records.proofs.joined_records.split_rows.Given as goal
 

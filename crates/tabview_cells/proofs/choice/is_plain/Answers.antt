@@ -1,5 +1,5 @@
 use Rattle.std.proofs.Common.{ap, sym, ◌∙◌}
-use Rattle.tabview_cells.specs.Printable.{is_printable}
+use Rattle.tabled_base.specs.Printable.{is_printable}
 use Rattle.tabview_cells.proofs.choice.is_plain.Goals as goal
 
 pub returns-then-known : goal.returns-then-known

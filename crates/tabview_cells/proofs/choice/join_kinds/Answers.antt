@@ -5,7 +5,7 @@ use Rattle.std.specs.Prelude.{unwrap_or}
 use Rattle.csv.specs.Records.{fields_of}
 use Rattle.tabview_cells.specs.Choice.{counting, counting_cell}
 use Rattle.tabview_cells.specs.Kinds.{joined_at}
-use Rattle.tabview_cells.specs.Printable.{is_graphic}
+use Rattle.tabview_cells.specs.Graphic.{is_graphic}
 use Rattle.tabview_cells.proofs.Choosing.{cell-text}
 use Rattle.tabview_cells.proofs.JoinedKinds.{counting-all, joined-more, joined-none}
 use Rattle.tabview_cells.proofs.Printed.{all-field}

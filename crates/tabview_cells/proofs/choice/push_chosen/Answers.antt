@@ -4,7 +4,7 @@ use Rattle.std.specs.Prelude.{unwrap_or}
 use Rattle.csv.specs.Records.{fields_of, text_of}
 use Rattle.tabled_records.specs.Joined.{Written, with_text}
 use Rattle.tabview_cells.specs.Choice.{shown_cell, shown_text}
-use Rattle.tabview_cells.specs.Printable.{is_printable}
+use Rattle.tabled_base.specs.Printable.{is_printable}
 use Rattle.tabview_cells.proofs.Choosing.{begun-more, cell-text, chosen-more}
 use Rattle.tabview_cells.proofs.Printed.{all-field}
 use Rattle.tabview_cells.proofs.choice.push_chosen.Goals as goal

@@ -1,6 +1,6 @@
 use Rattle.std.proofs.Common.{ap, sym, ◌∙◌}
 use Rattle.tabview_cells.proofs.Printed.{code-graphic}
-use Rattle.tabview_cells.specs.Printable.{is_graphic}
+use Rattle.tabview_cells.specs.Graphic.{is_graphic}
 use Rattle.tabview_cells.proofs.kinds.is_code.Goals as goal
 
 pub returns-then-is_graphic : goal.returns-then-is_graphic

@@ -1,6 +1,6 @@
 use Rattle.std.proofs.Common.{ap, ◌∙◌}
 use Rattle.csv.specs.Records.{text_of}
-use Rattle.tabview_cells.specs.Printable.{is_graphic}
+use Rattle.tabview_cells.specs.Graphic.{is_graphic}
 use Rattle.tabview_cells.proofs.kinds.is_graphic_row.Goals as goal
 
 pub returns : goal.returns

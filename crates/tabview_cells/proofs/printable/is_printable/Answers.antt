@@ -3,7 +3,7 @@ use Rattle.std.specs.Int.{is_in_range}
 use Rattle.std.proofs.lemmas.Bool.{cases_lt}
 use Rattle.std.proofs.lemmas.Bool.Decides.{nat_tests}
 use Rattle.tabled_text.proofs.RunLemmas.{run-all, run-some}
-use Rattle.tabview_cells.specs.Printable.{is_printable}
+use Rattle.tabled_base.specs.Printable.{is_printable}
 use Rattle.tabview_cells.proofs.printable.is_printable.Goals as goal
 
 pub returns : goal.returns

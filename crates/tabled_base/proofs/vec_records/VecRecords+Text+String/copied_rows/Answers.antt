@@ -1,4 +1,4 @@
-use Rattle.tabled_base.proofs.Names.{IsRectangular, [], ap, append-nil, row_texts, subst, sym, ◌++◌, ◌∙◌, ◌≡◌}
+use Rattle.tabled_base.proofs.Names.{IsRectangular, ap, append-nil, row_texts, subst, sym, ◌++◌, ◌∙◌, ◌≡◌}
 use Rattle.tabled_base.proofs.StoredRows.{whole-rectangular}
 use Rattle.tabled_base.proofs.vec_records.VecRecords+Text+String.copied_rows.Goals as goal
 

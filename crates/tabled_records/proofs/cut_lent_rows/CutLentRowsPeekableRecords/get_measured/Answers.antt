@@ -7,7 +7,7 @@ use Rattle.tabled_records.proofs.CutLent.{printable-columns, printable-cut, prin
 use Rattle.tabled_records.proofs.Joining.{told_empty}
 use Rattle.tabled_records.proofs.ToldTexts.{right-in_place, right-made, told-right}
 use Rattle.tabled_records.specs.CutLentRows.{ArePrintable, IsCutKnown, cut_cell, cuts, tells_cut}
-use Rattle.tabled_records.specs.Joined.{IsPrintable}
+use Rattle.tabled_base.specs.Printable.{IsPrintable}
 use Rattle.tabled_records.specs.NarrowedTexts.{IsTold}
 use Rattle.tabled_text.specs.Cut.{IsCutAt}
 use Rattle.tabled_records.proofs.cut_lent_rows.CutLentRowsPeekableRecords.get_measured.Goals.{After-width_at, In-Some-told}

@@ -4,7 +4,7 @@ use Rattle.tabled_records.proofs.Joining.{told_empty}
 use Rattle.tabled_records.proofs.ToldTexts.{right-in_place, right-made, told-right}
 use Rattle.tabled_records.proofs.WrappedRows.{cell-wrapped, ended-in_place, ends-in_place, inside-wrapped, known-texts, wrapped-nil}
 use Rattle.tabled_records.specs.CutLentRows.{ArePrintable}
-use Rattle.tabled_records.specs.Joined.{IsPrintable}
+use Rattle.tabled_base.specs.Printable.{IsPrintable}
 use Rattle.tabled_records.specs.NarrowedTexts.{IsTold}
 use Rattle.tabled_records.specs.WrappedLentRows.{IsKnown, tells_wrapped, wrapped_cell, wraps}
 use Rattle.tabled_text.specs.LineEnds.{IsWrappedInPlace, wrapped_text}

@@ -3,7 +3,7 @@ use Rattle.std.proofs.lemmas.Bool.{and_parts}
 use Rattle.csv.specs.Records.{fields_of, text_of}
 use Rattle.tabled_records.specs.Joined.{with_row_ended}
 use Rattle.tabview_cells.specs.Choice.{with_texts}
-use Rattle.tabview_cells.specs.Printable.{is_printable}
+use Rattle.tabled_base.specs.Printable.{is_printable}
 use Rattle.tabview_read.proofs.ShownCells.{shown_all, texts-same}
 use Rattle.tabview_read.specs.Shown.{shown_cells}
 use Rattle.tabview_read.proofs.sheet.Collector.write_row.Goals as goal
