@@ -1,4 +1,5 @@
 pub mod AddedCells
+pub mod Columns
 pub mod CsvRecords
 pub mod Lines
 pub mod Parts

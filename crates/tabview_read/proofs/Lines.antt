@@ -21,7 +21,7 @@ use Rattle.tabview_read.specs.declared.sheet.Collector.{Collector}
 use Rattle.tabview_read.specs.declared.sheet.Sheet.{Sheet}
 use Rattle.tabview_read.specs.declared.sheet.Wanted.{Wanted}
 
-AllZip-one_more : {A B : Type 0} (R : A → B → Type 0) (xs : List A) (ys : List B) (x : A) (y : B) → AllZip R xs ys → R x y → AllZip R (xs ++ x ∷ []) (ys ++ y ∷ [])
+pub AllZip-one_more : {A B : Type 0} (R : A → B → Type 0) (xs : List A) (ys : List B) (x : A) (y : B) → AllZip R xs ys → R x y → AllZip R (xs ++ x ∷ []) (ys ++ y ∷ [])
 AllZip-one_more R [] [] x y all one = (one, tt)
 AllZip-one_more R [] (v ∷ ys) x y all one = absurd all
 AllZip-one_more R (u ∷ xs) [] x y all one = absurd all

@@ -1,23 +1,11 @@
-use Rattle.tabview_read.proofs.Selected.{Grows-none, Grows-more}
+use Rattle.std.proofs.Common.{arith, ◌∙◌}
+use Rattle.tabview_read.proofs.Columns.{next-found, no-column}
 use Rattle.tabview_read.proofs.chosen.Chosen.find.Goals as goal
 
-pub loop-name-init : goal.loop-name-init
-loop-name-init c = Grows-none _
+pub returns-in-None-clause-missing : goal.returns-in-None-clause-missing
+returns-in-None-clause-missing c = no-column _ _ c.args.self.now.wanted.now c.loop-name.name-index _ _ (omega arith) c.in_ok-name-in-None.ensures.ok c.in-None.ensures
 
 pub loop-name-preserved : goal.loop-name-preserved
-loop-name-preserved c = Grows-more c.loop-name.invariant c.push.ensures
-
-pub returns-in_err-push-in-Some : goal.returns-in_err-push-in-Some
-returns-in_err-push-in-Some c = Grows-more c.loop-name.invariant c.push.ensures
-
-pub returns-in_err-name-in-None : goal.returns-in_err-name-in-None
-returns-in_err-name-in-None c = c.loop-name.invariant
-
-pub returns-in-None : goal.returns-in-None
-returns-in-None c = c.loop-name.invariant
-
-pub returns-in_err-widen : goal.returns-in_err-widen
-returns-in_err-widen c = Grows-more c.loop-name.invariant c.widen.ensures
-
-pub returns : goal.returns
-returns c = Grows-more c.loop-name.invariant c.widen.ensures
+loop-name-preserved c =
+    let i = c.loop-name.invariant in
+    (next-found _ _ c.args.self.now.wanted.now c.loop-name.name-index _ _ _ _ _ i.0 (omega arith) c.in-Some.ensures c.in_ok-push-in-Some.ensures.column, c.push.ensures.wanted ∙ i.1)

@@ -1,14 +1,13 @@
-use Rattle.tabview_read.proofs.Selected.{Grows-none, Grows-more}
+use Rattle.std.proofs.Common.{arith, sym, ◌∙◌}
+use Rattle.tabview_read.proofs.Columns.{all-shown, one-shown}
 use Rattle.tabview_read.proofs.chosen.Chosen.widen.Goals as goal
 
-pub loop-column-init : goal.loop-column-init
-loop-column-init c = Grows-none _
-
 pub loop-column-preserved : goal.loop-column-preserved
-loop-column-preserved c = Grows-more c.loop-column.invariant c.push.ensures
+loop-column-preserved c =
+    let i = c.loop-column.invariant in
+    (one-shown _ _ _ _ _ i.0 (omega arith) c.loop-column-test.true c.in_ok-push.ensures.column, c.push.ensures.wanted ∙ i.1)
 
-pub returns-in_err-push : goal.returns-in_err-push
-returns-in_err-push c = Grows-more c.loop-column.invariant c.push.ensures
-
-pub returns-after-loop-column : goal.returns-after-loop-column
-returns-after-loop-column c = c.loop-column.invariant
+pub returns-after-loop-column-clause-widened : goal.returns-after-loop-column-clause-widened
+returns-after-loop-column-clause-widened c =
+    let i = c.loop-column.invariant in
+    all-shown c.args.self.now.wanted.now _ _ _ _ (sym c.is_empty.ensures ∙ c.if-is_empty.true) i.0 (omega arith) c.loop-column-test.false (omega arith)
