@@ -2,6 +2,7 @@ pub mod Places
 pub mod Numbers
 pub mod Cells
 pub mod Columns
+pub mod Formats
 pub mod Selection
 pub mod Sheets
 pub mod Shown
