@@ -1,5 +1,5 @@
 -- What is asked for, in the words of the crates below. A text is the list of its bytes.
-use Rattle.std.specs.Prelude.{◌≡◌, ℕ, ◌+◌, ◌-◌, ◌^◌, ◌++◌, Bool, true, false, List, [], ◌∷◌, Option, codes, if◌then◌else◌, map, min, option_map, unwrap_or}
+use Rattle.std.specs.Prelude.{◌≡◌, ℕ, ◌+◌, ◌-◌, ◌^◌, ◌++◌, Bool, true, false, List, [], ◌∷◌, Option, Some, None, codes, if◌then◌else◌, map, min, option_map, unwrap_or}
 use Rattle.std.specs.Borrow.{Bor}
 use Rattle.tabled_config.specs.declared.alignment.AlignmentHorizontal.{AlignmentHorizontal}
 use Rattle.tabled_config.specs.declared.alignment.AlignmentHorizontal.TheVariants as at
@@ -12,6 +12,8 @@ use Rattle.tabview_options.specs.declared.options.Options.{Options}
 use Rattle.tabview_options.specs.declared.options.Side.{Side}
 use Rattle.tabview_options.specs.declared.options.Side.TheVariants.{Left, Right, Center}
 use Rattle.tabview_print.specs.declared.layout.Column.{Column}
+use Rattle.tabview_read.specs.Formats.{format_of_name, format_of_path}
+use Rattle.tabview_read.specs.declared.format.Format.{Format}
 use Rattle.tabview_read.specs.declared.sheet.Wanted.{Wanted}
 
 -- the text that is asked for, else another
@@ -21,6 +23,12 @@ text_or text asked = unwrap_or (option_map (λ s. s.now) asked) text
 -- control characters are shown as they are, or escaped
 abbrev pub shown_by : Bool → Shown
 shown_by raw = if raw then Raw else Lines
+
+-- the format that is named, else that of the file's ending
+abbrev pub format_of : Option (Bor (List ℕ)) → Option (Bor (List ℕ)) → Option Format
+format_of (Some name) file = format_of_name name.now
+format_of None (Some path) = format_of_path path.now
+format_of None None = None
 
 -- what is wanted by the options
 pub record IsWanted (options : Options) (wanted : Wanted) : Type 0 where

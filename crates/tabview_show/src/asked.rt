@@ -1,6 +1,7 @@
 //! What is asked for, in the words of the crates below.
 ghost use Rattle.std.specs.Prelude.{◌≡◌, if◌then◌else◌, unwrap_or};
-ghost use Rattle.tabview_show.specs.Asked.{IsWanted, alignment, measured, shown_by, side_of_kind};
+ghost use Rattle.tabview_show.specs.Asked.{IsWanted, alignment, format_of, measured, shown_by};
+ghost use Rattle.tabview_show.specs.Asked.{side_of_kind};
 
 use tabled_config::AlignmentHorizontal;
 use tabview_cells::{Kind, Shown};
@@ -61,11 +62,16 @@ pub(crate) fn json_options(input: &Input<'_>) -> JsonOptions
     }
 }
 
-/// Returns the format that was named, else that of the file's ending. `Format` decides which.
-pub(crate) fn format_of(input: &Input<'_>) -> Option<Format> {
+/// Returns the format that was named, else that of the file's ending.
+pub(crate) fn format_of(input: &Input<'_>) -> Option<Format>
+    ensures { result ≡ format_of input.now.format input.now.file }
+{
     match input.format {
         Some(name) => Format::of_name(name),
-        None => Format::of_path(input.file?),
+        None => match input.file {
+            Some(path) => Format::of_path(path),
+            None => None,
+        },
     }
 }
 
