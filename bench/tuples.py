@@ -4,10 +4,11 @@
 usage: tuples.py BASELINE [FOLDER]
 
 BASELINE is the program that was written by hand for tables of tab-separated texts. A small program is written into FOLDER (else a
-temporary folder) beside copies of the crates and built with `rt run`: it makes a vector of tuples of six values (numbers, texts, a
-truth value), a `Table` of it with a header, and prints that to standard output. The baseline prints what a first run of the program tells of the same
-cells with tabs between them. Both run in interleaved rounds, their output to the null device. Printed are the shortest and the median of the
-processor times (user and system) in milliseconds, and whether the bar holds: at most the time of the baseline.
+temporary folder) beside copies of the crates and built with `rt run`: it makes a `Table` of tuples of six values (numbers, texts, a
+truth value) with a header, and prints that to standard output. The tuples come from an iterator, or from a vector, whose making is
+timed too. The baseline prints what a first run of the program tells of the same cells with tabs between them. All run in interleaved
+rounds, their output to the null device. Printed are the shortest and the median of the processor times (user and system) in
+milliseconds, as shares of the baseline's too, and whether the bar holds: from an iterator at most the time of the baseline.
 """
 
 import pathlib
@@ -21,13 +22,14 @@ import building
 ROUNDS = 21
 
 PROGRAM = """\
-//! Prints a table of 100,000 tuples, or, with a word, their cells with tabs between them.
+//! Prints a table of 100,000 tuples, with a word that of a vector of them, or, with two words, their
+//! cells with tabs between them.
 #![tactic(auto)]
 
 use std::alloc::{AllocError, Global};
 use std::env;
 use std::io::{self, BufWriter, Write};
-use tabled::{IoSink, Table};
+use tabled::{IoSink, Table, TableError};
 
 const ROWS: u64 = 100_000;
 
@@ -58,18 +60,29 @@ fn rows(alloc: Global) -> Result<Vec<Row>, AllocError> {
     Ok(rows)
 }
 
-fn main(rt: HostRuntime) -> Result<(), anyhow::Error> {
-    let alloc = rt.alloc();
-    let rows = rows(alloc)?;
-    let mut out = BufWriter::new(alloc, io::writer(&rt))?;
-    if env::args(&rt)?.count() > 1 {
-        write!(out, "u64\\t&str\\t&str\\tu32\\tbool\\ti64\\n")?;
-        for (number, first, second, count, third, balance) in rows {
-            write!(out, "{number}\\t{first}\\t{second}\\t{count}\\t{third}\\t{balance}\\n")?;
-        }
+fn cells<W: Write>(out: &mut W) -> io::Result<()> {
+    write!(out, "u64\\t&str\\t&str\\tu32\\tbool\\ti64\\n")?;
+    for (number, first, second, count, third, balance) in (0..ROWS).map(row) {
+        write!(out, "{number}\\t{first}\\t{second}\\t{count}\\t{third}\\t{balance}\\n")?;
+    }
+    Ok(())
+}
+
+fn table(alloc: Global, words: usize) -> Result<Table, TableError> {
+    if words > 1 {
+        Table::new(alloc, rows(alloc)?)
     } else {
-        let table = Table::new(alloc, rows)?;
-        table.write_to(&mut IoSink::new(&mut out))?;
+        Table::new(alloc, (0..ROWS).map(row))
+    }
+}
+
+fn main(rt: HostRuntime) -> Result<(), anyhow::Error> {
+    let words = env::args(&rt)?.count();
+    let mut out = BufWriter::new(rt.alloc(), io::writer(&rt))?;
+    if words > 2 {
+        cells(&mut out)?;
+    } else {
+        table(rt.alloc(), words)?.write_to(&mut IoSink::new(&mut out))?;
         write!(out, "\\n")?;
     }
     out.flush()?;
@@ -78,15 +91,33 @@ fn main(rt: HostRuntime) -> Result<(), anyhow::Error> {
 """
 
 
-def time_of(program, given):
+def time_of(command, given):
     """The processor time of one run in milliseconds."""
     before = resource.getrusage(resource.RUSAGE_CHILDREN)
     with open(given, "rb") as source:
-        done = subprocess.run([program], stdin=source, stdout=subprocess.DEVNULL, env={})
+        done = subprocess.run(command, stdin=source, stdout=subprocess.DEVNULL, env={})
     if done.returncode != 0:
-        sys.exit(f"{program} ended with {done.returncode}")
+        sys.exit(f"{command[0]} ended with {done.returncode}")
     after = resource.getrusage(resource.RUSAGE_CHILDREN)
     return ((after.ru_utime - before.ru_utime) + (after.ru_stime - before.ru_stime)) * 1000
+
+
+def output(command, given):
+    """What one run prints."""
+    with open(given, "rb") as source:
+        return subprocess.run(command, stdin=source, capture_output=True, check=True).stdout
+
+
+def judge(times):
+    """Prints the times, and whether the bar holds."""
+    least = {name: min(all_of) for name, all_of in times.items()}
+    middle = {name: statistics.median(all_of) for name, all_of in times.items()}
+    for name in times:
+        shares = f"{least[name] / least['baseline']:.2f} {middle[name] / middle['baseline']:.2f}"
+        print(f"{name:10} {least[name]:7.1f} {middle[name]:7.1f}   {shares}")
+    holds = least["iterator"] <= least["baseline"]
+    print(f"at most the time of the baseline: {'yes' if holds else 'NO'}")
+    return holds
 
 
 def main():
@@ -95,20 +126,16 @@ def main():
     baseline = sys.argv.pop(1)
     with building.program(__doc__, "tuple_times", building.TABLED, {"src/main.rt": PROGRAM}) as program:
         given = pathlib.Path(program).with_name("cells")
-        with open(given, "wb") as cells:
-            subprocess.run([program, "cells"], stdin=subprocess.DEVNULL, stdout=cells, check=True)
-        with open(given, "rb") as cells:
-            wanted = subprocess.run([baseline], stdin=cells, capture_output=True, check=True).stdout
-        if subprocess.run([program], stdin=subprocess.DEVNULL, capture_output=True, check=True).stdout != wanted:
-            sys.exit("the program and the baseline print other tables")
-        times = {"tuples": [], "baseline": []}
+        given.write_bytes(output([program, "all", "cells"], "/dev/null"))
+        commands = {"iterator": [program], "vector": [program, "vector"], "baseline": [baseline]}
+        wanted = output(commands["baseline"], given)
+        if any(output(command, given) != wanted for command in commands.values()):
+            sys.exit("a program and the baseline print other tables")
+        times = {name: [] for name in commands}
         for _ in range(ROUNDS):
-            times["tuples"].append(time_of(program, given))
-            times["baseline"].append(time_of(baseline, given))
-    for name, all_of in times.items():
-        print(f"{name:10} {min(all_of):7.1f} {statistics.median(all_of):7.1f}")
-    share = min(times["tuples"]) / min(times["baseline"])
-    print(f"at most the time of the baseline: {'yes' if share <= 1 else 'NO'} ({share:.2f})")
+            for name, command in commands.items():
+                times[name].append(time_of(command, given))
+    sys.exit(0 if judge(times) else 1)
 
 
 main()
