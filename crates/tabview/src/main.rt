@@ -5,21 +5,20 @@
 #[cfg(test)]
 mod tests;
 
-use anyhow::Result;
 use clap::ArgMatches;
-use std::env;
 use std::process::ExitCode;
 use std::rt::Env;
+use std::{env, io};
 use tabview_options::{Options, command, width_of};
 use tabview_show::{ViewError, show};
 
-fn main(rt: HostRuntime) -> Result<ExitCode> {
+fn main(rt: HostRuntime) -> io::Result<ExitCode> {
     let words: Vec<String> = env::args(&rt)?.collect(rt.alloc())?;
     run(&rt, words.as_slice())
 }
 
 /// Runs the viewer with the words of a command line.
-fn run(rt: &HostRuntime, words: &[String]) -> Result<ExitCode> {
+fn run(rt: &HostRuntime, words: &[String]) -> io::Result<ExitCode> {
     match command(rt.alloc())?.try_get_matches_from(words) {
         Ok(matches) => view(rt, &matches),
         Err(error) => {
@@ -29,7 +28,7 @@ fn run(rt: &HostRuntime, words: &[String]) -> Result<ExitCode> {
     }
 }
 
-fn view(rt: &HostRuntime, matches: &ArgMatches<'_>) -> Result<ExitCode> {
+fn view(rt: &HostRuntime, matches: &ArgMatches<'_>) -> io::Result<ExitCode> {
     match Options::of(rt.alloc(), matches, terminal_width(rt)) {
         Ok(options) => outcome(rt, &options, show(rt, &options)),
         Err(error) => {
@@ -44,7 +43,7 @@ fn outcome(
     rt: &HostRuntime,
     options: &Options<'_>,
     shown: Result<(), ViewError>,
-) -> Result<ExitCode> {
+) -> io::Result<ExitCode> {
     match shown {
         Ok(()) => Ok(ExitCode::SUCCESS),
         Err(error) => {
