@@ -1,7 +1,7 @@
 #!/usr/bin/env python3
 """Times the options of whole tables, over the files that `generate.py` writes and parts of them.
 
-usage: options.py [--narrowing] [FOLDER]
+usage: options.py [--narrowing | --plans TABPRINT] [FOLDER]
 
 A small program is written into FOLDER (else a temporary folder) beside copies of the crates, built with `rt run`, and
 run on the first tenth and third of the rows of each file, and on all of them, in interleaved rounds. Each table is narrowed to
@@ -11,11 +11,15 @@ after the other, and by their heights too. The copies that are changed are made 
 Printed are the processor times of the thread (user and system), as Linux keeps them: the shortest in milliseconds, and the median in
 nanoseconds a byte of the texts, which stays the same where a call is linear in them; and whether the bar holds: narrowing all rows of
 short cells takes at most a third more time a byte than the first tenth of them, by the median over the rounds of the shares of the shortest times.
-With --narrowing the tables of short cells are narrowed, in more rounds, and nothing else is done.
+With --narrowing the tables of short cells are narrowed, in more rounds, and nothing else is done. With --plans all tables are, and
+TABPRINT, the built program, does the same to each file from its first byte to its last. Printed are the shortest times of the call and
+of the program, and whether the call takes at most 1.3 times as long.
 """
 
 import collections
+import os
 import pathlib
+import resource
 import statistics
 import subprocess
 import sys
@@ -30,6 +34,11 @@ NARROWING_ROUNDS = 25
 
 # The calls for which a bar is set.
 NARROWING = ("wrap", "truncate", "truncate,ended")
+
+# The arguments that have the program do what a call does, and how long the call may take, as a multiple of its time.
+PLANS = {"wrap": ["--wrap"], "wrap,words": ["--words", "--wrap"], "truncate": ["--cut"]}
+PLAN_ROUNDS = 15
+PLAN_SHARE = 1.3
 
 PROGRAM = """\
 //! Times options on the table of tab-separated rows on standard input.
@@ -197,14 +206,50 @@ def judge(parts):
         print(f"{call} takes at most a third more time a byte: {'yes' if share <= 4 / 3 else 'NO'} ({share:.2f})")
 
 
+def time_of(command, data):
+    """The processor time of a program, in nanoseconds."""
+    before = resource.getrusage(resource.RUSAGE_CHILDREN)
+    subprocess.run(command, input=data, stdout=subprocess.DEVNULL, check=True)
+    after = resource.getrusage(resource.RUSAGE_CHILDREN)
+    return ((after.ru_utime - before.ru_utime) + (after.ru_stime - before.ru_stime)) * 1e9
+
+
+def compare_plans(program, tabprint, folder):
+    """Prints for each file and call its time and that of the program. Returns whether the bar holds for all."""
+    held = []
+    for file in FILES:
+        data = (folder / file).read_bytes()
+        width = subprocess.run([tabprint], input=data, capture_output=True, check=True).stdout.index(b"\n")
+        calls, plans = collections.defaultdict(list), collections.defaultdict(list)
+        for _ in range(PLAN_ROUNDS):
+            for name, times in measure(program, data, ("narrowing",)).items():
+                calls[name] += times
+            for name, words in PLANS.items():
+                plan = [tabprint, *words, str(width // 2), "--priority", "max"]
+                plans[name].append(time_of(plan, data))
+        for name in PLANS:
+            call, plan = min(calls[name]), min(plans[name])
+            held.append(call <= PLAN_SHARE * plan)
+            kept = "yes" if held[-1] else "NO"
+            print(f"{file:10} {name:11} {call / 1e6:7.1f} {plan / 1e6:7.1f}   {call / plan:.2f} of {PLAN_SHARE} {kept}", flush=True)
+    return all(held)
+
+
 def main():
     here = pathlib.Path(__file__).resolve().parent
+    tabprint = None
+    if "--plans" in sys.argv:
+        at = sys.argv.index("--plans")
+        tabprint = os.path.abspath(sys.argv[at + 1])
+        del sys.argv[at : at + 2]
     alone = "--narrowing" in sys.argv
     sys.argv = [word for word in sys.argv if word != "--narrowing"]
     files, words, rounds = (("short.tsv",), ("narrowing",), NARROWING_ROUNDS) if alone else (FILES, (), ROUNDS)
     with tempfile.TemporaryDirectory() as data_folder:
         subprocess.run([sys.executable, here / "generate.py", data_folder], check=True)
         with building.program(__doc__, "option_times", building.TABLED, {"src/main.rt": PROGRAM}) as program:
+            if tabprint:
+                sys.exit(0 if compare_plans(program, tabprint, pathlib.Path(data_folder)) else 1)
             print(f"{'file':10} {'bytes':>10} {'call':14} {'ms':>8} {'ns a byte':>9}")
             for file in files:
                 parts = measured(program, (pathlib.Path(data_folder) / file).read_bytes(), words, rounds)

@@ -7,6 +7,7 @@ use Rattle.tabled_line.proofs.Names.{length-map-range_with_len, lit<, offset_at,
 use Rattle.tabled_line.proofs.Names.{rule_line, rule_piece, slot_at, subst, suc, sym, take, take-append-drop, take-append_seam, take-take}
 use Rattle.tabled_line.proofs.Names.{take_all, ℕ, ◌++◌, ◌+◌, ◌-◌, ◌<◌, ◌∙◌, ◌∷◌, ◌≡◌, ◌≤◌}
 use Rattle.std.proofs.Math.Seq.{drop-append-add, drop-drop, take-add}
+use Rattle.std.proofs.lemmas.List.{length-take}
 use Rattle.std.proofs.lemmas.Slice.{between_is}
 use Rattle.std.proofs.lemmas.Str.{IsUtf8-take}
 use Rattle.tabled_line.specs.BlankRow.{blank_line, blank_row}
@@ -241,6 +242,16 @@ text-appended {rs} {index} {blank} {line} {passed} {column} {placed} start next 
 pub rest-dropped : (blank bytes : List ℕ) (passed : ℕ) → bytes ≡ blank → take (length bytes - passed) (drop passed bytes) ≡ drop passed blank
 rest-dropped blank bytes passed same =
     take_all (length bytes - passed) (drop passed bytes) (omega (arith, length-drop passed bytes)) ∙ ap (drop passed) same
+
+-- a row with more behind it is as long as the row, and has the same parts
+pub padded-long : (row padded : List ℕ) → take (length row) padded ≡ row → length row ≤ length padded
+padded-long row padded same = omega (arith, ap length same, length-take (length row) padded)
+
+pub padded-part : (row padded : List ℕ) (passed count : ℕ) → take (length row) padded ≡ row → passed + count ≤ length row
+    → take count (drop passed padded) ≡ take count (drop passed row)
+padded-part row padded passed count same within =
+    sym (take-take count (length row - passed) (drop passed padded) (omega (arith, within)))
+    ∙ ap (take count) (between_is padded passed (length row) ∙ ap (drop passed) same)
 
 appended-all : {rs : RowSheet} {index : ℕ} {blank line : List ℕ} {passed column : ℕ} → IsAppended rs index blank line passed column
     → column ≡ rs.columns.count → line ++ drop passed blank ≡ 10 ∷ row_line rs index

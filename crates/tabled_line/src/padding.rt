@@ -7,7 +7,7 @@ use crate::text_sink::TextSink;
 use tabled_base::TableError;
 use tabled_config::{Indent, Sides};
 
-const SPACES: &str = "                                                                ";
+pub(crate) const SPACES: &str = "                                                                ";
 
 const DASHES: &str = "----------------------------------------------------------------";
 

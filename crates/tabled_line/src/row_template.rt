@@ -9,10 +9,11 @@ ghost use Rattle.tabled_line.specs.RowLines.{IsRowLine};
 
 use crate::borders::{TableColumns, write_left_edge, write_right_edge, write_rule_pieces};
 use crate::cell_lines::RowLine;
+use crate::padding::SPACES;
 use crate::placement::{KnownPlacements, RowPlacements, place_text};
 use crate::row::Row;
 use crate::text_sink::TextSink;
-use std::alloc::Global;
+use std::alloc::{AllocError, Global};
 use tabled_base::TableError;
 use tabled_config::{HorizontalLine, RowStyles, VerticalLine};
 
@@ -95,11 +96,23 @@ fn list_slots<C: TableColumns>(slots: &mut Vec<Slot>, columns: &C, start: usize)
 #[derive(Drop)]
 pub(crate) struct BlankRow {
     text: String,
+    /// The text with spaces behind it, so that its last parts are copied in one block, too.
+    padded: String,
     slots: Vec<Slot>,
 }
 
 /// The bytes that are copied at once.
 const BLOCK: usize = 16;
+
+/// Returns a row with at least `BLOCK` spaces behind it.
+fn padded_row(alloc: Global, row: &str) -> Result<String, AllocError>
+    ensures { IfOk result (λ padded.
+        take (length row.now) (string_bytes padded) ≡ row.now) }
+{
+    let mut padded = String::from_str(alloc, row)?;
+    padded.push_str(SPACES)?;
+    Ok(padded)
+}
 
 /// Copies bytes over those of a line from `place` on.
 #[inline(always)]
@@ -112,6 +125,47 @@ fn copy_at(line: &mut [u8], place: usize, bytes: &[u8])
         → take (place + count) line.new ≡ take place line.old ++ take count bytes.now }
 {
     line[place..place + bytes.len()].copy_from_slice(bytes);
+}
+
+/// Copies bytes as `copy_at` does: the first `size` and the last `size` of them, which is all.
+#[inline(always)]
+fn copy_ends(line: &mut [u8], place: usize, bytes: &[u8], size: usize)
+    requires fits { place + length bytes.now ≤ length line.old }
+    requires size { size ≤ length bytes.now }
+    requires all { length bytes.now ≤ size + size }
+    ensures length { length line.new ≡ length line.old }
+    ensures rest { drop (place + length bytes.now) line.new
+        ≡ drop (place + length bytes.now) line.old }
+    ensures copied { (count : ℕ) → count ≤ length bytes.now
+        → take (place + count) line.new ≡ take place line.old ++ take count bytes.now }
+{
+    let last = bytes.len() - size;
+    copy_at(line, place, &bytes[..size]);
+    copy_at(line, place + last, &bytes[last..]);
+}
+
+/// Copies bytes as `copy_at` does. Up to 16 are copied without a call.
+#[inline(always)]
+fn copy_text(line: &mut [u8], place: usize, bytes: &[u8])
+    requires { place + length bytes.now ≤ length line.old }
+    ensures length { length line.new ≡ length line.old }
+    ensures rest { drop (place + length bytes.now) line.new
+        ≡ drop (place + length bytes.now) line.old }
+    ensures copied { (count : ℕ) → count ≤ length bytes.now
+        → take (place + count) line.new ≡ take place line.old ++ take count bytes.now }
+{
+    let count = bytes.len();
+    if count > BLOCK {
+        copy_at(line, place, bytes);
+    } else if count >= 8 {
+        copy_ends(line, place, bytes, 8);
+    } else if count >= 4 {
+        copy_ends(line, place, bytes, 4);
+    } else if count >= 2 {
+        copy_ends(line, place, bytes, 2);
+    } else if count == 1 {
+        copy_ends(line, place, bytes, 1);
+    }
 }
 
 /// Copies the first `count` bytes of a part of the blank row over those of a line from `place` on.
@@ -158,7 +212,7 @@ fn overlay_texts<'a, R: Row<'a>, A: RowPlacements>(
         if placed.text.len() != placed.columns {
             return None;
         }
-        copy_at(line, slot.place + placed.before, placed.text.as_bytes());
+        copy_text(line, slot.place + placed.before, placed.text.as_bytes());
     }
     Some(bytes.len())
 }
@@ -181,7 +235,7 @@ fn append_texts<'a, R: Row<'a>, A: RowPlacements>(
 {
     // A copy, so that the fields are read once.
     let here = *at;
-    let bytes = blank.text.as_bytes();
+    let bytes = blank.padded.as_bytes();
     let slots = blank.slots.as_slice();
     // The bytes of the buffer that are left if each further text has as many bytes as columns.
     let mut spare = line.len().checked_sub(bytes.len())?;
@@ -203,13 +257,13 @@ fn append_texts<'a, R: Row<'a>, A: RowPlacements>(
         let count = start - passed;
         let begin = end + count;
         copy_part(line, end, &bytes[passed..], count);
-        copy_at(line, begin, placed.text.as_bytes());
+        copy_text(line, begin, placed.text.as_bytes());
         end = begin + placed.text.len();
         passed = start + placed.columns;
     }
-    let rest = &bytes[passed..];
-    copy_at(line, end, rest);
-    Some(end + rest.len())
+    let count = blank.text.len() - passed;
+    copy_part(line, end, &bytes[passed..], count);
+    Some(end + count)
 }
 
 /// A blank row that is built once, and a buffer for lines. Lines have a line feed before them.
@@ -235,10 +289,15 @@ impl RowTemplate {
         let mut slots = Vec::new(alloc);
         let start = write_blank(&mut text, columns).ok()?;
         list_slots(&mut slots, columns, start)?;
+        let padded = padded_row(alloc, text.as_str()).ok()?;
         let most = text.as_str().len().checked_mul(BYTES_PER_COLUMN)?;
         Some(RowTemplate {
-            buffer: vec![in alloc; 0; most].ok()?,
-            blank: BlankRow { text, slots },
+            buffer: vec![in alloc; 0; most.checked_add(BLOCK)?].ok()?,
+            blank: BlankRow {
+                text,
+                padded,
+                slots,
+            },
             appends: false,
         })
     }

@@ -1,6 +1,7 @@
 //! The total width and height of a table: of given sizes, of its effective sizes (stored ones, else
 //! estimates), and of estimates alone.
-ghost use Rattle.std.specs.Prelude.{◌≡◌, ◌⊎◌, ◌<◌, ◌≤◌, IfErr, None, Ok, OnOk, false, length, true};
+ghost use Rattle.std.specs.Prelude.{◌≡◌, ◌⊎◌, ◌<◌, ◌≤◌, IfErr, IfSome, None, Ok, OnOk, false, length};
+ghost use Rattle.std.specs.Prelude.{true, ℕ};
 ghost use Rattle.tabled_base.specs.Cells.{IsRectangular, columns};
 ghost use Rattle.tabled_base.specs.declared.error.TableError.TheVariants.{Memory, Range};
 ghost use Rattle.tabled_base.specs.declared.error.TableError.TheVariants.{ShortHeights};
@@ -11,7 +12,7 @@ ghost use Rattle.tabled_size.specs.Reached.{reached};
 ghost use Rattle.tabled_size.specs.Sheet.{is_empty, estimated};
 ghost use Rattle.tabled_size.specs.Stored.{heights_of, widths_of};
 ghost use Rattle.tabled_size.specs.Totals.{IsTotal, filled_height, filled_width, framed_height};
-ghost use Rattle.tabled_size.specs.Totals.{framed_width, total_height, total_width};
+ghost use Rattle.tabled_size.specs.Totals.{framed_width, rules_at, total_height, total_width};
 
 use crate::complete_dimension::CompleteDimension;
 use crate::dimension::Dimension;
@@ -102,6 +103,28 @@ fn framed_height(config: &SpannedConfig, rows: usize, inside: usize) -> Option<u
     margin.top.size.checked_add(inside.checked_add(below)?)
 }
 
+/// How many lines the horizontal line above a row takes: `shared`, where it is known for the lines
+/// between any two rows.
+fn lines_above(config: &SpannedConfig, shared: Option<usize>, rows: usize, row: usize) -> usize
+    requires { IfSome shared (λ lines. (row : ℕ) → 0 < row → row < rows
+        → rules_at config.now rows row ≡ lines) }
+    ensures { result ≡ rules_at config.now rows row }
+{
+    match shared {
+        Some(lines) if 0 < row && row < rows => lines,
+        _ => usize::from(config.rule_at(rows, row).is_some()),
+    }
+}
+
+/// How many lines the horizontal line between any two rows takes, if no line was set by index.
+fn lines_between(config: &SpannedConfig) -> Option<usize>
+    ensures { IfSome result (λ lines. (rows row : ℕ) → 0 < row → row < rows
+        → rules_at config.now rows row ≡ lines) }
+{
+    let rule = config.shared_rule()?;
+    Some(usize::from(rule.is_some()))
+}
+
 /// Returns the total height of a table with `rows` rows, at least one, whose heights are all known:
 /// the heights, the horizontal lines, top and bottom margin. `None` if it exceeds `usize::MAX`.
 #[tactic(auto, unfolding(crate::specs::Totals::filled_height, crate::specs::Totals::framed_height, crate::specs::Totals::part_height), using(tabled_priority::proofs::Sums::sum_step, crate::proofs::Reaching::reached_is))]
@@ -110,9 +133,10 @@ pub fn filled_height<D: Dimension>(config: &SpannedConfig, rows: usize, sizes: &
     ensures { let heights = reached (D.height_at sizes.now) rows in
         IsTotal (filled_height config.now rows heights) result }
 {
+    let shared = lines_between(config);
     let mut total: usize = 0;
     'rows: for row in 0..rows {
-        let line = usize::from(config.rule_at(rows, row).is_some());
+        let line = lines_above(config, shared, rows, row);
         let part = line.checked_add(sizes.get_height(row))?;
         total = total.checked_add(part)?;
     }
@@ -244,9 +268,10 @@ pub fn estimated_total_height<R: ContentRecords>(
         return Some(0);
     }
     let rows = records.count_rows();
+    let shared = lines_between(config);
     let mut total: usize = 0;
     'rows: for row in 0..rows {
-        let line = usize::from(config.rule_at(rows, row).is_some());
+        let line = lines_above(config, shared, rows, row);
         let part = line.checked_add(row_height(records, config, row)?)?;
         total = total.checked_add(part)?;
     }

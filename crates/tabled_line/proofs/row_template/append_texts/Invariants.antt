@@ -6,5 +6,5 @@ abbrev pub invariant-texts : goal.invariant-texts
 invariant-texts g l =
     record {
       appended : IsAppended (g.R.Row.sheet l.row) l.at.index (string_bytes l.blank.text) (take l.end l.line) l.passed l.column;
-      left : l.end + (length (string_bytes l.blank.text) - l.passed) + l.spare ≡ length l.line;
+      left : l.end + (length (string_bytes l.blank.padded) - l.passed) + l.spare ≡ length l.line;
     }
