@@ -5,7 +5,8 @@ use Rattle.tabled_pool.proofs.Names.{flat_map, inr, is_border, is_border_above, 
 use Rattle.tabled_pool.proofs.Names.{owned_text, owner, part_text, place_text, range_with_len, refl, suc, sym, true, whole}
 use Rattle.tabled_pool.proofs.Names.{within_marks, zero, ℕ, ⊎_elim, ◌++◌, ◌+◌, ◌-◌, ◌<◌, ◌∙◌, ◌≡◌, ◌≤◌, ◌⊎◌}
 use Rattle.tabled_pool.specs.declared.line_runs.Cursor.{Cursor}
-use Rattle.tabled_pool.specs.Drawn.{armed_char, IsRun}
+use Rattle.std.specs.Prelude.{MatchOption, Option, option_map, unwrap_or}
+use Rattle.tabled_pool.specs.Drawn.{armed_char, IsRun, main_of}
 use Rattle.tabled_pool.proofs.Owners.{Inside, inside-within, within-inside, within-le, owner-inside, counted, le-or}
 use Rattle.tabled_pool.proofs.Listed.{outside}
 use Rattle.tabled_pool.proofs.UpcomingCells.{leaf-goes, owned, unique}
@@ -131,6 +132,19 @@ run_chars t p x y end last left behind up down right a e k v l m =
       a.above v l (omega (arith, e.within)),
       a.below v l (omega (arith, e.within)),
     ) refl
+
+-- the characters of a border with none at its sides
+pub lone_chars : (t : DrawingPlan) (p : Part) (x y : ℕ) → is_border_before t.parts x y ≡ false → is_border t.parts (x + 1) y ≡ false → (v : ℕ)
+    → x ≤ v → v < x + 1 → border_char t p.kind p.place v y ≡ unwrap_or (main_of t p.kind p.place) 32
+unfolding border_char
+lone_chars t p x y l b v m n =
+    let e : v ≡ x = omega arith in
+    ap (λ u. border_char t p.kind p.place u y) e ∙ rw (l, b) refl
+
+-- whether a border is there, of a piece that may be there
+pub line_some : {P : Type 0} (f : P → Part) (o : Option P) (r : Bool) → MatchOption o (r ≡ false) (λ x. r ≡ is_line_kind (f x).kind) → r ≡ is_line (option_map f o)
+line_some f None r h = h
+line_some f (Some x) r h = h
 
 -- ---- the text of a run
 

@@ -16,12 +16,12 @@ ghost use Rattle.tabled_text.specs.Measure.{line_columns};
 use crate::color_marks::{Marks, draw_colored_fill, marks_at};
 use crate::line_runs::{Line, Run};
 use crate::places::{Drawing, Kind, Piece, Rectangle};
-use crate::plain::are_uncolored_sides;
 use tabled_base::{Content, TableError};
 use tabled_config::{ANSIStr, CellStyle, Indent, Sides};
 use tabled_line::{CellBlock, TextSink, write_char, write_fill};
 
-fn write_text_line<S: TextSink>(
+/// Writes a line of a text with coloured padding.
+fn write_colored_line<S: TextSink>(
     sink: &mut S,
     cell: &CellBlock<'_>,
     colors: &Sides<ANSIStr<'static>>,
@@ -33,9 +33,6 @@ fn write_text_line<S: TextSink>(
         (text_line cell.now.style (marks_of colors.now) cell.now.width
         (content_text cell.now.content) line.now) }
 {
-    if are_uncolored_sides(colors) {
-        return cell.write_text_line(sink, line, columns);
-    }
     let Sides { left, right, .. } = cell.style.padding;
     let Sides { top, bottom, .. } = cell.style.padding;
     let zero = Indent::zero();
@@ -91,7 +88,10 @@ pub fn draw_block_line<S: TextSink>(
         }
         return write_fill(sink, ' ', cell.width);
     };
-    write_text_line(sink, &cell, colors, line, columns)
+    if drawing.uncolored_padding {
+        return cell.write_text_line(sink, line, columns);
+    }
+    write_colored_line(sink, &cell, colors, line, columns)
 }
 
 pub fn draw_marked<S: TextSink>(sink: &mut S, marks: Marks, c: char) -> Result<(), TableError>
@@ -118,7 +118,7 @@ fn draw_border<S: TextSink>(
         (flat_map (place_text (plan_of line.now.drawing.now) line.now.y)
         (range_with_len x run.now.count)) }
 {
-    if line.uncolored {
+    if line.drawing.uncolored_borders {
         return write_fill(sink, run.c, run.count);
     }
     'places: for at in 0..run.count {

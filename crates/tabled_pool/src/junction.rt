@@ -1,6 +1,6 @@
 //! The character of a border at a position: of a straight line, or of the junction where borders of
 //! boxes meet.
-ghost use Rattle.std.specs.Prelude.{◌+◌, ◌-◌, ◌<◌, ◌==◌, ◌≡◌};
+ghost use Rattle.std.specs.Prelude.{unwrap_or, ◌+◌, ◌-◌, ◌<◌, ◌==◌, ◌≡◌};
 ghost use Rattle.tabled_pool.specs.Drawn.{armed_char, main_of};
 ghost use Rattle.tabled_pool.specs.Plan.{has_bottom, has_top, plan_of};
 
@@ -43,20 +43,27 @@ fn main_of(drawing: &Drawing<'_, '_>, kind: Kind, place: Rectangle) -> Option<ch
     match kind {
         Kind::Leaf => None,
         Kind::Bar => {
-            if borders.has_right() && ends_at(place.x, place.width, drawing.width) {
+            if ends_at(place.x, place.width, drawing.width) && borders.has_right() {
                 borders.right
             } else {
                 borders.left
             }
         }
         Kind::Rule => {
-            if has_bottom(borders) && ends_at(place.y, place.height, drawing.height) {
+            if ends_at(place.y, place.height, drawing.height) && has_bottom(borders) {
                 borders.bottom
             } else {
                 borders.top
             }
         }
     }
+}
+
+/// The character of a border where no other meets it. A missing one is a space.
+pub fn own_char(drawing: &Drawing<'_, '_>, piece: &Piece<'_>) -> char
+    ensures { result ≡ unwrap_or (main_of (plan_of drawing.now) piece.now.kind piece.now.place) 32 }
+{
+    main_of(drawing, piece.kind, piece.place).unwrap_or(' ')
 }
 
 /// On which sides of a position a border is.

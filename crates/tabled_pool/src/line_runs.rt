@@ -1,15 +1,14 @@
 //! The runs of a line of a drawing: columns of one text, or of equal border characters.
 ghost use Rattle.std.specs.Prelude.{Some, map, option_map, true, ℕ, ◌+◌, ◌-◌, ◌<◌, ◌==◌, ◌≡◌, ◌≤◌};
-ghost use Rattle.std.specs.Prelude.{◌⊎◌};
+ghost use Rattle.std.specs.Prelude.{MatchOption, ◌⊎◌};
 ghost use Rattle.tabled_pool.specs.Boxes.{is_border, is_border_above, is_line, is_line_kind, owner};
 ghost use Rattle.tabled_pool.specs.Boxes.{shown};
-ghost use Rattle.tabled_pool.specs.Colours.{AreNoMarks, line_marks_of};
 ghost use Rattle.tabled_pool.specs.Drawn.{IsAt, RunsFrom};
 ghost use Rattle.tabled_pool.specs.Numbers.{AreSized};
 ghost use Rattle.tabled_pool.specs.Plan.{plan_of};
 
-use crate::junction::{Arms, border_char};
-use crate::places::{Drawing, Piece, is_line_kind};
+use crate::junction::{Arms, border_char, own_char};
+use crate::places::{Drawing, Kind, Piece, is_line_kind};
 use crate::sweep::{Sweep, piece_at};
 
 #[derive(Clone, Copy)]
@@ -17,10 +16,7 @@ pub struct Line<'l, 's, 'd, 'a> {
     pub drawing: &'l Drawing<'d, 'a>,
     pub sweep: &'s Sweep,
     pub y: usize,
-    /// Whether no border of the drawing is coloured.
-    pub uncolored: bool,
     ghost inside: { y < drawing.now.height },
-    ghost bare: { uncolored ≡ true → AreNoMarks (line_marks_of drawing.now.colors) },
     ghost sized: { AreSized (map shown drawing.now.pieces.now) },
 }
 
@@ -56,6 +52,8 @@ pub struct Stretch {
 }
 
 /// The borders of line `y` at a column and after: those that were seen, if they reach so far.
+/// Inlined, since most calls return `seen`.
+#[inline(always)]
 fn stretch_at(drawing: &Drawing<'_, '_>, seen: Stretch, line: &[u32], x: usize, y: usize) -> Stretch
     requires inside { x < drawing.now.width }
     requires known { (v : ℕ) → x ≤ v → v < seen.end
@@ -133,6 +131,38 @@ impl<'l, 's, 'd, 'a> Line<'l, 's, 'd, 'a> {
         stretch_at(self.drawing, at.up, line, at.x, self.y - 1)
     }
 
+    /// The run of a vertical border of one column that has no border at its left or right: its
+    /// character is the same whatever is above and below. Returns `None` at any other border, and
+    /// leaves the cursor as it is.
+    fn lone_run(&self, piece: &'d Piece<'a>, at: &mut Cursor<'d, 'a>) -> Option<Run<'d, 'a>>
+        requires at { IsAt (plan_of self.now.drawing.now) self.now.y at.old }
+        requires here { owner (plan_of self.now.drawing.now).parts at.old.x self.now.y
+            ≡ Some (shown piece.now) }
+        requires kind { is_line_kind piece.now.kind ≡ true }
+        ensures { MatchOption result (at.new ≡ at.old)
+            (λ run. RunsFrom (plan_of self.now.drawing.now) self.now.y at.old run at.new) }
+    {
+        let Kind::Bar = piece.kind else {
+            return None;
+        };
+        let end = piece.place.x + piece.place.width;
+        if at.left || end > at.x + 1 {
+            return None;
+        }
+        let next = piece_at(self.drawing, self.sweep.here.as_slice(), end, self.y);
+        if next.is_some_and(|next| is_line_kind(next.kind)) {
+            return None;
+        }
+        at.x = end;
+        at.piece = next;
+        at.left = true;
+        Some(Run {
+            piece,
+            c: own_char(self.drawing, piece),
+            count: 1,
+        })
+    }
+
     /// The run of a border: as long as the same pieces are above and below, and borders are on
     /// both sides.
     fn border_run(&self, piece: &'d Piece<'a>, at: &mut Cursor<'d, 'a>) -> Run<'d, 'a>
@@ -185,6 +215,9 @@ impl<'l, 's, 'd, 'a> Line<'l, 's, 'd, 'a> {
         ensures { RunsFrom (plan_of self.now.drawing.now) self.now.y at.old result at.new }
     {
         if is_line_kind(piece.kind) {
+            if let Some(run) = self.lone_run(piece, at) {
+                return run;
+            }
             return self.border_run(piece, at);
         }
         let x = at.x;

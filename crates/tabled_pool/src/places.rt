@@ -1,11 +1,13 @@
 //! `Rectangle`; `Piece`, a text or a border in its rectangle; `PieceList`, the pieces by the line
 //! that they begin on; `Drawing`, the pieces and their settings; and the rectangles of texts, of
 //! the borders between boxes, and of those around a tree.
-ghost use Rattle.std.specs.Prelude.{IfOk, Some, [], map, ◌++◌, ◌+◌, ◌<◌, ◌^◌, ◌∷◌, ◌≡◌, ◌≤◌};
+ghost use Rattle.std.specs.Prelude.{IfOk, Some, [], map, true, ◌++◌, ◌+◌, ◌<◌, ◌^◌, ◌∷◌, ◌≡◌, ◌≤◌};
+ghost use Rattle.tabled_config.specs.Compact.{each_side};
 ghost use Rattle.tabled_pool.specs.Boxes.{AreTiles, CanSplit, Fits, IsSize, behind_border};
 ghost use Rattle.tabled_pool.specs.Boxes.{border_kind, border_part, box_along, box_of, first_part};
 ghost use Rattle.tabled_pool.specs.Boxes.{framed, given_in, is_line_kind, list_box, part_of};
 ghost use Rattle.tabled_pool.specs.Boxes.{place_along, rest_part, share, shown};
+ghost use Rattle.tabled_pool.specs.Colours.{AreNoMarks, line_marks_of, marks_of, no_mark};
 
 use crate::sizes::{BoxSpacing, Direction, Size, own_size};
 use crate::tree::TableValue;
@@ -155,10 +157,17 @@ pub struct Drawing<'d, 'a> {
     pub padding_colors: Sides<ANSIStr<'static>>,
     /// The colours of the borders.
     pub colors: Borders<ANSIStr<'static>>,
+    /// Whether no padding is coloured.
+    pub uncolored_padding: bool,
+    /// Whether no border is coloured.
+    pub uncolored_borders: bool,
     /// The allocator for lists of pieces and for drawn lines.
     pub alloc: Global,
     ghost wide: { width < 2 ^ 64 },
     ghost tall: { height < 2 ^ 64 },
+    ghost bare_padding: { uncolored_padding ≡ true
+        → marks_of padding_colors ≡ each_side no_mark },
+    ghost bare_borders: { uncolored_borders ≡ true → AreNoMarks (line_marks_of colors) },
     /// Each position is in exactly one piece.
     ghost tiles: { AreTiles (map shown pieces.now)
         (record { x = 0; y = 0; width = width; height = height }) },

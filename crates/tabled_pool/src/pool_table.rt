@@ -23,6 +23,7 @@ ghost use Rattle.tabled_priority.specs.Sums.{one_if};
 use crate::bordered_text::DrawnBlock;
 use crate::junction::{has_bottom, has_top};
 use crate::places::{Drawing, Piece, PieceList, Rectangle, place_tree};
+use crate::plain::{are_uncolored_lines, are_uncolored_sides};
 use crate::sizes::{BoxSpacing, Size, own_size, sum};
 use crate::table_lines::{ColoredMargin, TableLines, draw_lines};
 use crate::tree::TableValue;
@@ -219,6 +220,8 @@ impl PoolTable {
         ensures width { result.width ≡ size.width }
         ensures height { result.height ≡ size.height }
     {
+        let padding = self.config.get_padding_color();
+        let borders = self.config.get_borders_color();
         Drawing {
             pieces: list.pieces.as_slice(),
             begins: list.begins.as_slice(),
@@ -227,8 +230,10 @@ impl PoolTable {
             borders: *self.config.get_borders(),
             style: style_of(&self.config),
             spacing: self.spacing(),
-            padding_colors: *self.config.get_padding_color(),
-            colors: *self.config.get_borders_color(),
+            padding_colors: *padding,
+            colors: *borders,
+            uncolored_padding: are_uncolored_sides(padding),
+            uncolored_borders: are_uncolored_lines(borders),
             alloc: self.value.allocator(),
         }
     }

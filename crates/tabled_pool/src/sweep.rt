@@ -81,9 +81,7 @@ fn contains(place: Rectangle, x: usize, y: usize) -> bool
     x - place.x < place.width && y - place.y < place.height
 }
 
-/// Returns the number of the first piece of a list that contains a position. It is seldom called,
-/// and not inlined, since its loop would take the registers of its callers.
-#[inline(never)]
+/// Returns the number of the first piece of a list that contains a position.
 fn find(pieces: &[Piece<'_>], x: usize, y: usize) -> Option<usize>
     ensures { IsNumber pieces.now x y result }
 {
@@ -95,17 +93,12 @@ fn find(pieces: &[Piece<'_>], x: usize, y: usize) -> Option<usize>
     None
 }
 
-/// Returns the number of the piece at a position: the one that `line` has for the column, if it is
-/// there, else the one that a search finds.
-pub fn number_at(drawing: &Drawing<'_, '_>, line: &[u32], x: usize, y: usize) -> Option<usize>
+/// Returns the number of the piece at a position. It is seldom called, and not inlined, since its
+/// loop would take the registers of its callers.
+#[inline(never)]
+fn search(drawing: &Drawing<'_, '_>, x: usize, y: usize) -> Option<usize>
     ensures { IsNumber drawing.now.pieces.now x y result }
 {
-    if let Some(number) = line.get(x)
-        && let Some(piece) = drawing.pieces.get(*number as usize)
-        && contains(piece.place, x, y)
-    {
-        return Some(*number as usize);
-    }
     if x >= drawing.width {
         return None;
     }
@@ -115,6 +108,24 @@ pub fn number_at(drawing: &Drawing<'_, '_>, line: &[u32], x: usize, y: usize) ->
     find(drawing.pieces, x, y)
 }
 
+/// Returns the number of the piece at a position: the one that `line` has for the column, if it is
+/// there, else the one that a search finds. Inlined, since drawing a line calls it for each run and
+/// for what is above and below.
+#[inline(always)]
+pub fn number_at(drawing: &Drawing<'_, '_>, line: &[u32], x: usize, y: usize) -> Option<usize>
+    ensures { IsNumber drawing.now.pieces.now x y result }
+{
+    if let Some(number) = line.get(x)
+        && let Some(piece) = drawing.pieces.get(*number as usize)
+        && contains(piece.place, x, y)
+    {
+        return Some(*number as usize);
+    }
+    search(drawing, x, y)
+}
+
+/// Returns the piece at a position, which `number_at` finds.
+#[inline(always)]
 pub fn piece_at<'d, 'a>(
     drawing: &Drawing<'d, 'a>,
     line: &[u32],

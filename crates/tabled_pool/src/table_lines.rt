@@ -13,7 +13,6 @@ use crate::color_marks::draw_colored_fill;
 use crate::draw::draw_line;
 use crate::line_runs::Line;
 use crate::places::Drawing;
-use crate::plain::are_uncolored_lines;
 use crate::sizes::Size;
 use crate::sweep::Sweep;
 use tabled_base::TableError;
@@ -80,12 +79,7 @@ impl<'l, 'd, 'a> TableLines<'l, 'd, 'a> {
         ensures { content_of result ≡ slice_index_or (sheet_of self.entry).lines y [] }
     {
         match self {
-            TableLines::Placed(drawing) => LineContent::Placed(Line {
-                drawing,
-                sweep,
-                y,
-                uncolored: are_uncolored_lines(&drawing.colors),
-            }),
+            TableLines::Placed(drawing) => LineContent::Placed(Line { drawing, sweep, y }),
             TableLines::Drawn(block) => LineContent::Text(block.lines[y].as_str()),
         }
     }

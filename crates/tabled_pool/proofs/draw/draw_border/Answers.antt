@@ -10,7 +10,7 @@ returns-then-line g c =
     let r = c.args.run.now in
     let t = plan_of l.drawing.now in
     rw (run_copies t c.args.x l.y r.count r.c (shown r.piece.now) c.requires.run c.requires.kind
-    (λ v. sym (around-bare t (l.bare c.if-line.true) v l.y))) c.write_fill.ensures
+    (λ v. sym (around-bare t (l.drawing.now.bare_borders c.if-line.true) v l.y))) c.write_fill.ensures
 
 pub returns-in_err-draw_marked : goal.returns-in_err-draw_marked
 returns-in_err-draw_marked g c =

@@ -1,17 +1,7 @@
-use Rattle.tabled_pool.proofs.Names.{ap, arith, inl, inr, length, map, option_map, plan_of, refl, shown, slice_get-map, slice_get_read, sym}
+use Rattle.tabled_pool.proofs.Names.{ap, length, option_map, plan_of, refl, shown, slice_get-map, slice_get_read, sym}
 use Rattle.tabled_pool.proofs.Names.{whole, ◌∙◌}
-use Rattle.tabled_pool.proofs.Listed.{listed_owns, outside}
+use Rattle.tabled_pool.proofs.Listed.{listed_owns}
 use Rattle.tabled_pool.proofs.sweep.number_at.Goals as goal
-
-pub returns-then-x-drawing : goal.returns-then-x-drawing
-returns-then-x-drawing c =
-    let d = c.args.drawing.now in
-    outside (map shown d.pieces.now) (whole (plan_of d)) c.args.x c.args.y d.tiles (inl (omega arith))
-
-pub returns-then-y-drawing : goal.returns-then-y-drawing
-returns-then-y-drawing c =
-    let d = c.args.drawing.now in
-    outside (map shown d.pieces.now) (whole (plan_of d)) c.args.x c.args.y d.tiles (inr (omega arith))
 
 pub returns : goal.returns
 returns c =

@@ -1,17 +1,12 @@
-use Rattle.tabled_pool.proofs.Names.{Bool, None, Option, Part, Some, ap, arith, common_steps, false, is_line, is_line_kind, nat_tests}
+use Rattle.tabled_pool.proofs.Names.{ap, arith, common_steps, is_line, nat_tests}
 use Rattle.tabled_pool.proofs.Names.{option_map, owner, plan_of, rules, shown, subst, sym, ◌∙◌, ◌≡◌}
-use Rattle.std.specs.Prelude.{MatchOption}
-use Rattle.tabled_pool.proofs.Runs.{Arms, Ends, Owns, kind_before, owns, run_chars}
+use Rattle.tabled_pool.proofs.Runs.{Arms, Ends, Owns, kind_before, line_some, owns, run_chars}
 use Rattle.tabled_pool.proofs.line_runs.Line.border_run.Goals.{Start, then-end-own, else-end-own, then-last-end, else-last-end, then-last-end-2, else-last-end-2}
 use Rattle.tabled_pool.proofs.line_runs.Line.border_run.Goals as goal
 
 own : (c : Start) → Owns (plan_of c.args.self.now.drawing.now) c.args.at.now.x c.args.self.now.y (shown c.args.piece.now)
 own c =
     let l = c.args.self.now in owns (plan_of l.drawing.now) c.args.at.now.x l.y (shown c.args.piece.now) l.drawing.now.tiles c.requires.here
-
-line-some : {P : Type 0} (f : P → Part) (o : Option P) (r : Bool) → MatchOption o (r ≡ false) (λ x. r ≡ is_line_kind (f x).kind) → r ≡ is_line (option_map f o)
-line-some f None r h = h
-line-some f (Some x) r h = h
 
 pub above-up-requires-clause-inside : goal.above-up-requires-clause-inside
 above-up-requires-clause-inside c = let o = own (goal.at.above-up-requires-clause-inside c).Start in omega (arith, o.to, o.fits)
@@ -39,7 +34,7 @@ returns c =
       | else-end-own w ↦ rw w.behind-is w.piece_at-behind.ensures
     ] in
     let border : c.is_some_and-border.result ≡ is_line (option_map (λ q. shown q.now) c.if-end-own.behind) =
-    first_of (search (rules, line-some), grind (arith, common_steps, line-some)) in
+    first_of (search (rules, line_some), grind (arith, common_steps, line_some)) in
     let arms : Arms t p c.args.at.now.x l.y c.min-end.result c.args.at.now.left c.is_some_and-border.result
     c.above-up.result.border c.stretch_at-down.result.border = record {
       some = omega (arith, ends.some, ends.within);

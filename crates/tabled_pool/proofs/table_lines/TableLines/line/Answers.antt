@@ -7,7 +7,6 @@ invariant_of-result c =
     let h = rw c.in-Placed.is at c.requires.inside in
     record {
       inside = omega (arith, h, drawn-length (plan_of c.in-Placed.drawing.now));
-      bare = c.are_uncolored_lines.ensures.0;
       sized = rw c.in-Placed.is at c.requires.sized;
     }
 
