@@ -21,8 +21,9 @@ use std::marker::Model;
 use tabled_text::{count_lines, text_measures, text_width};
 
 /// A string with its width in columns and its number of lines, both measured once. `Text<String>`
-/// owns it, `Text<&str>` borrows it. `new` and `copied` store strings of at most 16 bytes inline.
-/// More than 4,294,967,294 columns or 65,534 lines are measured whenever they are asked for.
+/// owns it, `Text<&str>` borrows it. `new`, `copied` and `copied_printable` store strings of at
+/// most 16 bytes inline. More than 4,294,967,294 columns or 65,534 lines are measured whenever they
+/// are asked for.
 #[derive(Debug, Drop)]
 pub struct Text<S: AsStr> {
     text: ShortOr<S>,

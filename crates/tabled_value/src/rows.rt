@@ -61,6 +61,7 @@ pub(crate) fn joined<'a>(
     Ok(front)
 }
 
+/// Appends a cell with a copy of a text.
 #[inline(always)]
 pub(crate) fn push_text(row: &mut Vec<Text<String>>, text: &str) -> Result<(), TableError>
     ensures texts { OnOk result
@@ -72,6 +73,7 @@ pub(crate) fn push_text(row: &mut Vec<Text<String>>, text: &str) -> Result<(), T
     Ok(row.push(text)?)
 }
 
+/// Appends a cell with a copy of a text of printable ASCII, which isn't measured.
 #[inline(always)]
 pub(crate) fn push_printable(row: &mut Vec<Text<String>>, text: &str) -> Result<(), TableError>
     requires { IsPrintable text.now }
@@ -84,6 +86,7 @@ pub(crate) fn push_printable(row: &mut Vec<Text<String>>, text: &str) -> Result<
     Ok(row.push(text)?)
 }
 
+/// Appends a cell with the digits of a signed number.
 #[inline(always)]
 pub(crate) fn push_signed(row: &mut Vec<Text<String>>, number: i64) -> Result<(), TableError>
     ensures texts { OnOk result
@@ -94,6 +97,7 @@ pub(crate) fn push_signed(row: &mut Vec<Text<String>>, number: i64) -> Result<()
     push_printable(row, Buffer::new().format(number))
 }
 
+/// Appends a cell with the digits of an unsigned number.
 #[inline(always)]
 pub(crate) fn push_unsigned(row: &mut Vec<Text<String>>, number: u64) -> Result<(), TableError>
     ensures texts { OnOk result

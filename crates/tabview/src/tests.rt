@@ -415,16 +415,15 @@ fn faults_are_named(rt: HostRuntime) -> Result<(), Fail> {
 
 #[test]
 fn a_terminal_has_a_width(rt: HostRuntime) -> Result<(), Fail> {
+    let narrow = "|         id | remark  |\n\
+                  |------------|---------|\n\
+                  | 1234567890 | the     |\n\
+                  |            | east    |\n\
+                  |            | gate    |\n";
     let words = ["tabview", "-s", "markdown"];
-    let text = shown(&rt, &words, Some(24), GATE.as_bytes())?;
-    check(
-        text,
-        "|         id | remark  |\n\
-         |------------|---------|\n\
-         | 1234567890 | the     |\n\
-         |            | east    |\n\
-         |            | gate    |\n",
-    )?;
+    check(shown(&rt, &words, Some(24), GATE.as_bytes())?, narrow)?;
+    let words = ["tabview", "-s", "markdown", "-w", "24"];
+    check(shown(&rt, &words, Some(80), GATE.as_bytes())?, narrow)?;
     Ok(())
 }
 
