@@ -21,8 +21,8 @@ use tabled_config::{HorizontalLine, RowStyles, VerticalLine};
 /// memory, and a table can be wider than memory is large.
 const MOST_COLUMNS: usize = 65_536;
 
-/// The bytes of the buffer for each byte of the blank row. A longer line is written without the
-/// template.
+/// The bytes of the buffer for each byte of the blank row, beside those that the padded row has
+/// more. A longer line is written without the template.
 const BYTES_PER_COLUMN: usize = 4;
 
 /// Whether the columns and the side margins are short enough for a template. This decides what is
@@ -212,7 +212,7 @@ fn overlay_texts<'a, R: Row<'a>, A: RowPlacements>(
         if placed.text.len() != placed.columns {
             return None;
         }
-        copy_text(line, slot.place + placed.before, placed.text.as_bytes());
+        copy_at(line, slot.place + placed.before, placed.text.as_bytes());
     }
     Some(bytes.len())
 }
@@ -292,7 +292,7 @@ impl RowTemplate {
         let padded = padded_row(alloc, text.as_str()).ok()?;
         let most = text.as_str().len().checked_mul(BYTES_PER_COLUMN)?;
         Some(RowTemplate {
-            buffer: vec![in alloc; 0; most.checked_add(BLOCK)?].ok()?,
+            buffer: vec![in alloc; 0; most.checked_add(SPACES.len())?].ok()?,
             blank: BlankRow {
                 text,
                 padded,
