@@ -13,6 +13,7 @@ pub mod Drawable
 pub mod Drawers
 pub mod Levels
 pub mod Lines
+pub mod Measures
 pub mod Listed
 pub mod Neighbours
 pub mod NodeSums

@@ -23,7 +23,7 @@ pub left_first : (g : BoxSpacing) (front : List TableValue) (last : TableValue) 
     → boxes_left g (drop i front) last ≡ box_of g (get_or front i d) ∷ boxes_left g (drop (i + 1) front) last
 left_first g front last i d h = ap (λ ts. boxes_left g ts last) (drop_first front i d h)
 
-joined : (d : Direction) (g : BoxSpacing) (b : Box) (next : List Box) → 0 < length next
+pub joined : (d : Direction) (g : BoxSpacing) (b : Box) (next : List Box) → 0 < length next
     → list_box d g (b ∷ next) ≡ joined_box d g (length next + 1) b (list_box d g next)
 joined d g b [] h = absurd (omega arith)
 joined d g b (c ∷ bs) h = refl
@@ -63,9 +63,9 @@ size-of d g now next b size l k f e1 e2 =
     ap (λ m. given_size d g b size m (length now)) (sym (e1 ∙ f.along)) ∙ ap (given_size d g b size l) (sym e2)
 
 -- the first of them can be split off
-pub can_split : (d : Direction) (g : BoxSpacing) (now next : List Box) (v : TableValue) (r : Rectangle) (left : BoxesLeft)
-    → ListFacts d g now next (box_of g v) → Fits (list_box d g now) r → AreLeft d g now left → CanSplit d g v left r
-can_split d g now next v r left f fits h = record {
+pub can_split : (d : Direction) (g : BoxSpacing) (now next : List Box) (b : Box) (r : Rectangle) (left : BoxesLeft)
+    → ListFacts d g now next b → Fits (list_box d g now) r → AreLeft d g now left → CanSplit d g b left r
+can_split d g now next b r left f fits h = record {
   some = omega (arith, f.some, h.count);
   own = omega (arith, f.along, h.size);
   across = omega (arith, f.most, fits_across d (list_box d g now) r fits);

@@ -154,18 +154,18 @@ pub record Fits (b : Box) (r : Rectangle) : Type 0 where
 
 -- ---- the boxes that are still to be placed
 
--- the first of them can be split off a rectangle
-pub record CanSplit (d : Direction) (g : BoxSpacing) (v : TableValue) (left : BoxesLeft) (r : Rectangle) : Type 0 where
+-- the first of them, of box b, can be split off a rectangle
+pub record CanSplit (d : Direction) (g : BoxSpacing) (b : Box) (left : BoxesLeft) (r : Rectangle) : Type 0 where
   pub some : 0 < left.count
-  pub own : box_along d (box_of g v) + border_size d g ≤ left.size
-  pub across : box_across d (box_of g v) ≤ place_across d r
+  pub own : box_along d b + border_size d g ≤ left.size
+  pub across : box_across d b ≤ place_across d r
   pub along : left.size ≤ place_along d r
   pub right : r.x + r.width < 2 ^ 64
   pub low : r.y + r.height < 2 ^ 64
 
 -- the size that it is given there
-abbrev pub given_in : Direction → BoxSpacing → TableValue → BoxesLeft → Rectangle → ℕ
-given_in d g v left r = given_size d g (box_of g v) (place_along d r) left.size left.count
+abbrev pub given_in : Direction → BoxSpacing → Box → BoxesLeft → Rectangle → ℕ
+given_in d g b left r = given_size d g b (place_along d r) left.size left.count
 
 abbrev pub boxes_left : BoxSpacing → List TableValue → TableValue → List Box
 boxes_left g front last = map (box_of g) front ++ (box_of g last ∷ [])

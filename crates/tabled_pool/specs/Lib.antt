@@ -9,5 +9,6 @@ pub mod NewPool
 pub mod Plain
 pub mod Plan
 pub mod Pool
+pub mod Sizes
 pub mod TableLines
 pub mod Tree

@@ -1,11 +1,12 @@
 -- The tree of texts that a `TableValue` holds, how many texts and lists it has, and lists that are
 -- being copied.
-use Rattle.std.specs.Prelude.{ℕ, List, [], ◌∷◌, map, string_bytes, ◌+◌, sum, ◌≡◌, ◌<◌, ◌≤◌, Bool, true, false, ◌++◌}
+use Rattle.std.specs.Prelude.{ℕ, List, [], ◌∷◌, map, string_bytes, ◌+◌, sum, ◌≡◌, ◌<◌, ◌≤◌, Bool, true, false, ◌++◌, length}
 use Rattle.tabled_pool.specs.declared.tree.TableValue.{TableValue}
 use Rattle.tabled_pool.specs.declared.tree.TableValue.TheOpen.{TableValue-F, Row, Column, Cell}
 use Rattle.tabled_pool.specs.declared.tree.TableValue.TheFolds.{fold-TableValue}
 use Rattle.tabled_pool.specs.declared.sizes.BoxSpacing.{BoxSpacing}
 use Rattle.tabled_pool.specs.Boxes.{box_of}
+use Rattle.tabled_pool.specs.Sizes.{sizes_within}
 use Rattle.tabled_pool.specs.declared.tree.Level.{Level}
 
 -- a text, trees side by side, or trees below each other
@@ -65,12 +66,23 @@ nodes_in xs = sum (map nodes xs)
 
 -- ---- lists of one value, and what is in them
 
+-- how many values are in a list
+abbrev pub child_count_step : TableValue-F ℕ → ℕ
+child_count_step (Cell s) = 0
+child_count_step (Row v) = length v.items
+child_count_step (Column v) = length v.items
+
+abbrev pub child_count : TableValue → ℕ
+child_count = fold-TableValue ℕ child_count_step
+
 pub record IsOnlyChild (list child : TableValue) : Type 0 where
   pub box : (g : BoxSpacing) → box_of g list ≡ box_of g child
+  pub sizes : (g : BoxSpacing) → sizes_within g list ≡ sizes_within g child
   pub fewer : nodes child < nodes list
 
 pub record IsInner (value inner : TableValue) : Type 0 where
   pub box : (g : BoxSpacing) → box_of g value ≡ box_of g inner
+  pub sizes : (g : BoxSpacing) → sizes_within g value ≡ sizes_within g inner
   pub fewer : nodes inner ≤ nodes value
 
 -- ---- lists that are being copied, the outermost first

@@ -9,7 +9,7 @@ ghost use Rattle.tabled_pool.specs.Inherited.{whole_flags, with_passed};
 ghost use Rattle.tabled_pool.specs.Plan.{plan_of};
 
 use crate::bordered_text::{DrawnBlock, side_by_side, stacked, text_block};
-use crate::places::{BoxesLeft, Drawing, Rectangle, split};
+use crate::places::{BoxesLeft, Drawing, Rectangle, split_child};
 use crate::sizes::{BoxSpacing, Direction};
 use crate::tree::TableValue;
 use crate::tree_walk::Flags;
@@ -172,18 +172,20 @@ impl InheritingBox {
         spacing: &BoxSpacing,
         left: BoxesLeft,
     ) -> Result<usize, AllocError>
-        requires { CanSplit direction spacing.now child.now left self.old.place }
+        requires { CanSplit direction spacing.now (box_of spacing.now child.now) left
+            self.old.place }
         ensures own { IfOk result (λ own. own
             ≡ box_along direction (box_of spacing.now child.now)) }
         ensures first { IfOk result (λ _. inheriting_box first.new ≡ to_first direction
-            (given_in direction spacing.now child.now left self.old.place)
+            (given_in direction spacing.now (box_of spacing.now child.now) left self.old.place)
             (inheriting_box self.old)) }
         ensures others { IfOk result (λ _. inheriting_box self.new ≡ to_later direction spacing.now
-            (given_in direction spacing.now child.now left self.old.place) (inheriting_box self.old)
+            (given_in direction spacing.now (box_of spacing.now child.now) left self.old.place)
+            (inheriting_box self.old)
             (pick direction self.new.before.items self.new.above.items)) }
         ensures fits { IfOk result (λ _. Fits (box_of spacing.now child.now) first.new.place) }
     {
-        let cut = split(direction, child, spacing, left, self.place);
+        let cut = split_child(direction, child, spacing, left, self.place);
         let Rectangle { width, height, .. } = cut.given.place;
         let given = direction.pick(width, height);
         let alloc = *self.above.allocator();

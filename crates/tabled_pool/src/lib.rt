@@ -13,7 +13,8 @@
 //!
 //! Trees, and the rectangles of their boxes:
 //! - `tree`: `TableValue`, a tree of texts, how it is dropped, and how it is copied
-//! - `sizes`: the sizes that boxes need, and `BoxSpacing`, on which they depend
+//! - `sizes`: the sizes that boxes need; `SizeList`, those of a tree; and `BoxSpacing`, on which
+//!   they depend
 //! - `places`: `Piece`, a text or a border in its rectangle; `Drawing`, the pieces and their
 //!   settings; and the rectangles of all of them
 //!

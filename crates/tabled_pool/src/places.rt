@@ -1,13 +1,15 @@
 //! `Rectangle`; `Piece`, a text or a border in its rectangle; `PieceList`, the pieces by the line
 //! that they begin on; `Drawing`, the pieces and their settings; and the rectangles of texts, of
 //! the borders between boxes, and of those around a tree.
-ghost use Rattle.std.specs.Prelude.{IfOk, Some, [], map, true, ◌++◌, ◌+◌, ◌<◌, ◌^◌, ◌∷◌, ◌≡◌, ◌≤◌};
+ghost use Rattle.std.specs.Prelude.{IfOk, Some, [], map, true, vec_len, ◌++◌, ◌+◌, ◌<◌, ◌^◌, ◌∷◌};
+ghost use Rattle.std.specs.Prelude.{◌≡◌, ◌≤◌};
 ghost use Rattle.tabled_config.specs.Compact.{each_side};
 ghost use Rattle.tabled_pool.specs.Boxes.{AreTiles, CanSplit, Fits, IsSize, behind_border};
 ghost use Rattle.tabled_pool.specs.Boxes.{border_kind, border_part, box_along, box_of, first_part};
 ghost use Rattle.tabled_pool.specs.Boxes.{framed, given_in, is_line_kind, list_box, part_of};
-ghost use Rattle.tabled_pool.specs.Boxes.{place_along, rest_part, share, shown};
+ghost use Rattle.tabled_pool.specs.Boxes.{place_along, rest_part, share, shown, sized};
 ghost use Rattle.tabled_pool.specs.Colours.{AreNoMarks, line_marks_of, marks_of, no_mark};
+ghost use Rattle.tabled_pool.specs.Sizes.{EndsWith, sizes_of_all, sizes_within};
 
 use crate::sizes::{BoxSpacing, Direction, Size, own_size};
 use crate::tree::TableValue;
@@ -223,6 +225,14 @@ pub struct BoxPlace {
     pub place: Rectangle,
 }
 
+/// The pieces of the boxes that are placed, and the sizes of those that are not yet.
+#[derive(Drop)]
+pub struct Placer<'a> {
+    pub list: PieceList<'a>,
+    /// The last size is that of the box to be placed next.
+    pub sizes: Vec<Size>,
+}
+
 /// A rectangle of several boxes, split after the first.
 #[derive(Clone, Copy)]
 pub struct SplitPlace {
@@ -236,27 +246,26 @@ pub struct SplitPlace {
     pub rest: Rectangle,
 }
 
-/// Splits a rectangle of boxes after the first.
-pub fn split(
+/// Splits a rectangle of boxes after the first, which needs `size`.
+fn split(
     direction: Direction,
-    child: &TableValue,
+    size: Size,
     spacing: &BoxSpacing,
     left: BoxesLeft,
     place: Rectangle,
 ) -> SplitPlace
-    requires { CanSplit direction spacing.now child.now left place }
-    ensures own { result.own ≡ box_along direction (box_of spacing.now child.now) }
-    ensures size { IsSize (Some result.given.own) (box_of spacing.now child.now) }
+    requires { CanSplit direction spacing.now (sized size) left place }
+    ensures own { result.own ≡ box_along direction (sized size) }
+    ensures size { result.given.own ≡ size }
     ensures given { result.given.place ≡ first_part direction
-        (given_in direction spacing.now child.now left place) place }
+        (given_in direction spacing.now (sized size) left place) place }
     ensures line { part_of (border_kind direction) result.line []
-        ≡ border_part direction spacing.now (given_in direction spacing.now child.now left place)
+        ≡ border_part direction spacing.now (given_in direction spacing.now (sized size) left place)
         place }
     ensures rest { result.rest ≡ behind_border direction spacing.now
-        (given_in direction spacing.now child.now left place) place }
-    ensures fits { Fits (box_of spacing.now child.now) result.given.place }
+        (given_in direction spacing.now (sized size) left place) place }
+    ensures fits { Fits (sized size) result.given.place }
 {
-    let size = size_within(child, spacing, place);
     let own = direction.pick(size.width, size.height);
     let surplus = direction.pick(place.width, place.height) - left.size;
     let priority = direction.pick(spacing.across, spacing.down);
@@ -275,15 +284,37 @@ pub fn split(
     }
 }
 
-/// The size that a box needs. It fits in the rectangle.
-fn size_within(value: &TableValue, spacing: &BoxSpacing, place: Rectangle) -> Size
-    requires { Fits (box_of spacing.now value.now) place }
-    ensures { IsSize (Some result) (box_of spacing.now value.now) }
+/// Measures the first of several boxes, and splits their rectangle after it.
+pub fn split_child(
+    direction: Direction,
+    child: &TableValue,
+    spacing: &BoxSpacing,
+    left: BoxesLeft,
+    place: Rectangle,
+) -> SplitPlace
+    requires { CanSplit direction spacing.now (box_of spacing.now child.now) left place }
+    ensures own { result.own ≡ box_along direction (box_of spacing.now child.now) }
+    ensures given { result.given.place ≡ first_part direction
+        (given_in direction spacing.now (box_of spacing.now child.now) left place) place }
+    ensures rest { result.rest ≡ behind_border direction spacing.now
+        (given_in direction spacing.now (box_of spacing.now child.now) left place) place }
+    ensures fits { Fits (box_of spacing.now child.now) result.given.place }
 {
-    let Some(own) = own_size(value, spacing) else {
+    let Some(size) = own_size(child, spacing) else {
         unreachable!()
     };
-    own
+    split(direction, size, spacing, left, place)
+}
+
+/// Takes the size of the next box.
+fn take_size(sizes: &mut Vec<Size>) -> Size
+    requires { 0 < vec_len sizes.old }
+    ensures { sizes.old.items ≡ sizes.new.items ++ (result ∷ []) }
+{
+    let Some(size) = sizes.pop() else {
+        unreachable!()
+    };
+    size
 }
 
 #[cycle(places)]
@@ -293,18 +324,22 @@ fn place_list<'a>(
     children: &'a [TableValue],
     spacing: &BoxSpacing,
     whole: BoxPlace,
-    list: &mut PieceList<'a>,
+    placer: &mut Placer<'a>,
 ) -> Result<(), AllocError>
+    requires sizes { EndsWith placer.old.sizes.items (sizes_of_all spacing.now children.now) }
     requires own { IsSize (Some whole.own)
         (list_box direction spacing.now (map (box_of spacing.now) children.now)) }
     requires fits { Fits (list_box direction spacing.now (map (box_of spacing.now) children.now))
         whole.place }
-    ensures { IfOk result (λ _. map shown list.new.pieces.items ≡ map shown list.old.pieces.items
+    ensures pieces { IfOk result (λ _. map shown placer.new.list.pieces.items
+        ≡ map shown placer.old.list.pieces.items
         ++ (list_box direction spacing.now (map (box_of spacing.now) children.now)).parts
         whole.place) }
+    ensures sizes { IfOk result (λ _. placer.old.sizes.items
+        ≡ placer.new.sizes.items ++ sizes_of_all spacing.now children.now) }
 {
     let Some((last, front)) = children.split_last() else {
-        return place_piece(Kind::Leaf, whole.place, "", list);
+        return place_piece(Kind::Leaf, whole.place, "", &mut placer.list);
     };
     let border = direction.pick(spacing.bar, spacing.rule);
     let kind = direction.pick(Kind::Bar, Kind::Rule);
@@ -313,15 +348,16 @@ fn place_list<'a>(
     let mut left = BoxesLeft { size, count };
     let mut place = whole.place;
     for child in front {
-        let cut = split(direction, child, spacing, left, place);
-        place_value(child, spacing, cut.given, list)?;
-        place_piece(kind, cut.line, "", list)?;
+        let own = take_size(&mut placer.sizes);
+        let cut = split(direction, own, spacing, left, place);
+        place_value(child, spacing, cut.given, placer)?;
+        place_piece(kind, cut.line, "", &mut placer.list)?;
         left.size -= cut.own + border;
         left.count -= 1;
         place = cut.rest;
     }
-    let own = size_within(last, spacing, place);
-    place_value(last, spacing, BoxPlace { own, place }, list)
+    let own = take_size(&mut placer.sizes);
+    place_value(last, spacing, BoxPlace { own, place }, placer)
 }
 
 /// Adds the texts of a tree and the borders between its boxes. Recurses at each level of several
@@ -332,22 +368,28 @@ pub fn place_value<'a>(
     value: &'a TableValue,
     spacing: &BoxSpacing,
     whole: BoxPlace,
-    list: &mut PieceList<'a>,
+    placer: &mut Placer<'a>,
 ) -> Result<(), AllocError>
+    requires sizes { EndsWith placer.old.sizes.items (sizes_within spacing.now value.now) }
     requires own { IsSize (Some whole.own) (box_of spacing.now value.now) }
     requires fits { Fits (box_of spacing.now value.now) whole.place }
-    ensures { IfOk result (λ _. map shown list.new.pieces.items ≡ map shown list.old.pieces.items
+    ensures pieces { IfOk result (λ _. map shown placer.new.list.pieces.items
+        ≡ map shown placer.old.list.pieces.items
         ++ (box_of spacing.now value.now).parts whole.place) }
+    ensures sizes { IfOk result (λ _. placer.old.sizes.items
+        ≡ placer.new.sizes.items ++ sizes_within spacing.now value.now) }
 {
     match value.inner() {
-        TableValue::Cell(text) => place_piece(Kind::Leaf, whole.place, text.as_str(), list),
+        TableValue::Cell(text) => {
+            place_piece(Kind::Leaf, whole.place, text.as_str(), &mut placer.list)
+        }
         TableValue::Row(children) => {
             let children = children.as_slice();
-            place_list(Direction::Across, children, spacing, whole, list)
+            place_list(Direction::Across, children, spacing, whole, placer)
         }
         TableValue::Column(children) => {
             let children = children.as_slice();
-            place_list(Direction::Down, children, spacing, whole, list)
+            place_list(Direction::Down, children, spacing, whole, placer)
         }
     }
 }
@@ -361,15 +403,17 @@ pub fn place_tree<'a>(
     spacing: &BoxSpacing,
     frame: &Sides<usize>,
     whole: Rectangle,
-    list: &mut PieceList<'a>,
+    placer: &mut Placer<'a>,
 ) -> Result<(), AllocError>
+    requires sizes { EndsWith placer.old.sizes.items (sizes_within spacing.now value.now) }
     requires wide { whole.width
         ≡ frame.now.left + (box_of spacing.now value.now).width + frame.now.right }
     requires tall { whole.height
         ≡ frame.now.top + (box_of spacing.now value.now).height + frame.now.bottom }
     requires right { whole.x + whole.width < 2 ^ 64 }
     requires low { whole.y + whole.height < 2 ^ 64 }
-    ensures { IfOk result (λ _. map shown list.new.pieces.items ≡ map shown list.old.pieces.items
+    ensures { IfOk result (λ _. map shown placer.new.list.pieces.items
+        ≡ map shown placer.old.list.pieces.items
         ++ framed (frame.now) (box_of spacing.now value.now) whole) }
 {
     let rest = whole.rest_part(Direction::Across, frame.left);
@@ -383,10 +427,10 @@ pub fn place_tree<'a>(
     let place = below.first_part(Direction::Down, height);
     let own = Size { width, height };
     let bottom = below.rest_part(Direction::Down, height);
-    place_piece(Kind::Bar, left, "", list)?;
-    place_piece(Kind::Bar, right, "", list)?;
-    place_piece(Kind::Rule, top, "", list)?;
-    place_piece(Kind::Rule, bottom, "", list)?;
-    place_value(value, spacing, BoxPlace { own, place }, list)?;
+    place_piece(Kind::Bar, left, "", &mut placer.list)?;
+    place_piece(Kind::Bar, right, "", &mut placer.list)?;
+    place_piece(Kind::Rule, top, "", &mut placer.list)?;
+    place_piece(Kind::Rule, bottom, "", &mut placer.list)?;
+    place_value(value, spacing, BoxPlace { own, place }, placer)?;
     Ok(())
 }

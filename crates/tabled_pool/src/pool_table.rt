@@ -1,6 +1,6 @@
 //! `PoolTable`: its settings, its size, and how it is printed.
-ghost use Rattle.std.specs.Prelude.{IfErr, IfOk, MatchOption, [], length, map, not, string_bytes};
-ghost use Rattle.std.specs.Prelude.{◌++◌, ◌<◌, ◌≡◌, ◌⊎◌};
+ghost use Rattle.std.specs.Prelude.{IfErr, IfOk, IfSome, MatchOption, [], length, map, not};
+ghost use Rattle.std.specs.Prelude.{string_bytes, true, ◌++◌, ◌<◌, ◌≡◌, ◌⊎◌};
 ghost use Rattle.tabled_base.specs.declared.error.TableError.TheVariants.{Memory, Range};
 ghost use Rattle.tabled_config.specs.Styles.{ascii};
 ghost use Rattle.tabled_line.specs.Plain.{EachLineTakes};
@@ -17,14 +17,15 @@ ghost use Rattle.tabled_pool.specs.Pool.{borders_of, frame_of, frame_place, fram
 ghost use Rattle.tabled_pool.specs.Pool.{framed_width, margin_around, marks_for, plan, pool_lines};
 ghost use Rattle.tabled_pool.specs.Pool.{pool_text, spacing_of, style_of, total_height};
 ghost use Rattle.tabled_pool.specs.Pool.{total_width};
+ghost use Rattle.tabled_pool.specs.Sizes.{AreAdded, sizes_within};
 ghost use Rattle.tabled_pool.specs.Tree.{IsInner};
 ghost use Rattle.tabled_priority.specs.Sums.{one_if};
 
 use crate::bordered_text::DrawnBlock;
 use crate::junction::{has_bottom, has_top};
-use crate::places::{Drawing, Piece, PieceList, Rectangle, place_tree};
+use crate::places::{Drawing, Piece, PieceList, Placer, Rectangle, place_tree};
 use crate::plain::{are_uncolored_lines, are_uncolored_sides};
-use crate::sizes::{BoxSpacing, Size, own_size, sum};
+use crate::sizes::{BoxSpacing, Size, SizeList, measure, sum};
 use crate::table_lines::{ColoredMargin, TableLines, draw_lines};
 use crate::tree::TableValue;
 use crate::tree_walk::{draw_tree, has_zero_width};
@@ -72,9 +73,6 @@ fn style_of(config: &CompactMultilineConfig) -> CellStyle
 /// level. On 8 MiB of stack, printing works to about 20,000 such levels, or 15,000 with a text that
 /// is given no columns. A value that is too deep overflows the stack and ends the process; no proof
 /// covers this. Copying and dropping a table don't recurse.
-///
-/// A level of several boxes measures the last of them again, so the time of printing can grow with
-/// the square of the depth.
 #[derive(Debug, Drop, PartialEq, Eq, PartialOrd, Ord)]
 pub struct PoolTable {
     pub(crate) value: TableValue,
@@ -167,24 +165,28 @@ impl PoolTable {
     }
 
     /// The size that the inner value needs, if it fits in `usize`.
-    fn inner_size(&self, value: &TableValue) -> Option<Size>
+    fn inner_size(&self, value: &TableValue, list: &mut SizeList) -> Option<Size>
         requires { IsInner self.now.value value.now }
-        ensures { IsSize result (box_of (spacing_of self.now) self.now.value) }
+        ensures size { IsSize result (box_of (spacing_of self.now) self.now.value) }
+        ensures list { IfSome result (λ _. AreAdded list.old list.new
+            (sizes_within (spacing_of self.now) value.now)) }
     {
-        own_size(value, &self.spacing())
+        measure(value, &self.spacing(), list)
     }
 
     /// The width and height without the margin, if the totals with it fit in `usize`. `value` is
-    /// the inner value.
-    fn checked_size(&self, value: &TableValue) -> Option<Size>
+    /// the inner value. Adds the sizes of the boxes in it.
+    fn checked_size(&self, value: &TableValue, list: &mut SizeList) -> Option<Size>
         requires { IsInner self.now.value value.now }
-        ensures { MatchOption result (IsOutOfRange self.now)
+        ensures size { MatchOption result (IsOutOfRange self.now)
             (λ size. (size.width ≡ framed_width self.now) × (size.height ≡ framed_height self.now)
             × IsInRange self.now) }
+        ensures list { IfSome result (λ _. AreAdded list.old list.new
+            (sizes_within (spacing_of self.now) value.now)) }
     {
         let frame = frame_of(self.config.get_borders());
         let margin = *self.config.get_margin();
-        let own = self.inner_size(value)?;
+        let own = self.inner_size(value, list)?;
         let width = sum(frame.left, own.width, frame.right)?;
         let height = sum(frame.top, own.height, frame.bottom)?;
         sum(margin.left.size, width, margin.right.size)?;
@@ -192,14 +194,23 @@ impl PoolTable {
         Some(Size { width, height })
     }
 
-    /// The placed pieces of the inner value.
-    fn pieces<'a>(&self, value: &'a TableValue, size: Size) -> Result<PieceList<'a>, AllocError>
+    /// The placed pieces of the inner value, from its size and the sizes of the boxes in it.
+    fn pieces<'a>(
+        &self,
+        value: &'a TableValue,
+        size: Size,
+        measured: SizeList,
+    ) -> Result<PieceList<'a>, AllocError>
         requires inner { IsInner self.now.value value.now }
+        requires sizes { measured.is_complete ≡ true
+            → measured.sizes.items ≡ sizes_within (spacing_of self.now) value.now }
         requires width { size.width ≡ framed_width self.now }
         requires height { size.height ≡ framed_height self.now }
         ensures { IfOk result (λ list. map shown list.pieces.items ≡ (plan self.now).parts) }
     {
-        let mut list = PieceList::new(self.value.allocator(), size.height);
+        let sizes = measured.all()?;
+        let list = PieceList::new(self.value.allocator(), size.height);
+        let mut placer = Placer { list, sizes };
         let frame = frame_of(self.config.get_borders());
         let whole = Rectangle {
             x: 0,
@@ -207,8 +218,8 @@ impl PoolTable {
             width: size.width,
             height: size.height,
         };
-        place_tree(value, &self.spacing(), &frame, whole, &mut list)?;
-        Ok(list)
+        place_tree(value, &self.spacing(), &frame, whole, &mut placer)?;
+        Ok(placer.list)
     }
 
     fn drawing<'d, 'a>(&self, list: &'d PieceList<'a>, size: Size) -> Drawing<'d, 'a>
@@ -253,10 +264,11 @@ impl PoolTable {
         ensures { WritesPool self.now (S.sent sink.old) result (S.sent sink.new) }
     {
         let value = self.value.inner();
-        let Some(size) = self.checked_size(value) else {
+        let mut measured = SizeList::new(self.value.allocator());
+        let Some(size) = self.checked_size(value, &mut measured) else {
             return Err(TableError::Range);
         };
-        let list = self.pieces(value, size)?;
+        let list = self.pieces(value, size, measured)?;
         let has_columns = self.has_columns(list.pieces.as_slice());
         let drawing = self.drawing(&list, size);
         if has_columns {

@@ -1,9 +1,12 @@
-//! The sizes that boxes need, and `BoxSpacing`, on which they depend.
-ghost use Rattle.std.specs.Prelude.{MatchOption, map, ◌+◌, ◌^◌, ◌≡◌, ◌≤◌};
+//! The sizes that boxes need; `SizeList`, those of a tree; and `BoxSpacing`, on which they depend.
+ghost use Rattle.std.specs.Prelude.{IfOk, IfSome, MatchOption, [], false, map, true, ◌+◌, ◌^◌};
+ghost use Rattle.std.specs.Prelude.{◌∷◌, ◌≡◌, ◌≤◌};
 ghost use Rattle.tabled_pool.specs.Boxes.{IsSize, box_of, joined_box, leaf_box, list_box, pick};
 ghost use Rattle.tabled_pool.specs.Boxes.{sized};
+ghost use Rattle.tabled_pool.specs.Sizes.{AreAdded, sizes_of_all, sizes_within};
 
 use crate::tree::TableValue;
+use std::alloc::{AllocError, Global};
 use tabled_config::{Indent, Sides};
 use tabled_size::DimensionPriority;
 use tabled_text::text_measures;
@@ -30,6 +33,56 @@ pub struct Size {
     pub width: usize,
     /// In lines.
     pub height: usize,
+}
+
+/// The sizes of the boxes in a tree, so that each text is measured once. The last size is that of
+/// the box to be placed first.
+#[derive(Drop)]
+pub struct SizeList {
+    pub sizes: Vec<Size>,
+    /// Whether no size is missing. After an allocation failure, no more sizes are stored: `Range`
+    /// comes before `Memory`, so measuring goes on.
+    pub is_complete: bool,
+}
+
+impl SizeList {
+    /// An empty list.
+    pub fn new(alloc: Global) -> SizeList
+        ensures { result.sizes.items ≡ [] }
+    {
+        SizeList {
+            sizes: Vec::new(alloc),
+            is_complete: true,
+        }
+    }
+
+    /// A list that stores no sizes.
+    fn none(alloc: Global) -> SizeList {
+        SizeList {
+            sizes: Vec::new(alloc),
+            is_complete: false,
+        }
+    }
+
+    fn add(&mut self, size: Size)
+        ensures { AreAdded self.old self.new (size ∷ []) }
+    {
+        if self.is_complete {
+            self.is_complete = self.sizes.push(size).is_ok();
+        }
+    }
+
+    /// Returns the sizes. Fails if one is missing.
+    pub fn all(self) -> Result<Vec<Size>, AllocError>
+        ensures complete { IfOk result (λ _. self.is_complete ≡ true) }
+        ensures sizes { IfOk result (λ sizes. sizes.items ≡ self.sizes.items) }
+    {
+        if self.is_complete {
+            Ok(self.sizes)
+        } else {
+            Err(AllocError)
+        }
+    }
 }
 
 /// Whether boxes are side by side or below each other.
@@ -88,10 +141,66 @@ fn joined_size(direction: Direction, spacing: &BoxSpacing, first: Size, other: S
     }
 }
 
-/// Returns the size that boxes in a direction need, if it fits in `usize`.
+/// Returns the size that boxes in a direction need, if it fits in `usize`, and adds their sizes and
+/// those of the boxes in them. The last box comes first, since placing takes sizes from the end.
 #[cycle(sizes)]
-#[tactic(auto, using(crate::proofs::NodeSums::nodes_in_cons, crate::proofs::NodeSums::nodes_in_at))]
+#[tactic(auto, using(crate::proofs::NodeSums::nodes_in_push))]
+fn measure_list(
+    direction: Direction,
+    children: &[TableValue],
+    spacing: &BoxSpacing,
+    list: &mut SizeList,
+) -> Option<Size>
+    ensures size { IsSize result (list_box direction spacing.now
+        (map (box_of spacing.now) children.now)) }
+    ensures list { IfSome result (λ _. AreAdded list.old list.new
+        (sizes_of_all spacing.now children.now)) }
+{
+    let Some((last, front)) = children.split_last() else {
+        return leaf_size("", spacing);
+    };
+    let mut all = measure(last, spacing, list)?;
+    list.add(all);
+    let mut left = front;
+    'children: while let Some((child, before)) = left.split_last() {
+        let own = measure(child, spacing, list)?;
+        list.add(own);
+        all = joined_size(direction, spacing, own, all)?;
+        left = before;
+    }
+    Some(all)
+}
+
+/// Returns the size that a box needs, if it fits in `usize`, and adds the sizes of the boxes in it.
+/// Recurses at each level of several boxes.
+#[cycle(sizes)]
+#[tactic(auto, using(crate::proofs::NodeSums::nodes_in_push))]
+pub fn measure(value: &TableValue, spacing: &BoxSpacing, list: &mut SizeList) -> Option<Size>
+    ensures size { IsSize result (box_of spacing.now value.now) }
+    ensures list { IfSome result (λ _. AreAdded list.old list.new
+        (sizes_within spacing.now value.now)) }
+{
+    match value.inner() {
+        TableValue::Cell(text) => leaf_size(text.as_str(), spacing),
+        TableValue::Row(children) => {
+            measure_list(Direction::Across, children.as_slice(), spacing, list)
+        }
+        TableValue::Column(children) => {
+            measure_list(Direction::Down, children.as_slice(), spacing, list)
+        }
+    }
+}
+
+/// Returns the size that a box needs, if it fits in `usize`.
+pub fn own_size(value: &TableValue, spacing: &BoxSpacing) -> Option<Size>
+    ensures { IsSize result (box_of spacing.now value.now) }
+{
+    measure(value, spacing, &mut SizeList::none(value.allocator()))
+}
+
+/// Returns the size that boxes in a direction need, if it fits in `usize`.
 pub fn list_size(
+    alloc: Global,
     direction: Direction,
     children: &[TableValue],
     spacing: &BoxSpacing,
@@ -99,25 +208,5 @@ pub fn list_size(
     ensures { IsSize result (list_box direction spacing.now
         (map (box_of spacing.now) children.now)) }
 {
-    let Some((first, rest)) = children.split_first() else {
-        return leaf_size("", spacing);
-    };
-    let mut all = own_size(first, spacing)?;
-    for child in rest {
-        let own = own_size(child, spacing)?;
-        all = joined_size(direction, spacing, all, own)?;
-    }
-    Some(all)
-}
-
-#[cycle(sizes)]
-#[tactic(auto, using(crate::proofs::NodeSums::nodes_in_cons, crate::proofs::NodeSums::nodes_in_at))]
-pub fn own_size(value: &TableValue, spacing: &BoxSpacing) -> Option<Size>
-    ensures { IsSize result (box_of spacing.now value.now) }
-{
-    match value.inner() {
-        TableValue::Cell(text) => leaf_size(text.as_str(), spacing),
-        TableValue::Row(children) => list_size(Direction::Across, children.as_slice(), spacing),
-        TableValue::Column(children) => list_size(Direction::Down, children.as_slice(), spacing),
-    }
+    measure_list(direction, children, spacing, &mut SizeList::none(alloc))
 }

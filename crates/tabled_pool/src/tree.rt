@@ -1,8 +1,9 @@
 //! `TableValue`, a tree of texts: how it is dropped, and how it is copied.
-ghost use Rattle.std.specs.Prelude.{IfErr, IfOk, IfSome, MatchOption, [], map, ◌+◌, ◌<◌, ◌≡◌, ◌≤◌};
+ghost use Rattle.std.specs.Prelude.{IfErr, IfOk, IfSome, MatchOption, [], map, ◌+◌, ◌<◌, ◌≡◌, ◌≢◌};
+ghost use Rattle.std.specs.Prelude.{◌≤◌};
 ghost use Rattle.tabled_base.specs.declared.error.TableError.TheVariants.{Memory};
-ghost use Rattle.tabled_pool.specs.Tree.{IsBegun, IsInner, IsOnlyChild, left_in, list, nodes};
-ghost use Rattle.tabled_pool.specs.Tree.{nodes_in, tree_of, within};
+ghost use Rattle.tabled_pool.specs.Tree.{IsBegun, IsInner, IsOnlyChild, child_count};
+ghost use Rattle.tabled_pool.specs.Tree.{left_in, list, nodes, nodes_in, tree_of, within};
 
 use std::alloc::{AllocError, Global};
 use tabled_base::TableError;
@@ -31,7 +32,8 @@ impl TableValue {
     }
 
     fn only_child(&self) -> Option<&TableValue>
-        ensures { IfSome result (λ child. IsOnlyChild self.now child.now) }
+        ensures { MatchOption result (child_count self.now ≢ 1)
+            (λ child. IsOnlyChild self.now child.now) }
     {
         match self {
             TableValue::Row(children) | TableValue::Column(children) => match children.as_slice() {
@@ -45,7 +47,8 @@ impl TableValue {
     /// Descends through lists of one value, which need no more than that. Returns the text or the
     /// list in them.
     pub(crate) fn inner(&self) -> &TableValue
-        ensures { IsInner self.now result.now }
+        ensures same { IsInner self.now result.now }
+        ensures several { child_count result.now ≢ 1 }
     {
         let mut value = self;
         'lists: loop {

@@ -171,7 +171,7 @@ fn draw_list(
     let Some((last, front)) = children.split_last() else {
         return inherited.draw_text(drawing, "");
     };
-    let Some(own) = list_size(direction, children, spacing) else {
+    let Some(own) = list_size(drawing.alloc, direction, children, spacing) else {
         unreachable!()
     };
     let border = direction.pick(spacing.bar, spacing.rule);

@@ -1,5 +1,7 @@
-use Rattle.tabled_pool.proofs.Names.{AreLeft, box_of, boxes_left, drop, list_box, map, nodes, nodes_in, ◌*◌, ◌+◌}
+use Rattle.tabled_pool.proofs.Names.{AreLeft, [], box_of, boxes_left, drop, list_box, map, nodes, nodes_in, ◌*◌, ◌++◌, ◌+◌, ◌∷◌}
 use Rattle.tabled_pool.specs.Boxes.{Placing}
+use Rattle.tabled_pool.specs.Sizes.{sizes_of_all}
+use Rattle.tabled_pool.proofs.Measures.{AreUnplaced}
 use Rattle.tabled_pool.proofs.places.+places.Given as goal
 
 abbrev pub invariant-place_list-loop-child : goal.invariant-place_list-loop-child
@@ -7,8 +9,10 @@ invariant-place_list-loop-child l =
     let bs = boxes_left l.spacing (drop l.child-index l.front) l.last in
     record {
       placing : Placing (list_box l.direction l.spacing (map (box_of l.spacing) l.children)) (list_box l.direction l.spacing bs)
-          l.fn.whole.place l.place l.initial.list.pieces.items l.list.pieces.items;
+          l.fn.whole.place l.place l.initial.placer.list.pieces.items l.placer.list.pieces.items;
       left : AreLeft l.direction l.spacing bs l.left;
+      sizes : AreUnplaced l.fn.placer.sizes.items (sizes_of_all l.spacing l.children) l.placer.sizes.items
+          (sizes_of_all l.spacing (drop l.child-index l.front ++ (l.last ∷ [])));
     }
 
 abbrev pub decreases-place_list : goal.decreases-place_list

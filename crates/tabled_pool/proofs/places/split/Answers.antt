@@ -1,25 +1,19 @@
-use Rattle.tabled_pool.proofs.Names.{Fits, box_of, first_part, place_along, rest_part, rules, subst, sym, ◌≡◌, ◌≤◌}
+use Rattle.tabled_pool.proofs.Names.{Fits, first_part, place_along, rest_part, rules, sized, subst, sym, ◌≡◌, ◌≤◌}
 use Rattle.tabled_pool.specs.Boxes.{given_in}
 use Rattle.tabled_pool.proofs.Directions.{Cut, cut_facts}
 use Rattle.tabled_pool.proofs.places.split.Goals.{Start, After-rest_part-behind}
 use Rattle.tabled_pool.proofs.places.split.Goals as goal
 
-cut : (c : Start) → Cut c.args.direction c.args.spacing.now (box_of c.args.spacing.now c.args.child.now)
-    (given_in c.args.direction c.args.spacing.now c.args.child.now c.args.left c.args.place) c.args.place
+cut : (c : Start) → Cut c.args.direction c.args.spacing.now (sized c.args.size)
+    (given_in c.args.direction c.args.spacing.now (sized c.args.size) c.args.left c.args.place) c.args.place
 cut c =
     let q = c.requires in
-    cut_facts c.args.direction c.args.spacing.now (box_of c.args.spacing.now c.args.child.now) c.args.left.size c.args.left.count c.args.place
-    q.some q.own q.across q.along q.right q.low
+    cut_facts c.args.direction c.args.spacing.now (sized c.args.size) c.args.left.size c.args.left.count c.args.place q.some
+    q.own q.across q.along q.right q.low
 
 behind : (c : After-rest_part-behind) → c.rest_part-behind.result
-    ≡ rest_part c.args.direction (given_in c.args.direction c.args.spacing.now c.args.child.now c.args.left c.args.place) c.args.place
+    ≡ rest_part c.args.direction (given_in c.args.direction c.args.spacing.now (sized c.args.size) c.args.left c.args.place) c.args.place
 behind c = search rules
-
-pub size_within-size-requires : goal.size_within-size-requires
-size_within-size-requires c =
-    let q = c.requires in
-    let k = cut (goal.at.size_within-size-requires c).Start in
-    record { wide = k.wide; tall = k.tall; right = q.right; low = q.low }
 
 pub rest_part-requires-clause-within : goal.rest_part-requires-clause-within
 rest_part-requires-clause-within c =
@@ -37,6 +31,6 @@ rest_part-requires-clause-low c =
 
 pub returns-clause-fits : goal.returns-clause-fits
 returns-clause-fits c =
-    let n = given_in c.args.direction c.args.spacing.now c.args.child.now c.args.left c.args.place in
+    let n = given_in c.args.direction c.args.spacing.now (sized c.args.size) c.args.left c.args.place in
     let e : c.first_part.result ≡ first_part c.args.direction n c.args.place = search rules in
-    subst (Fits (box_of c.args.spacing.now c.args.child.now)) (sym e) (cut (goal.at.returns-clause-fits c).Start).fits
+    subst (Fits (sized c.args.size)) (sym e) (cut (goal.at.returns-clause-fits c).Start).fits

@@ -12,6 +12,9 @@ written : {T : Type 0} (t : PoolTable) (old new : Sent) (r : Result T TableError
 written t old new (Ok _) i w = (i, w)
 written t old new (Err e) i w = inr (i, inr w)
 
+pub pieces-requires-clause-sizes : goal.pieces-requires-clause-sizes
+pieces-requires-clause-sizes g c = λ complete. rw c.new-measured.ensures at (c.in-Some.ensures.list.items complete)
+
 pub draw_lines-requires : goal.draw_lines-requires
 draw_lines-requires g c =
     let columns : has_zero_width (plan c.args.self.now).parts ≡ false = grind (arith, common_steps) in
@@ -22,15 +25,15 @@ returns-then-has_columns g c =
     let t = c.args.self.now in
     let m = c.colored_margin-margin.ensures in
     let columns : has_zero_width (plan t).parts ≡ false = grind (arith, common_steps) in
-    written t _ _ _ c.in-Some.ensures.2
+    written t _ _ _ c.in-Some.ensures.size.2
     (rw (text_of t _ _ _ columns c.drawing-drawing.ensures.plan (m.indent ∙ c.get_margin.ensures)
     (m.colors ∙ ap (marks_for t) c.get_margin.ensures)) c.draw_lines.ensures)
 
 pub draw_tree-requires-clause-wide : goal.draw_tree-requires-clause-wide
-draw_tree-requires-clause-wide g c = rw c.drawing-drawing.ensures.spacing (omega (arith, c.drawing-drawing.ensures.width, c.in-Some.ensures.0))
+draw_tree-requires-clause-wide g c = rw c.drawing-drawing.ensures.spacing (omega (arith, c.drawing-drawing.ensures.width, c.in-Some.ensures.size.0))
 
 pub draw_tree-requires-clause-tall : goal.draw_tree-requires-clause-tall
-draw_tree-requires-clause-tall g c = rw c.drawing-drawing.ensures.spacing (omega (arith, c.drawing-drawing.ensures.height, c.in-Some.ensures.1))
+draw_tree-requires-clause-tall g c = rw c.drawing-drawing.ensures.spacing (omega (arith, c.drawing-drawing.ensures.height, c.in-Some.ensures.size.1))
 
 pub returns : goal.returns
 returns g c =
@@ -38,5 +41,5 @@ returns g c =
     let m = c.colored_margin-margin-2.ensures in
     let bare : has_zero_width (plan t).parts ≡ true = grind (arith, common_steps) in
     let block = rw (c.drawing-drawing.ensures.plan, c.drawing-drawing.ensures.spacing) at c.in_ok-block.ensures in
-    written t _ _ _ c.in-Some.ensures.2
+    written t _ _ _ c.in-Some.ensures.size.2
     (rw (inherited_text t _ _ _ bare block (m.indent ∙ c.margin_around.ensures) (m.colors ∙ ap (marks_for t) (sym m.indent))) c.draw_lines-2.ensures)

@@ -5,4 +5,4 @@ pub lists-preserved : goal.lists-preserved
 lists-preserved c =
     let i = c.lists.invariant in
     let o = c.in-Some.ensures in
-    record { box = λ g. i.box g ∙ o.box g; fewer = omega (arith, i.fewer, o.fewer) }
+    record { box = λ g. i.box g ∙ o.box g; sizes = λ g. i.sizes g ∙ o.sizes g; fewer = omega (arith, i.fewer, o.fewer) }
