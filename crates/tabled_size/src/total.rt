@@ -105,7 +105,7 @@ fn framed_height(config: &SpannedConfig, rows: usize, inside: usize) -> Option<u
 
 /// How many lines the horizontal line above a row takes: `shared`, where it is known for the lines
 /// between any two rows.
-fn lines_above(config: &SpannedConfig, shared: Option<usize>, rows: usize, row: usize) -> usize
+fn rules_above(config: &SpannedConfig, shared: Option<usize>, rows: usize, row: usize) -> usize
     requires { IfSome shared (λ lines. (row : ℕ) → 0 < row → row < rows
         → rules_at config.now rows row ≡ lines) }
     ensures { result ≡ rules_at config.now rows row }
@@ -117,7 +117,7 @@ fn lines_above(config: &SpannedConfig, shared: Option<usize>, rows: usize, row: 
 }
 
 /// How many lines the horizontal line between any two rows takes, if no line was set by index.
-fn lines_between(config: &SpannedConfig) -> Option<usize>
+fn rules_between(config: &SpannedConfig) -> Option<usize>
     ensures { IfSome result (λ lines. (rows row : ℕ) → 0 < row → row < rows
         → rules_at config.now rows row ≡ lines) }
 {
@@ -133,10 +133,10 @@ pub fn filled_height<D: Dimension>(config: &SpannedConfig, rows: usize, sizes: &
     ensures { let heights = reached (D.height_at sizes.now) rows in
         IsTotal (filled_height config.now rows heights) result }
 {
-    let shared = lines_between(config);
+    let shared = rules_between(config);
     let mut total: usize = 0;
     'rows: for row in 0..rows {
-        let line = lines_above(config, shared, rows, row);
+        let line = rules_above(config, shared, rows, row);
         let part = line.checked_add(sizes.get_height(row))?;
         total = total.checked_add(part)?;
     }
@@ -268,10 +268,10 @@ pub fn estimated_total_height<R: ContentRecords>(
         return Some(0);
     }
     let rows = records.count_rows();
-    let shared = lines_between(config);
+    let shared = rules_between(config);
     let mut total: usize = 0;
     'rows: for row in 0..rows {
-        let line = lines_above(config, shared, rows, row);
+        let line = rules_above(config, shared, rows, row);
         let part = line.checked_add(row_height(records, config, row)?)?;
         total = total.checked_add(part)?;
     }

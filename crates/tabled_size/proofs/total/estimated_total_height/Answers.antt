@@ -24,8 +24,8 @@ returns-in_err-part g c =
     let cells = g.R.ExactRecords.cells c.args.records.now in
     let config = c.args.config.now in
     let lt : c.rows.row < length cells = omega (arith, c.rows-test.true, c.count_rows-rows.ensures) in
-    let e = part cells config c.count_rows-rows.result c.rows.row c.lines_above-line.result c.in_ok-row_height.field-0 c.count_rows-rows.ensures lt
-    c.lines_above-line.ensures c.in_ok-row_height.ensures in
+    let e = part cells config c.count_rows-rows.result c.rows.row c.rules_above-line.result c.in_ok-row_height.field-0 c.count_rows-rows.ensures lt
+    c.rules_above-line.ensures c.in_ok-row_height.ensures in
     let past = part-passes (part_height config (length cells) (estimated_heights cells config)) c.rows.row (length cells) lt
     (omega (arith, e, c.in_err-part.ensures)) in
     none-height cells config (sym c.is_empty.ensures.value ∙ c.if-is_empty.false) _ c.from_residual-in_err-part.ensures (inr past)
@@ -35,8 +35,8 @@ returns-in_err-total g c =
     let cells = g.R.ExactRecords.cells c.args.records.now in
     let config = c.args.config.now in
     let lt : c.rows.row < length cells = omega (arith, c.rows-test.true, c.count_rows-rows.ensures) in
-    let e = part cells config c.count_rows-rows.result c.rows.row c.lines_above-line.result c.in_ok-row_height.field-0 c.count_rows-rows.ensures lt
-    c.lines_above-line.ensures c.in_ok-row_height.ensures in
+    let e = part cells config c.count_rows-rows.result c.rows.row c.rules_above-line.result c.in_ok-row_height.field-0 c.count_rows-rows.ensures lt
+    c.rules_above-line.ensures c.in_ok-row_height.ensures in
     let past = sum-passes (part_height config (length cells) (estimated_heights cells config)) c.rows.row (length cells)
     c.rows.total c.in_ok-part.part lt c.rows.invariant (c.in_ok-part.ensures.1 ∙ e) c.in_err-total.ensures in
     none-height cells config (sym c.is_empty.ensures.value ∙ c.if-is_empty.false) _ c.from_residual-in_err-total.ensures (inr past)
@@ -46,8 +46,8 @@ rows-preserved g c =
     let cells = g.R.ExactRecords.cells c.args.records.now in
     let config = c.args.config.now in
     let lt : c.rows.row < length cells = omega (arith, c.rows-test.true, c.count_rows-rows.ensures) in
-    let e = part cells config c.count_rows-rows.result c.rows.row c.lines_above-line.result c.in_ok-row_height.field-0 c.count_rows-rows.ensures lt
-    c.lines_above-line.ensures c.in_ok-row_height.ensures in
+    let e = part cells config c.count_rows-rows.result c.rows.row c.rules_above-line.result c.in_ok-row_height.field-0 c.count_rows-rows.ensures lt
+    c.rules_above-line.ensures c.in_ok-row_height.ensures in
     let more = sum-more (part_height config (length cells) (estimated_heights cells config)) c.rows.row in
     omega (arith, e, more, c.rows.invariant, c.in_ok-part.ensures.1, c.in_ok-total.ensures.1)
 

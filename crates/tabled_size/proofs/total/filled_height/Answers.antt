@@ -14,6 +14,6 @@ rows-preserved g c =
     let f = part_height c.args.config.now c.args.rows (reached size_at c.args.rows) in
     let size = reached_size size_at c.args.rows c.rows.row c.get_height.result
     (omega (arith, c.requires, c.rows-test.true)) c.get_height.ensures in
-    let part : c.in_ok-part.part ≡ f c.rows.row = omega (arith, size, c.lines_above-line.ensures, c.in_ok-part.ensures.1) in
+    let part : c.in_ok-part.part ≡ f c.rows.row = omega (arith, size, c.rules_above-line.ensures, c.in_ok-part.ensures.1) in
     let more = sum-more f c.rows.row in
     omega (arith, part, more, c.rows.invariant, c.in_ok-total.ensures.1)
