@@ -10,6 +10,7 @@ pub mod NewConfig
 pub mod PlacedText
 pub mod Plain
 pub mod Buffers
+pub mod Copied
 pub mod Row
 pub mod RowLines
 pub mod SendsBut

@@ -21,7 +21,8 @@ slot_at columns column = record { place = offset_at columns column; width = colu
 abbrev pub AreSlots : ColumnSheet → List Slot → Type 0
 AreSlots columns slots = slots ≡ map (slot_at columns) (range_with_len 0 columns.count)
 
--- the blank row of the columns, with a line feed before it, the same with more behind it, and their slots
+-- the blank row of the columns, with a line feed before it, the same with more behind it, and the
+-- slots of its cells
 pub record IsBlankOf (columns : ColumnSheet) (blank : BlankRow) : Type 0 where
   pub text : string_bytes blank.text ≡ 10 ∷ blank_row columns
   pub padded : take (length (string_bytes blank.text)) (string_bytes blank.padded) ≡ string_bytes blank.text

@@ -1,8 +1,9 @@
 //! Row templates: a blank row with its vertical lines and edges is built once. A line of a row is
 //! its texts and the parts of the blank row between them.
-ghost use Rattle.std.specs.Prelude.{IfOk, IfSome, IsUtf8, [], drop, length, string_bytes, take, ℕ};
+ghost use Rattle.std.specs.Prelude.{IfOk, IfSome, IsUtf8, [], length, string_bytes, take};
 ghost use Rattle.std.specs.Prelude.{◌++◌, ◌+◌, ◌≡◌, ◌≤◌, ◌∷◌};
 ghost use Rattle.tabled_line.specs.BlankRow.{blank_row, first_offset};
+ghost use Rattle.tabled_line.specs.Copied.{IsCopied};
 ghost use Rattle.tabled_line.specs.Slots.{AreSlots, IsBlankOf, IsFilled, IsTemplateOf};
 ghost use Rattle.tabled_line.specs.Row.{piece};
 ghost use Rattle.tabled_line.specs.RowLines.{IsRowLine};
@@ -118,11 +119,7 @@ fn padded_row(alloc: Global, row: &str) -> Result<String, AllocError>
 #[inline(always)]
 fn copy_at(line: &mut [u8], place: usize, bytes: &[u8])
     requires { place + length bytes.now ≤ length line.old }
-    ensures length { length line.new ≡ length line.old }
-    ensures rest { drop (place + length bytes.now) line.new
-        ≡ drop (place + length bytes.now) line.old }
-    ensures copied { (count : ℕ) → count ≤ length bytes.now
-        → take (place + count) line.new ≡ take place line.old ++ take count bytes.now }
+    ensures { IsCopied place bytes.now line.old line.new }
 {
     line[place..place + bytes.len()].copy_from_slice(bytes);
 }
@@ -133,11 +130,7 @@ fn copy_ends(line: &mut [u8], place: usize, bytes: &[u8], size: usize)
     requires fits { place + length bytes.now ≤ length line.old }
     requires size { size ≤ length bytes.now }
     requires all { length bytes.now ≤ size + size }
-    ensures length { length line.new ≡ length line.old }
-    ensures rest { drop (place + length bytes.now) line.new
-        ≡ drop (place + length bytes.now) line.old }
-    ensures copied { (count : ℕ) → count ≤ length bytes.now
-        → take (place + count) line.new ≡ take place line.old ++ take count bytes.now }
+    ensures { IsCopied place bytes.now line.old line.new }
 {
     let last = bytes.len() - size;
     copy_at(line, place, &bytes[..size]);
@@ -148,11 +141,7 @@ fn copy_ends(line: &mut [u8], place: usize, bytes: &[u8], size: usize)
 #[inline(always)]
 fn copy_text(line: &mut [u8], place: usize, bytes: &[u8])
     requires { place + length bytes.now ≤ length line.old }
-    ensures length { length line.new ≡ length line.old }
-    ensures rest { drop (place + length bytes.now) line.new
-        ≡ drop (place + length bytes.now) line.old }
-    ensures copied { (count : ℕ) → count ≤ length bytes.now
-        → take (place + count) line.new ≡ take place line.old ++ take count bytes.now }
+    ensures { IsCopied place bytes.now line.old line.new }
 {
     let count = bytes.len();
     if count > BLOCK {

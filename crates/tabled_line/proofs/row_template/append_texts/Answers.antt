@@ -125,7 +125,7 @@ texts-preserved g c =
           ∙ ap (λ u. take c.texts.end c.texts.line ++ u) (padded-part (string_bytes c.args.blank.now.text) _ c.texts.passed (start - c.texts.passed) c.requires.blank.padded
           (omega (arith, slot.after, slot.reach, slot.width_is, c.in_ok-placed.ensures.whole)))))
           (subst IsUtf8 c.as_bytes.ensures.value c.as_bytes.ensures.utf8);
-      left = omega (arith, slot.after, slot.reach, slot.width_is, c.in_ok-placed.ensures.whole, a.within, c.texts.invariant.left, c.in_ok-spare-2.ensures, c.copy_part.ensures.length, c.copy_text.ensures.length, padded-long _ _ c.requires.blank.padded);
+      left = omega (arith, slot.after, slot.reach, slot.width_is, c.in_ok-placed.ensures.whole, a.within, c.texts.invariant.left, c.in_ok-spare-2.ensures, c.copy_part.ensures.length, c.copy_text.ensures.same, padded-long _ _ c.requires.blank.padded);
     }
 
 pub returns : goal.returns

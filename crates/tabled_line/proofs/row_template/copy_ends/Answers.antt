@@ -38,29 +38,23 @@ behind-ends place size last old first both bytes all meet within begun ended =
     sym (ap (λ n. drop n both) whole) ∙ ended ∙ ap (λ n. drop n first) (whole ∙ sym sum)
     ∙ sym (drop-drop more (place + size) first) ∙ ap (drop more) begun ∙ drop-drop more (place + size) old ∙ ap (λ n. drop n old) sum
 
-pub returns-clause-rest : goal.returns-clause-rest
-returns-clause-rest c =
+pub returns : goal.returns
+returns c =
     let bytes = c.args.bytes.now in
     let last = length bytes - c.args.size in
     let part = length-take-le c.args.size bytes c.requires.size in
     let slice = rest-dropped bytes bytes last refl in
     let rest : length (take (length bytes - last) (drop last bytes)) ≡ c.args.size =
     ap length slice ∙ length-drop last bytes ∙ omega (arith, c.requires.size) in
-    behind-ends c.args.place c.args.size last c.args.line.now c.copy_at.new.line c.copy_at-2.new.line bytes
-    (omega (arith, c.requires.size)) (omega (arith, c.requires.all)) c.requires.size
-    (subst (λ n. drop (c.args.place + n) c.copy_at.new.line ≡ drop (c.args.place + n) c.args.line.now) part c.copy_at.ensures.rest)
-    (subst (λ n. drop (c.args.place + last + n) c.copy_at-2.new.line ≡ drop (c.args.place + last + n) c.copy_at.new.line) rest c.copy_at-2.ensures.rest)
-
-pub returns-clause-copied : goal.returns-clause-copied
-returns-clause-copied c =
-    let bytes = c.args.bytes.now in
-    let last = length bytes - c.args.size in
-    let part = length-take-le c.args.size bytes c.requires.size in
-    let slice = rest-dropped bytes bytes last refl in
-    let rest : length (take (length bytes - last) (drop last bytes)) ≡ c.args.size =
-    ap length slice ∙ length-drop last bytes ∙ omega (arith, c.requires.size) in
-    both-ends c.args.place c.args.size last c.args.line.now c.copy_at.new.line c.copy_at-2.new.line bytes
-    (omega (arith, c.requires.size)) (omega (arith, c.requires.all))
-    (λ k le. c.copy_at.ensures.copied k (omega (arith, part, le)) ∙ ap (λ u. take c.args.place c.args.line.now ++ u) (take-take k c.args.size bytes le))
-    (λ k le. c.copy_at-2.ensures.copied k (omega (arith, rest, le))
-    ∙ ap (λ u. take (c.args.place + last) c.copy_at.new.line ++ take k u) slice)
+    record {
+      same = c.copy_at-2.ensures.same ∙ c.copy_at.ensures.same;
+      rest = behind-ends c.args.place c.args.size last c.args.line.now c.copy_at.new.line c.copy_at-2.new.line bytes
+          (omega (arith, c.requires.size)) (omega (arith, c.requires.all)) c.requires.size
+          (subst (λ n. drop (c.args.place + n) c.copy_at.new.line ≡ drop (c.args.place + n) c.args.line.now) part c.copy_at.ensures.rest)
+          (subst (λ n. drop (c.args.place + last + n) c.copy_at-2.new.line ≡ drop (c.args.place + last + n) c.copy_at.new.line) rest c.copy_at-2.ensures.rest);
+      copied = both-ends c.args.place c.args.size last c.args.line.now c.copy_at.new.line c.copy_at-2.new.line bytes
+          (omega (arith, c.requires.size)) (omega (arith, c.requires.all))
+          (λ k le. c.copy_at.ensures.copied k (omega (arith, part, le)) ∙ ap (λ u. take c.args.place c.args.line.now ++ u) (take-take k c.args.size bytes le))
+          (λ k le. c.copy_at-2.ensures.copied k (omega (arith, rest, le))
+          ∙ ap (λ u. take (c.args.place + last) c.copy_at.new.line ++ take k u) slice);
+    }

@@ -37,7 +37,7 @@ copy_at-requires-in-texts g c =
       ap length c.as_bytes-bytes.ensures.value,
       ap length c.as_bytes.ensures.value,
       c.texts.invariant.same,
-      c.copy_at.ensures.length,
+      c.copy_at.ensures.same,
       c.if-line-bytes.false,
     )
 
@@ -50,7 +50,7 @@ texts-preserved g c =
           c.in_ok-placed.ensures c.if-placed.false c.as_bytes.ensures.value c.as_bytes.ensures.utf8
           (copied.copied (length c.as_bytes.result.now) (omega arith)) copied.rest
           (omega (arith, slot.reach, slot.width_is));
-      same = copied.length ∙ c.texts.invariant.same;
+      same = copied.same ∙ c.texts.invariant.same;
     }
 
 pub returns : goal.returns
@@ -58,4 +58,4 @@ returns g c =
     let all = slots-passed (g.R.Row.sheet c.args.row.now).columns c.as_slice-slots.result.now c.texts.column (c.as_slice-slots.ensures.value ∙ c.requires.blank.slots)
     (let past = c.texts-test.false in let upto = c.texts.auto.column-end in omega (arith, past, upto)) in
     all-overlaid _ c.texts.invariant.overlaid all (ap length c.as_bytes-bytes.ensures.value)
-    (omega (arith, c.texts.invariant.same, c.copy_at.ensures.length, c.if-line-bytes.false))
+    (omega (arith, c.texts.invariant.same, c.copy_at.ensures.same, c.if-line-bytes.false))

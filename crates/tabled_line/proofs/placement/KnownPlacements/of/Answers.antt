@@ -1,5 +1,5 @@
 use Rattle.tabled_config.specs.declared.alignment.AlignmentHorizontal.TheVariants.{Left}
-use Rattle.tabled_line.proofs.Names.{ap, refl, sym, ◌∙◌}
+use Rattle.tabled_line.proofs.Names.{refl, sym, ◌∙◌}
 use Rattle.tabled_line.proofs.PlacementFacts.{realigned}
 use Rattle.tabled_line.proofs.placement.KnownPlacements.of.Goals as goal
 
