@@ -8,7 +8,7 @@ ghost use Rattle.tabled_config.specs.Settings.{frame, rule_at, style_at};
 ghost use Rattle.tabled_grid.specs.ColumnStyles.{AreStyles};
 ghost use Rattle.tabled_grid.specs.Grid.{sheet_by};
 ghost use Rattle.tabled_grid.specs.Picture.{columns_of, row_of};
-ghost use Rattle.tabled_line.specs.Placements.{ArePlacements, IsUniform};
+ghost use Rattle.tabled_line.specs.Placements.{AreKnown, ArePlacements, IsUniform};
 ghost use Rattle.tabled_size.specs.Holds.{IsSized};
 ghost use Rattle.tabled_size.specs.Reached.{reached};
 ghost use Rattle.tabled_size.specs.Sheet.{Sheet};
@@ -184,6 +184,22 @@ pub(crate) struct GridRow<'a, R: ContentRecords, D: Dimension> {
     ghost inside: { row < length grid.now.cells },
 }
 
+impl<'a, R: ContentRecords, D: Dimension> GridRow<'a, R, D> {
+    /// Returns what is known of the placements by the settings of the row. Not inlined, since its
+    /// values would be cleared for each row of tables that don't need it.
+    #[inline(never)]
+    fn styled_placements(&self) -> KnownPlacements<'_>
+        ensures { let row = row_of self.now.grid.now self.now.row in
+            AreKnown row.style row.columns result }
+    {
+        let grid = self.grid;
+        match grid.config.paddings_in(self.row).shared() {
+            Some(padding) => KnownPlacements::of(padding, grid.config.horizontals_in(self.row)),
+            None => KnownPlacements::Styled,
+        }
+    }
+}
+
 impl<'a, R: ContentRecords, D: Dimension> Row<'a> for GridRow<'a, R, D> {
     ghost sheet = { λ r. row_of r.grid.now r.row };
 
@@ -216,10 +232,7 @@ impl<'a, R: ContentRecords, D: Dimension> Row<'a> for GridRow<'a, R, D> {
         if let Some(cells) = grid.placements(self.row) {
             return KnownPlacements::Cached(cells);
         }
-        match grid.config.paddings_in(self.row).shared() {
-            Some(padding) => KnownPlacements::of(padding, grid.config.horizontals_in(self.row)),
-            None => KnownPlacements::Styled,
-        }
+        self.styled_placements()
     }
 
     fn styles(&self) -> RowStyles<'_> {

@@ -201,7 +201,7 @@ fn overlay_texts<'a, R: Row<'a>, A: RowPlacements>(
         if placed.text.len() != placed.columns {
             return None;
         }
-        copy_at(line, slot.place + placed.before, placed.text.as_bytes());
+        copy_text(line, slot.place + placed.before, placed.text.as_bytes());
     }
     Some(bytes.len())
 }
@@ -335,6 +335,22 @@ impl RowTemplate {
         self.fill_placed(row, placements, at)
     }
 
+    /// Fills the buffer with a line of a row, with its texts where the styles of the cells place
+    /// them. Not inlined, since the styles would be cleared for each row.
+    #[inline(never)]
+    fn fill_styled<'a, R: Row<'a>>(&mut self, row: &R, at: &RowLine<'_, 'a>) -> Option<usize>
+        requires known { IsTemplateOf (R.sheet row.now).columns self.old }
+        requires at { IsRowLine (R.sheet row.now) at.now }
+        ensures blank { self.new.blank ≡ self.old.blank }
+        ensures filled { IfSome result
+            (IsFilled (R.sheet row.now) at.now.index self.new.buffer.items) }
+    {
+        match row.styles() {
+            RowStyles::Set(styles) => self.fill_apart(row, styles, at),
+            styles => self.fill_apart(row, styles, at),
+        }
+    }
+
     /// Fills the buffer with a line of a row. Returns its length in bytes. `None`: the line must be
     /// written without the template.
     #[inline(always)]
@@ -352,10 +368,7 @@ impl RowTemplate {
             KnownPlacements::Cached(cells) => self.fill_placed(row, cells, at),
             KnownPlacements::Uniform(uniform) => self.fill_placed(row, uniform, at),
             KnownPlacements::Aligned(cells) => self.fill_apart(row, cells, at),
-            KnownPlacements::Styled => match row.styles() {
-                RowStyles::Set(styles) => self.fill_apart(row, styles, at),
-                styles => self.fill_apart(row, styles, at),
-            },
+            KnownPlacements::Styled => self.fill_styled(row, at),
         }
     }
 

@@ -25,8 +25,8 @@ overflow_add-slot g c =
     let slot = slot-reached c.as_slice-slots.result.now c.texts.invariant.overlaid.appended (c.as_slice-slots.ensures.value ∙ c.requires.blank.slots) (omega (arith, c.texts-test.true)) in
     omega (arith, slot.reach, slot.width_is, c.in_ok-placed.ensures.whole, ap length c.as_bytes-bytes.ensures.value)
 
-pub copy_at-requires-in-texts : goal.copy_at-requires-in-texts
-copy_at-requires-in-texts g c =
+pub copy_text-requires : goal.copy_text-requires
+copy_text-requires g c =
     let slot = slot-reached c.as_slice-slots.result.now c.texts.invariant.overlaid.appended (c.as_slice-slots.ensures.value ∙ c.requires.blank.slots) (omega (arith, c.texts-test.true)) in
     omega (
       arith,
@@ -44,9 +44,9 @@ copy_at-requires-in-texts g c =
 pub texts-preserved : goal.texts-preserved
 texts-preserved g c =
     let slot = slot-reached c.as_slice-slots.result.now c.texts.invariant.overlaid.appended (c.as_slice-slots.ensures.value ∙ c.requires.blank.slots) (omega (arith, c.texts-test.true)) in
-    let copied = c.copy_at-in-texts.ensures in
+    let copied = c.copy_text.ensures in
     record {
-      overlaid = text-overlaid (slice_index_or c.as_slice-slots.result.now c.texts.column (record { place = 0; width = 0 })) c.copy_at-in-texts.new.line c.as_bytes.result.now c.texts.invariant.overlaid slot.within slot.place_is
+      overlaid = text-overlaid (slice_index_or c.as_slice-slots.result.now c.texts.column (record { place = 0; width = 0 })) c.copy_text.new.line c.as_bytes.result.now c.texts.invariant.overlaid slot.within slot.place_is
           c.in_ok-placed.ensures c.if-placed.false c.as_bytes.ensures.value c.as_bytes.ensures.utf8
           (copied.copied (length c.as_bytes.result.now) (omega arith)) copied.rest
           (omega (arith, slot.reach, slot.width_is));
