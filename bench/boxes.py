@@ -8,6 +8,8 @@ with `rt run`. It runs anew for each table:
 
 - records: of ten fields, shown line by line;
 - boxes: rows of ten texts, drawn as boxes;
+- zero-width: the same without padding, where one text of each row is given no columns, so that the boxes are
+  drawn one by one and joined;
 - levels: a text in levels of rows and columns that each have one more text;
 - nested: a text in levels of rows and columns that have nothing else.
 
@@ -32,6 +34,7 @@ ROUNDS = 5
 TABLES = {
     "records": (100, 1_000, 10_000),
     "boxes": (100, 300, 1_000, 3_000, 30_000),
+    "zero-width": (100, 3_000, 30_000),
     "levels": (30, 100, 300, 1_000),
     "nested": (300_000, 3_000_000),
 }
@@ -40,6 +43,8 @@ TABLES = {
 BOX_COUNTS = (3_000, 30_000)
 BOX_TIME = 15
 BOX_SHARE = 1.3
+# The same with a text that is given no columns: three times of that.
+ZERO_WIDTH_TIME = 45
 # The most levels: nanoseconds a byte. Ten times as many nested levels: their time to that of the fewer.
 LEVEL_TIME = 60
 NESTED_SHARE = 13
@@ -56,6 +61,7 @@ use tabled_base::TableError;
 use tabled_extended::ExtendedTable;
 use tabled_pool::{PoolTable, TableValue};
 use tabled_line::IoSink;
+use tabled_set::Padding;
 
 const FIELDS: [&str; 10] = [
     "name", "year", "place", "kind", "colour", "weight", "owner", "since", "rank", "note",
@@ -90,6 +96,19 @@ fn rows(alloc: Global, count: usize) -> Result<Vec<[&'static str; 10]>, TableErr
         rows.push(TEXTS[row % 2])?;
     }
     Ok(rows)
+}
+
+// So many rows of ten texts, one of which is given no columns.
+fn zero_width(alloc: Global, count: usize) -> Result<PoolTable, TableError> {
+    let mut texts = TEXTS[1];
+    texts[1] = "";
+    let mut rows = Vec::new(alloc);
+    for _row in 0..count {
+        rows.push(texts)?;
+    }
+    let mut table = PoolTable::new(alloc, rows)?;
+    table.with(Padding::zero())?;
+    Ok(table)
 }
 
 fn records(alloc: Global, count: usize) -> Result<ExtendedTable, TableError> {
@@ -135,6 +154,8 @@ fn timed(rt: &HostRuntime, kind: &str, count: usize, counter: &mut Counter) -> R
     }
     let table = if kind == "boxes" {
         PoolTable::new(alloc, rows(alloc, count)?)?
+    } else if kind == "zero-width" {
+        zero_width(alloc, count)?
     } else {
         levels(alloc, count, kind == "levels")?
     };
@@ -181,7 +202,7 @@ def run(program, kind, count):
             peak = peak_of(process)
         process.stdin.close()
         if process.wait() != 0 or not line:
-            print(f"{kind:8} {count:>7}  ended with {process.returncode}", flush=True)
+            print(f"{kind:10} {count:>7}  ended with {process.returncode}", flush=True)
             return None
     time, size = map(int, line.split())
     return time, size, peak
@@ -198,7 +219,7 @@ def measure(program, kind, count):
         runs.append(found)
     time, size, peak = min(time for time, _, _ in runs), runs[0][1], max(peak for _, _, peak in runs)
     print(
-        f"{kind:8} {count:>7}  {size:>9} bytes  {time / 1e6:9.2f} ms"
+        f"{kind:10} {count:>7}  {size:>9} bytes  {time / 1e6:9.2f} ms"
         f"  {time / size:8.1f} ns a byte  {peak / 1e6:7.2f} MB",
         flush=True,
     )
@@ -226,6 +247,8 @@ def judge(found):
         share = ratio(a_byte["boxes", count], a_byte["boxes", TABLES["boxes"][0]])
         held.append(holds(f"{count} rows of boxes, ns a byte", a_byte["boxes", count], BOX_TIME))
         held.append(holds(f"{count} rows of boxes, to the fewest rows", share, BOX_SHARE))
+    for count in BOX_COUNTS:
+        held.append(holds(f"{count} rows with a zero-width text, ns a byte", a_byte["zero-width", count], ZERO_WIDTH_TIME))
     most = TABLES["levels"][-1]
     held.append(holds(f"{most} levels, ns a byte", a_byte["levels", most], LEVEL_TIME))
     fewer, more = TABLES["nested"]
@@ -235,8 +258,8 @@ def judge(found):
 
 
 def main():
-    crates = building.standing_on("tabled_pool", "tabled_extended")
-    used = ("tabled_base", "tabled_line", "tabled_pool", "tabled_extended")
+    crates = building.standing_on("tabled_pool", "tabled_extended", "tabled_set")
+    used = ("tabled_base", "tabled_line", "tabled_pool", "tabled_extended", "tabled_set")
     found = {}
     with building.program(__doc__, "box_times", crates, {"src/main.rt": PROGRAM}, used) as program:
         for kind, counts in TABLES.items():
