@@ -29,7 +29,9 @@ one-more g f old xs xs' x n e i h =
     ∙ append_assoc old (map f (range_with_len 0 n)) (g x ∷ [])
     ∙ ap (λ u. old ++ u) (ap (λ b. map f (range_with_len 0 n) ++ (b ∷ [])) h ∙ sym (map-more f n))
 
--- one more of the pieces of a text
-pub run-more : (f : ℕ → List ℕ) (s s' t : List ℕ) (n : ℕ) → s' ≡ s ++ t → s ≡ flat_map f (range_with_len 0 n) → t ≡ f n
-    → s' ≡ flat_map f (range_with_len 0 (n + 1))
-run-more f s s' t n e i h = e ∙ ap (λ u. u ++ t) i ∙ ap (λ u. flat_map f (range_with_len 0 n) ++ u) h ∙ sym (each-more f n)
+-- one more of the pieces of a text, behind others
+pub run-more : (f : ℕ → List ℕ) (old s s' t : List ℕ) (n : ℕ) → s' ≡ s ++ t → s ≡ old ++ flat_map f (range_with_len 0 n) → t ≡ f n
+    → s' ≡ old ++ flat_map f (range_with_len 0 (n + 1))
+run-more f old s s' t n e i h =
+    e ∙ ap (λ u. u ++ t) i ∙ append_assoc old (flat_map f (range_with_len 0 n)) t
+    ∙ ap (λ u. old ++ u) (ap (λ u. flat_map f (range_with_len 0 n) ++ u) h ∙ sym (each-more f n))

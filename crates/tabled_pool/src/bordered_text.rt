@@ -34,37 +34,51 @@ fn add_char(line: &mut String, marks: Marks, there: bool, c: Option<char>) -> Re
     Ok(())
 }
 
-fn add_text(line: &mut String, marks: Marks, text: &str) -> Result<(), AllocError>
-    ensures { IfOk result (λ _. string_bytes line.new
-        ≡ string_bytes line.old ++ within_marks (around_of marks) text.now) }
-{
-    line.push_str(marks.close)?;
-    line.push_str(marks.start)?;
-    line.push_str(text)?;
-    line.push_str(marks.behind)?;
-    Ok(())
+/// The bytes for a border character at each end.
+const SIDES: usize = 8;
+
+/// The bytes to begin a line with: those between its ends, and those for the ends.
+fn with_sides(inside: usize) -> usize {
+    inside.saturating_add(SIDES)
 }
 
 /// A horizontal border of `width` columns, with `split` where vertical ones meet it.
-fn run_text(
-    alloc: Global,
-    sizes: &[usize],
+#[derive(Clone, Copy)]
+struct BorderRun<'s> {
+    sizes: &'s [usize],
     width: usize,
     split: Option<char>,
     main: Option<char>,
-) -> Result<String, AllocError>
-    ensures { IfOk result (λ run. string_bytes run ≡ run_text sizes.now width split main) }
-{
-    let mut run = String::new(alloc);
-    for x in 0..width {
-        let c = if is_split(sizes, width, x) {
-            split
-        } else {
-            main
-        };
-        run.push(c.unwrap_or(' '))?;
+}
+
+impl BorderRun<'_> {
+    fn add_to(&self, line: &mut String) -> Result<(), AllocError>
+        ensures { IfOk result (λ _. string_bytes line.new ≡ string_bytes line.old
+            ++ run_text self.now.sizes.now self.now.width self.now.split self.now.main) }
+    {
+        for x in 0..self.width {
+            let c = if is_split(self.sizes, self.width, x) {
+                self.split
+            } else {
+                self.main
+            };
+            line.push(c.unwrap_or(' '))?;
+        }
+        Ok(())
     }
-    Ok(run)
+}
+
+/// Appends a horizontal border with its marks.
+fn add_run(line: &mut String, marks: Marks, run: &BorderRun<'_>) -> Result<(), AllocError>
+    ensures { IfOk result (λ _. string_bytes line.new ≡ string_bytes line.old
+        ++ within_marks (around_of marks)
+        (run_text run.now.sizes.now run.now.width run.now.split run.now.main)) }
+{
+    line.push_str(marks.close)?;
+    line.push_str(marks.start)?;
+    run.add_to(line)?;
+    line.push_str(marks.behind)?;
+    Ok(())
 }
 
 /// A text and the borders that it draws.
@@ -82,20 +96,22 @@ impl BorderedText<'_, '_, '_> {
         &self,
         colors: LineColors,
         start: Option<char>,
-        run: &str,
+        run: BorderRun<'_>,
         end: Option<char>,
     ) -> Result<String, AllocError>
         ensures { IfOk result (λ line. string_bytes line ≡ outer_line (option_map mark_of colors.corner)
             (option_map mark_of colors.main) (option_map mark_of colors.right)
-            (written (is_left self.now.own) start) run.now (written (is_right self.now.own) end)) }
+            (written (is_left self.now.own) start)
+            (run_text run.entry.sizes.now run.entry.width run.entry.split run.entry.main)
+            (written (is_right self.now.own) end)) }
     {
         let sides = own_sides(&self.own);
         let first = if sides.left { colors.corner } else { None };
         let used = used_after(first, colors.main);
         let last = if sides.right { colors.right } else { None };
-        let mut line = String::new(self.drawing.alloc);
+        let mut line = String::with_capacity(self.drawing.alloc, with_sides(run.width))?;
         add_char(&mut line, begun(None, colors.corner), sides.left, start)?;
-        add_text(&mut line, begun(first, colors.main), run)?;
+        add_run(&mut line, begun(first, colors.main), &run)?;
         add_char(&mut line, begun(used, colors.right), sides.right, end)?;
         line.push_str(ended(used_after(used, last)))?;
         Ok(line)
@@ -107,16 +123,18 @@ impl BorderedText<'_, '_, '_> {
     {
         let drawing = self.drawing;
         let own = &self.own;
-        let split = drawing.borders.bottom_intersection;
-        let width = self.inherited.place.width;
-        let above = self.inherited.above.as_slice();
-        let run = run_text(drawing.alloc, above, width, split, own.top)?;
+        let run = BorderRun {
+            sizes: self.inherited.above.as_slice(),
+            width: self.inherited.place.width,
+            split: drawing.borders.bottom_intersection,
+            main: own.top,
+        };
         let colors = LineColors {
             corner: drawing.colors.top_left,
             main: drawing.colors.top,
             right: drawing.colors.top_right,
         };
-        self.outer_line(colors, own.top_left, run.as_str(), own.top_right)
+        self.outer_line(colors, own.top_left, run, own.top_right)
     }
 
     fn bottom_text(&self) -> Result<String, AllocError>
@@ -125,14 +143,18 @@ impl BorderedText<'_, '_, '_> {
     {
         let drawing = self.drawing;
         let own = &self.own;
-        let width = self.inherited.place.width;
-        let run = run_text(drawing.alloc, &[], width, None, own.bottom)?;
+        let run = BorderRun {
+            sizes: &[],
+            width: self.inherited.place.width,
+            split: None,
+            main: own.bottom,
+        };
         let colors = LineColors {
             corner: drawing.colors.bottom_left,
             main: drawing.colors.bottom,
             right: drawing.colors.bottom_right,
         };
-        self.outer_line(colors, own.bottom_left, run.as_str(), own.bottom_right)
+        self.outer_line(colors, own.bottom_left, run, own.bottom_right)
     }
 
     fn inner_text(&self, y: usize) -> Result<String, AllocError>
@@ -151,7 +173,7 @@ impl BorderedText<'_, '_, '_> {
             own.left
         };
         let colors = &drawing.colors;
-        let mut line = String::new(drawing.alloc);
+        let mut line = String::with_capacity(drawing.alloc, with_sides(place.width))?;
         add_char(&mut line, alone(colors.left), sides.left, first)?;
         draw_block_line(&mut line, drawing, place, self.text, y).map_err(|_| AllocError)?;
         add_char(&mut line, alone(colors.right), sides.right, own.right)?;
@@ -253,12 +275,18 @@ fn most_lines(blocks: &[DrawnBlock]) -> usize
     lines
 }
 
-/// Line `y` of blocks side by side. Below its last line a block is spaces.
-fn joined_line(alloc: Global, blocks: &[DrawnBlock], y: usize) -> Result<String, AllocError>
+/// Line `y` of blocks side by side, which take `width` columns. Below its last line a block is
+/// spaces.
+fn joined_line(
+    alloc: Global,
+    blocks: &[DrawnBlock],
+    y: usize,
+    width: usize,
+) -> Result<String, AllocError>
     ensures { IfOk result (λ line. string_bytes line
         ≡ flat_map (drawn_block_line y) (map block_sheet_of blocks.now)) }
 {
-    let mut line = String::new(alloc);
+    let mut line = String::with_capacity(alloc, width)?;
     for block in blocks {
         if y < block.lines.len() {
             line.push_str(block.lines[y].as_str())?;
@@ -280,7 +308,7 @@ pub fn side_by_side(alloc: Global, blocks: &[DrawnBlock]) -> Result<DrawnBlock, 
     };
     let mut lines = Vec::new(alloc);
     for y in 0..most_lines(blocks) {
-        lines.push(joined_line(alloc, blocks, y)?)?;
+        lines.push(joined_line(alloc, blocks, y, width)?)?;
     }
     Ok(DrawnBlock { width, lines })
 }
