@@ -8,8 +8,8 @@ with `rt run`. It runs anew for each table:
 
 - records: of ten fields, shown line by line;
 - boxes: rows of ten texts, drawn as boxes;
-- zero-width: the same without padding, where one text of each row is given no columns, so that the boxes are
-  drawn one by one and joined;
+- zero-width: rows of ten texts without padding, one of which is given no columns, so that the boxes are drawn
+  one by one and joined;
 - levels: a text in levels of rows and columns that each have one more text;
 - nested: a text in levels of rows and columns that have nothing else.
 
@@ -43,7 +43,7 @@ TABLES = {
 BOX_COUNTS = (3_000, 30_000)
 BOX_TIME = 15
 BOX_SHARE = 1.3
-# The same with a text that is given no columns: three times of that.
+# The same for rows with a text that is given no columns: three times as much.
 ZERO_WIDTH_TIME = 45
 # The most levels: nanoseconds a byte. Ten times as many nested levels: their time to that of the fewer.
 LEVEL_TIME = 60

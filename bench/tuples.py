@@ -8,9 +8,9 @@ temporary folder) beside copies of the crates and built with `rt run`: it makes 
 truth value) with a header, and prints that to standard output. The tuples come from an iterator, or from a vector. Making that vector,
 without a table, is timed by itself, and so is a run that does nothing. The baseline prints what a first run of the program tells of the
 same cells with tabs between them. All run in interleaved rounds, their output to the null device. Printed are the shortest and the
-median of the processor times (user and system) in milliseconds, as shares of the baseline's too, and whether the bar holds, by the
-shortest: the table and its printing take at most the time of the baseline, which is the time with an iterator, and with a vector
-what is left without its making.
+median of the processor times (user and system) in milliseconds, as shares of the baseline's too, and what a table of the vector takes
+without its making. Then whether the bar holds, by the shortest: with an iterator, and with a vector and its making, at most the time of
+the baseline.
 """
 
 import pathlib
@@ -122,7 +122,7 @@ def judge(times):
     for name in least:
         shares = f"{least[name] / least['baseline']:.2f} {middle[name] / middle['baseline']:.2f}"
         print(f"{name:15} {least[name]:7.1f} {middle[name]:7.1f}   {shares}")
-    holds = {name: least[name] <= least["baseline"] for name in ("iterator", "the table of it")}
+    holds = {name: least[name] <= least["baseline"] for name in ("iterator", "vector")}
     for name, kept in holds.items():
         print(f"{name}, at most the time of the baseline: {'yes' if kept else 'NO'}")
     return all(holds.values())
