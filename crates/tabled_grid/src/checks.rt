@@ -184,7 +184,8 @@ pub(crate) fn check_totals<R: ContentRecords, D: Dimension>(
 /// complete and hold all cells. `ShortWidths`, `ShortHeights`: the stored list is too short.
 /// `Narrow`: the first cell that doesn't fit a stored width.
 ///
-/// Not inlined: the stack that the grid takes would be cleared for each table.
+/// Not inlined: the values that inlined code has on the stack, here a whole grid, are cleared on
+/// each call, even for tables that don't need them.
 #[inline(never)]
 pub(crate) fn check_stored<R: ContentRecords>(
     records: &R,

@@ -185,8 +185,9 @@ pub(crate) struct GridRow<'a, R: ContentRecords, D: Dimension> {
 }
 
 impl<'a, R: ContentRecords, D: Dimension> GridRow<'a, R, D> {
-    /// Returns what is known of the placements by the settings of the row. Not inlined, since its
-    /// values would be cleared for each row of tables that don't need it.
+    /// Returns what is known of the placements by the settings of the row. Not inlined: the values
+    /// that inlined code has on the stack are cleared on each call, even for rows that don't need
+    /// them.
     #[inline(never)]
     fn styled_placements(&self) -> KnownPlacements<'_>
         ensures { let row = row_of self.now.grid.now self.now.row in

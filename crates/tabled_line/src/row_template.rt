@@ -316,8 +316,8 @@ impl RowTemplate {
         Some(end)
     }
 
-    /// Fills the buffer as `fill_placed` does. Not inlined, so that the calls for placements that
-    /// most rows have are.
+    /// Fills the buffer as `fill_placed` does, for placements that few rows have. Not inlined, so
+    /// that the calls of `fill_placed` for most rows are.
     #[inline(never)]
     fn fill_apart<'a, R: Row<'a>, A: RowPlacements + Drop>(
         &mut self,
@@ -336,7 +336,8 @@ impl RowTemplate {
     }
 
     /// Fills the buffer with a line of a row, with its texts where the styles of the cells place
-    /// them. Not inlined, since the styles would be cleared for each row.
+    /// them. Not inlined: the values that inlined code has on the stack are cleared on each call,
+    /// even for rows that don't need them.
     #[inline(never)]
     fn fill_styled<'a, R: Row<'a>>(&mut self, row: &R, at: &RowLine<'_, 'a>) -> Option<usize>
         requires known { IsTemplateOf (R.sheet row.now).columns self.old }

@@ -1,6 +1,6 @@
-use Rattle.tabled_size.proofs.Names.{List, MatchOption, SpannedConfig, ap, arith, estimated_heights, framed_height, inl, inr, is_some, length}
-use Rattle.tabled_size.proofs.Names.{one_if, part_height, row_height, rules_at, subst, sum_below, sym, ℕ, ◌+◌, ◌<◌, ◌∙◌, ◌≡◌, ◌≤◌}
-use Rattle.tabled_size.proofs.EstimatedTotals.{as_number, framed-height-total, none-height, part-passes, sum-more, sum-passes}
+use Rattle.tabled_size.proofs.Names.{List, MatchOption, SpannedConfig, ap, arith, estimated_heights, framed_height, inl, inr, length}
+use Rattle.tabled_size.proofs.Names.{part_height, row_height, rules_at, subst, sum_below, sym, ℕ, ◌+◌, ◌<◌, ◌∙◌, ◌≡◌, ◌≤◌}
+use Rattle.tabled_size.proofs.EstimatedTotals.{framed-height-total, none-height, part-passes, sum-more, sum-passes}
 use Rattle.tabled_size.proofs.Passing.{height_at}
 use Rattle.tabled_size.proofs.total.estimated_total_height.Goals as goal
 

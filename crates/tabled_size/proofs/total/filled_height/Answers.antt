@@ -1,5 +1,5 @@
-use Rattle.tabled_size.proofs.Names.{ap, arith, is_some, one_if, part_height, reached, rules_at, ◌∙◌, ◌≡◌}
-use Rattle.tabled_size.proofs.EstimatedTotals.{as_number, sum-more}
+use Rattle.tabled_size.proofs.Names.{arith, part_height, reached, ◌≡◌}
+use Rattle.tabled_size.proofs.EstimatedTotals.{sum-more}
 use Rattle.tabled_size.proofs.Reaching.{reached_size, reached_there}
 use Rattle.tabled_size.proofs.total.filled_height.Goals as goal
 
