@@ -25,9 +25,11 @@ pub mod Plains
 pub mod PoolBlocks
 pub mod PoolLemmas
 pub mod Runs
+pub mod Splits
 pub mod Steps
 pub mod StraightPools
 pub mod Sums
+pub mod TakenSizes
 pub mod Tiles
 pub mod Tiling
 pub mod Totals

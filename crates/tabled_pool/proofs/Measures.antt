@@ -1,7 +1,7 @@
 -- The sizes of the boxes in a tree.
 use Rattle.tabled_pool.proofs.Names.{Across, Box, BoxSpacing, Cell, Column, Direction, Down, IsSize, List, Row, Some, TableValue, [], ap, append_assoc}
 use Rattle.tabled_pool.proofs.Names.{arith, box_of, box_step, fold-roll-TableValue, ind-TableValue, length, list_box, map, map-TableValue}
-use Rattle.tabled_pool.proofs.Names.{refl, roll-TableValue, subst, sym, ℕ, ◌++◌, ◌<◌, ◌∙◌, ◌∷◌, ◌≡◌}
+use Rattle.tabled_pool.proofs.Names.{common_steps, refl, roll-TableValue, subst, sym, ℕ, ◌++◌, ◌<◌, ◌∙◌, ◌∷◌, ◌≡◌}
 use Rattle.std.proofs.Common.{◌≢◌, IfSome}
 use Rattle.std.specs.Prelude.{Err, IfOk, Ok, Result}
 use Rattle.tabled_pool.proofs.Names.{Fits, None, Option, Rectangle, append-nil, box_across, box_along, drop, get_or, length-map, sized, ◌+◌, ◌≤◌}
@@ -146,6 +146,82 @@ values_left front last i v h e =
 pub last_left : (front : List TableValue) (last : TableValue) (i : ℕ) → length front ≤ i → drop i front ++ (last ∷ []) ≡ last ∷ []
 last_left front last i h = ap (λ ts. ts ++ (last ∷ [])) (drop_all i front h)
 
+-- ---- the sizes of boxes that are still to be drawn
+
+-- those in `left` and the last one, which has those in `front` before it; a list of one box is that
+-- box
+abbrev pub sizes_to_draw : BoxSpacing → (front left : List TableValue) → TableValue → List Size
+sizes_to_draw g [] left last = sizes_within g last
+sizes_to_draw g (v ∷ vs) left last = sizes_of_all g (left ++ (last ∷ []))
+
+pub to_draw_first : (g : BoxSpacing) (front : List TableValue) (last : TableValue)
+    → sizes_in (map (measured g) (front ++ (last ∷ []))) ≡ sizes_to_draw g front front last
+to_draw_first g [] last = refl
+to_draw_first g (v ∷ []) last = refl
+to_draw_first g (v ∷ (w ∷ vs)) last = refl
+
+pub to_draw_some : (g : BoxSpacing) (front left : List TableValue) (last : TableValue) → 0 < length front
+    → sizes_to_draw g front left last ≡ sizes_of_all g (left ++ (last ∷ []))
+to_draw_some g [] left last h = absurd (omega arith)
+to_draw_some g (v ∷ vs) left last h = refl
+
+-- the size of the next box, which isn't the last one, is taken, and then those of the boxes in it
+pub record NextToDraw (g : BoxSpacing) (v : TableValue) (front left : List TableValue) (last : TableValue) (all whole items : List Size)
+    (s : Size) : Type 0 where
+  pub size : IsSize (Some s) (box_of g v)
+  pub ends : EndsWith items (sizes_within g v)
+  pub next : (later : List Size) → items ≡ later ++ sizes_within g v → AreUnplaced all whole later (sizes_to_draw g front left last)
+
+pub next_to_draw : (g : BoxSpacing) (front : List TableValue) (last : TableValue) (i : ℕ) (v : TableValue)
+    (all whole items items' : List Size) (s : Size) → i < length front → v ≡ get_or front i v
+    → AreUnplaced all whole items (sizes_to_draw g front (drop i front) last) → items ≡ items' ++ (s ∷ [])
+    → NextToDraw g v front (drop (i + 1) front) last all whole items' s
+next_to_draw g front last i v all whole items items' s h is u e =
+    let some : 0 < length front = omega (arith, h) in
+    let n = next_size g v _ _ all whole items items' s (values_left front last i v h is)
+    (subst (AreUnplaced all whole items) (to_draw_some g front (drop i front) last some) u) e in
+    record {
+      size = n.size;
+      ends = n.ends;
+      next = λ later k. subst (AreUnplaced all whole later) (sym (to_draw_some g front (drop (i + 1) front) last some)) (n.next later k);
+    }
+
+-- the size of the last box is taken, and then those of the boxes in it
+pub record LastSize (g : BoxSpacing) (v : TableValue) (all whole items : List Size) (s : Size) : Type 0 where
+  pub size : IsSize (Some s) (box_of g v)
+  pub ends : EndsWith items (sizes_within g v)
+  pub next : (later : List Size) → items ≡ later ++ sizes_within g v → all ≡ later ++ whole
+
+pub last_size : (d : Direction) (g : BoxSpacing) (front : List TableValue) (last : TableValue) (i : ℕ) (all whole items items' : List Size)
+    (own s : Size) → length front ≤ i → IsSize (Some own) (list_box d g (map (box_of g) (front ++ (last ∷ []))))
+    → AreUnplaced all whole items (sizes_to_draw g front (drop i front) last)
+    → (length front ≡ 0 → (s ≡ own) × (items' ≡ items)) → (0 < length front → items ≡ items' ++ (s ∷ []))
+    → LastSize g last all whole items' s
+last_size d g [] last i all whole items items' own s z o u only other =
+    let e = only refl in
+    record {
+      size = subst (λ x. IsSize (Some x) (box_of g last)) (sym e.0) o;
+      ends = record { before = u.before; same = e.1 ∙ u.now };
+      next = λ later h. u.first ∙ ap (λ b. b ++ whole)
+          (append_cancel_right u.before later (sizes_within g last) (sym u.now ∙ sym e.1 ∙ h));
+    }
+last_size d g (v ∷ vs) last i all whole items items' own s z o u only other =
+    let n = next_size g last [] _ all whole items items' s (last_left (v ∷ vs) last i z) u (other (omega arith)) in
+    record {
+      size = n.size;
+      ends = n.ends;
+      next = λ later h. placed_all all whole later (n.next later h);
+    }
+
+-- there is a size for it
+pub some_size : (g : BoxSpacing) (front : List TableValue) (last : TableValue) (i : ℕ) (all whole items : List Size) → length front ≤ i
+    → AreUnplaced all whole items (sizes_to_draw g front (drop i front) last) → 0 < length front → 0 < length items
+some_size g front last i all whole items z u h =
+    let e : sizes_to_draw g front (drop i front) last ≡ sizes_within g last ++ (size_of (measured g last).box ∷ []) =
+    to_draw_some g front (drop i front) last h ∙ ap (sizes_of_all g) (last_left front last i z) in
+    let n = ap length (u.now ∙ ap (λ ss. u.before ++ ss) e) in
+    grind (arith, common_steps, n)
+
 -- ---- the sizes of a box, and the box
 
 pub sized_along : (d : Direction) (b : Box) (s : Size) → IsSize (Some s) b → box_along d (sized s) ≡ box_along d b
@@ -181,3 +257,7 @@ taken_all (Err e) all whole items later inside f h = tt
 pub none_taken : {T E : Type 0} (r : Result T E) (items ss : List Size) → ss ≡ [] → IfOk r (λ _. items ≡ items ++ ss)
 none_taken (Ok x) items ss e = sym (append-nil items) ∙ ap (λ u. items ++ u) (sym e)
 none_taken (Err x) items ss e = tt
+
+pub in_any_case : {T E P : Type 0} (r : Result T E) → P → IfOk r (λ _. P)
+in_any_case (Ok x) h = h
+in_any_case (Err e) h = tt

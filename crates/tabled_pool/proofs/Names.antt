@@ -42,7 +42,7 @@ pub use Rattle.tabled_pool.specs.Colours.{AreNoMarks}
 pub use Rattle.tabled_pool.specs.Drawn.{IsAt, owned_text, part_text, Tiled}
 unfoldable pub use Rattle.tabled_pool.specs.Drawn.{border_char, border_text, drawn, drawn_line, place_text}
 pub use Rattle.tabled_pool.specs.Inherited.{BlockSheet, block_sheet_of, drawn_block_line, widened, InheritedSheet, drawer, has_zero_width}
-pub use Rattle.tabled_pool.specs.Inherited.{inheriting_box, inner_text, run_char}
+pub use Rattle.tabled_pool.specs.Inherited.{inheriting_box, inner_text, run_char, run_text}
 pub use Rattle.tabled_pool.specs.Tree.{left_in, nodes, nodes_in, EachText, Tree, leaf, tree_of, trees}
 pub use Rattle.tabled_pool.specs.Pool.{margin_line, with_margin, within_margin, HasColumns, borders_of, frame_of, frame_place}
 pub use Rattle.tabled_pool.specs.Pool.{framed_height, framed_width, margin_marks, margin_of, marks_for, spacing_of}
@@ -55,7 +55,7 @@ pub use Rattle.tabled_pool.specs.declared.color_marks.RunSide.{RunSide}
 pub use Rattle.tabled_pool.specs.declared.color_marks.RunSide.TheVariants.{Before, Behind, Outside}
 pub use Rattle.tabled_pool.specs.declared.places.Kind.{Kind}
 pub use Rattle.tabled_pool.specs.declared.places.Kind.TheVariants.{Bar, Leaf, Rule}
-pub use Rattle.tabled_pool.specs.declared.places.Piece.{Piece}
+pub use Rattle.tabled_pool.specs.declared.piece.Piece.{Piece}
 pub use Rattle.tabled_pool.specs.declared.places.Rectangle.{Rectangle}
 pub use Rattle.tabled_pool.specs.declared.pool_table.PoolTable.{PoolTable}
 pub use Rattle.tabled_pool.specs.declared.sizes.BoxSpacing.{BoxSpacing}

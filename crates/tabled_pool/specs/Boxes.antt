@@ -15,7 +15,7 @@ use Rattle.tabled_pool.specs.declared.places.Kind.TheVariants.{Leaf, Bar, Rule}
 use Rattle.tabled_pool.specs.declared.tree.TableValue.{TableValue}
 use Rattle.tabled_pool.specs.declared.tree.TableValue.TheOpen.{TableValue-F, Row, Column, Cell}
 use Rattle.tabled_pool.specs.declared.tree.TableValue.TheFolds.{fold-TableValue}
-use Rattle.tabled_pool.specs.declared.places.Piece.{Piece}
+use Rattle.tabled_pool.specs.declared.piece.Piece.{Piece}
 use Rattle.tabled_pool.specs.declared.places.BoxesLeft.{BoxesLeft}
 use Rattle.tabled_config.specs.declared.sides.Sides.{Sides}
 

@@ -2,7 +2,7 @@
 -- at the edges of the table also those below it and to its right, and drawn boxes are joined. Boxes
 -- pass on where borders meet: their widths to the boxes below, their heights to the boxes at the
 -- right.
-use Rattle.std.specs.Prelude.{ℕ, ◌+◌, ◌-◌, max, List, [], ◌∷◌, ◌++◌, length, map, string_bytes, ltb, ◌==◌, if◌then◌else◌, Bool, true, false}
+use Rattle.std.specs.Prelude.{ℕ, ◌+◌, ◌-◌, max, List, [], ◌∷◌, ◌++◌, drop, length, map, string_bytes, ltb, ◌==◌, if◌then◌else◌, Bool, true, false}
 use Rattle.std.specs.Prelude.{not, ◌&&◌, ◌||◌, Option, Some, None, is_some, unwrap_or, encode_utf8}
 use Rattle.std.specs.List.{flat_map, range_with_len, slice_index_or}
 use Rattle.tabled_line.specs.Fill.{fill}
@@ -25,7 +25,7 @@ use Rattle.tabled_pool.specs.Block.{leaf_line}
 use Rattle.tabled_pool.specs.Plan.{DrawingPlan, plan_of}
 use Rattle.tabled_pool.specs.declared.inheriting_box.InheritingBox.{InheritingBox}
 use Rattle.tabled_pool.specs.declared.bordered_text.BorderedText.{BorderedText}
-use Rattle.tabled_pool.specs.declared.inheriting_box.TakenSizes.{TakenSizes}
+use Rattle.tabled_pool.specs.declared.inherited_sizes.InheritedSizes.{InheritedSizes}
 
 pub record BlockSheet : Type 0 where
   pub width : ℕ
@@ -330,15 +330,25 @@ abbrev pub has_zero_width : List Part → Bool
 has_zero_width [] = false
 has_zero_width (p ∷ ps) = is_zero_width p || has_zero_width ps
 
-abbrev pub taken_of : TakenSizes → Taken
-taken_of t = record { part = t.part.items; rest = t.rest.items; met = t.met }
+-- the sizes of a list that aren't taken
+abbrev pub sizes_left : InheritedSizes → List ℕ
+sizes_left s = drop s.start s.sizes.items
 
 -- what a box inherits; once it is drawn, `above` and `before` are what it passes on
 abbrev pub inheriting_box : InheritingBox → InheritedSheet
-inheriting_box b = record { place = b.place; flags = b.flags; above = b.above.items; before = b.before.items }
+inheriting_box b = record {
+  place = b.place;
+  flags = b.flags;
+  above = sizes_left b.above;
+  before = sizes_left b.before;
+}
 
 abbrev pub passed_on : InheritingBox → PassedOn
-passed_on b = record { block = block_sheet_of b.block; above = b.above.items; before = b.before.items }
+passed_on b = record {
+  block = block_sheet_of b.block;
+  above = sizes_left b.above;
+  before = sizes_left b.before;
+}
 
 abbrev pub plan_for : BorderedText → DrawingPlan
 plan_for b = plan_of b.drawing.now

@@ -1,7 +1,7 @@
 -- Pieces by their numbers in the list of a drawing.
 use Rattle.std.specs.Prelude.{◌≡◌, ℕ, ◌<◌, ◌≤◌, ◌+◌, false, true, List, map, drop, slice_get, length, Option, Some, None}
 use Rattle.tabled_pool.specs.declared.color_marks.First.{First}
-use Rattle.tabled_pool.specs.declared.places.Piece.{Piece}
+use Rattle.tabled_pool.specs.declared.piece.Piece.{Piece}
 use Rattle.tabled_pool.specs.Around.{around_at, around_part}
 use Rattle.tabled_pool.specs.Boxes.{Part, is_line_kind, contains, owner, shown}
 use Rattle.tabled_pool.specs.Plan.{DrawingPlan, around_of}

@@ -3,6 +3,7 @@ ghost use Rattle.std.specs.List.{range_with_len};
 ghost use Rattle.std.specs.Prelude.{IfOk, MatchOption, None, [], flat_map, if◌then◌else◌, map};
 ghost use Rattle.std.specs.Prelude.{option_map, string_bytes, unwrap_or, ◌++◌, ◌+◌, ◌<◌, ◌^◌, ◌∷◌};
 ghost use Rattle.std.specs.Prelude.{◌≡◌, ◌≤◌};
+ghost use Rattle.tabled_base.specs.Content.{content_text};
 ghost use Rattle.tabled_line.specs.Fill.{fill};
 ghost use Rattle.tabled_pool.specs.Colours.{mark_of, within_marks};
 ghost use Rattle.tabled_pool.specs.Inherited.{all_columns, block_sheet_of, bordered_block};
@@ -15,11 +16,13 @@ ghost use Rattle.tabled_pool.specs.Plan.{around_of, plan_of};
 
 use crate::color_marks::{LineColors, Marks, alone, begun, ended, used_after};
 use crate::draw::{draw_block_line, draw_marked};
-use crate::inheriting_box::{InheritingBox, is_split};
+use crate::inherited_sizes::is_split;
+use crate::inheriting_box::InheritingBox;
 use crate::places::Drawing;
 use crate::pool_table::one_if;
 use crate::tree_walk::{own_borders, own_sides};
 use std::alloc::{AllocError, Global};
+use tabled_base::Content;
 use tabled_config::Borders;
 use tabled_line::write_fill;
 
@@ -52,19 +55,25 @@ struct BorderRun<'s> {
 }
 
 impl BorderRun<'_> {
+    /// Appends the run: as many copies of `main` as each size, and `split` after each but the last.
     fn add_to(&self, line: &mut String) -> Result<(), AllocError>
         ensures { IfOk result (λ _. string_bytes line.new ≡ string_bytes line.old
             ++ run_text self.now.sizes.now self.now.width self.now.split self.now.main) }
     {
-        for x in 0..self.width {
-            let c = if is_split(self.sizes, self.width, x) {
-                self.split
-            } else {
-                self.main
-            };
-            line.push(c.unwrap_or(' '))?;
+        let main = self.main.unwrap_or(' ');
+        let split = self.split.unwrap_or(' ');
+        let mut left = self.width;
+        let mut rest = self.width;
+        for entry in self.sizes {
+            if *entry >= left || *entry >= rest {
+                break;
+            }
+            write_fill(line, main, *entry).map_err(|_| AllocError)?;
+            line.push(split)?;
+            left -= *entry;
+            rest = rest - *entry - 1;
         }
-        Ok(())
+        write_fill(line, main, rest).map_err(|_| AllocError)
     }
 }
 
@@ -87,7 +96,7 @@ pub struct BorderedText<'r, 'd, 'a> {
     drawing: &'r Drawing<'d, 'a>,
     own: Borders<char>,
     inherited: &'r InheritingBox,
-    text: &'r str,
+    content: &'r Content<'r>,
 }
 
 impl BorderedText<'_, '_, '_> {
@@ -161,7 +170,7 @@ impl BorderedText<'_, '_, '_> {
         requires { y < self.now.inherited.now.place.height }
         ensures { IfOk result (λ line. string_bytes line
             ≡ inner_text (plan_for self.now) self.now.own (inherited_by self.now)
-            self.now.text.now y) }
+            (content_text self.now.content.now) y) }
     {
         let drawing = self.drawing;
         let own = &self.own;
@@ -175,7 +184,7 @@ impl BorderedText<'_, '_, '_> {
         let colors = &drawing.colors;
         let mut line = String::with_capacity(drawing.alloc, with_sides(place.width))?;
         add_char(&mut line, alone(colors.left), sides.left, first)?;
-        draw_block_line(&mut line, drawing, place, self.text, y).map_err(|_| AllocError)?;
+        draw_block_line(&mut line, drawing, place, self.content, y).map_err(|_| AllocError)?;
         add_char(&mut line, alone(colors.right), sides.right, own.right)?;
         Ok(line)
     }
@@ -183,7 +192,7 @@ impl BorderedText<'_, '_, '_> {
     fn push_inner_texts(&self, lines: &mut Vec<String>) -> Result<(), AllocError>
         ensures { IfOk result (λ _. map string_bytes lines.new.items
             ≡ map string_bytes lines.old.items ++ map (inner_text (plan_for self.now) self.now.own
-            (inherited_by self.now) self.now.text.now)
+            (inherited_by self.now) (content_text self.now.content.now))
             (range_with_len 0 self.now.inherited.now.place.height)) }
     {
         for y in 0..self.inherited.place.height {
@@ -196,7 +205,7 @@ impl BorderedText<'_, '_, '_> {
     fn block(&self) -> Result<DrawnBlock, AllocError>
         ensures { IfOk result (λ block. block_sheet_of block
             ≡ bordered_block (plan_for self.now) self.now.own (inherited_by self.now)
-            self.now.text.now) }
+            (content_text self.now.content.now)) }
     {
         let sides = own_sides(&self.own);
         let mut lines = Vec::new(self.drawing.alloc);
@@ -218,10 +227,11 @@ impl BorderedText<'_, '_, '_> {
 pub fn text_block(
     drawing: &Drawing<'_, '_>,
     inherited: &InheritingBox,
-    text: &str,
+    content: &Content<'_>,
 ) -> Result<DrawnBlock, AllocError>
     ensures { IfOk result (λ block. block_sheet_of block
-        ≡ text_block (plan_of drawing.now) (inheriting_box inherited.now) text.now) }
+        ≡ text_block (plan_of drawing.now) (inheriting_box inherited.now)
+        (content_text content.now)) }
 {
     if inherited.place.width == 0 {
         let mut lines = Vec::new(drawing.alloc);
@@ -232,7 +242,7 @@ pub fn text_block(
         drawing,
         own: own_borders(&drawing.borders, inherited.flags),
         inherited,
-        text,
+        content,
     };
     text.block()
 }
@@ -314,19 +324,16 @@ pub fn side_by_side(alloc: Global, blocks: &[DrawnBlock]) -> Result<DrawnBlock, 
 }
 
 /// Appends the lines of a block, filled with spaces to `width` columns.
-fn push_widened(
-    alloc: Global,
-    lines: &mut Vec<String>,
-    block: &DrawnBlock,
-    width: usize,
-) -> Result<(), AllocError>
+fn push_widened(lines: &mut Vec<String>, block: DrawnBlock, width: usize) -> Result<(), AllocError>
     ensures { IfOk result (λ _. map string_bytes lines.new.items
-        ≡ map string_bytes lines.old.items ++ widened width (block_sheet_of block.now)) }
+        ≡ map string_bytes lines.old.items ++ widened width (block_sheet_of block)) }
 {
-    let spaces = width.saturating_sub(block.width);
-    let texts = block.lines.as_slice();
-    for text in texts {
-        let mut line = String::from_str(alloc, text.as_str())?;
+    let DrawnBlock {
+        width: own,
+        lines: texts,
+    } = block;
+    let spaces = width.saturating_sub(own);
+    for mut line in texts {
         write_fill(&mut line, ' ', spaces).map_err(|_| AllocError)?;
         lines.push(line)?;
     }
@@ -334,14 +341,14 @@ fn push_widened(
 }
 
 /// Joins blocks below each other, filled with spaces to the greatest width.
-pub fn stacked(alloc: Global, blocks: &[DrawnBlock]) -> Result<DrawnBlock, AllocError>
+pub fn stacked(alloc: Global, blocks: Vec<DrawnBlock>) -> Result<DrawnBlock, AllocError>
     ensures { IfOk result (λ joined. block_sheet_of joined
-        ≡ stacked (map block_sheet_of blocks.now)) }
+        ≡ stacked (map block_sheet_of blocks.items)) }
 {
-    let width = most_columns(blocks);
+    let width = most_columns(blocks.as_slice());
     let mut lines = Vec::new(alloc);
     for block in blocks {
-        push_widened(alloc, &mut lines, block, width)?;
+        push_widened(&mut lines, block, width)?;
     }
     Ok(DrawnBlock { width, lines })
 }

@@ -12,7 +12,8 @@ ghost use Rattle.tabled_pool.specs.Plan.{around_of, plan_of};
 
 use crate::junction::{ends_at, has_bottom, has_top};
 use crate::line_runs::Line;
-use crate::places::{Drawing, Piece, Rectangle, is_line_kind};
+use crate::piece::Piece;
+use crate::places::{Drawing, Rectangle, is_line_kind};
 use crate::sweep::number_at;
 use tabled_base::TableError;
 use tabled_config::ANSIStr;

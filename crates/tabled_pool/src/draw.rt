@@ -15,7 +15,7 @@ ghost use Rattle.tabled_text.specs.Measure.{line_columns};
 
 use crate::color_marks::{Marks, draw_colored_fill, marks_at};
 use crate::line_runs::{Line, Run};
-use crate::places::{Drawing, Kind, Piece, Rectangle};
+use crate::places::{Drawing, Kind, Rectangle};
 use tabled_base::{Content, TableError};
 use tabled_config::{ANSIStr, CellStyle, Indent, Sides};
 use tabled_line::{CellBlock, TextSink, write_char, write_fill};
@@ -57,19 +57,19 @@ pub fn draw_block_line<S: TextSink>(
     sink: &mut S,
     drawing: &Drawing<'_, '_>,
     place: Rectangle,
-    text: &str,
+    content: &Content<'_>,
     index: usize,
 ) -> Result<(), TableError>
     requires { index < place.height }
-    ensures { Writes (S.sent sink.old) result (S.sent sink.new)
-        (leaf_line (plan_of drawing.now) (part_of Leaf place text.now) index) }
+    ensures { Writes (S.sent sink.old) result (S.sent sink.new) (leaf_line (plan_of drawing.now)
+        (part_of Leaf place (content_text content.now)) index) }
 {
     let colors = &drawing.padding_colors;
     let cell = CellBlock {
         style: drawing.style,
         width: place.width,
         height: place.height,
-        content: Content::new(text),
+        content: *content,
     };
     let above = cell.lines_above();
     if index < above {
@@ -139,11 +139,12 @@ fn draw_run<S: TextSink>(
         (flat_map (place_text (plan_of line.now.drawing.now) line.now.y)
         (range_with_len x run.now.count)) }
 {
-    let Piece { place, text, .. } = *run.piece;
+    let place = run.piece.place;
     match run.piece.kind {
         Kind::Bar | Kind::Rule => draw_border(sink, line, run, x),
         Kind::Leaf if place.x == x => {
-            draw_block_line(sink, line.drawing, place, text, line.y - place.y)
+            let content = run.piece.content();
+            draw_block_line(sink, line.drawing, place, &content, line.y - place.y)
         }
         Kind::Leaf => Ok(()),
     }

@@ -1,92 +1,22 @@
 //! What boxes inherit and pass on. No function of a box is inlined, so that the recursive walk has
 //! a small stack frame.
-ghost use Rattle.std.specs.Prelude.{IfOk, [], if◌then◌else◌, map, ◌++◌, ◌-◌, ◌==◌, ◌∷◌, ◌≡◌};
-ghost use Rattle.tabled_pool.specs.Boxes.{CanSplit, Fits, box_along, box_of, given_in, pick};
-ghost use Rattle.tabled_pool.specs.Inherited.{block_sheet_of, inheriting_box, is_split, joined};
-ghost use Rattle.tabled_pool.specs.Inherited.{passed_on, passes_across, passes_along, taken};
-ghost use Rattle.tabled_pool.specs.Inherited.{taken_of, text_passes, to_first, to_last, to_later};
+ghost use Rattle.std.specs.Prelude.{IfOk, [], map, ◌++◌, ◌∷◌, ◌≡◌};
+ghost use Rattle.tabled_base.specs.Content.{content_text};
+ghost use Rattle.tabled_pool.specs.Boxes.{CanSplit, Fits, box_along, given_in, pick, sized};
+ghost use Rattle.tabled_pool.specs.Inherited.{block_sheet_of, inheriting_box, joined, passed_on};
+ghost use Rattle.tabled_pool.specs.Inherited.{passes_across, passes_along, sizes_left};
+ghost use Rattle.tabled_pool.specs.Inherited.{text_passes, to_first, to_last, to_later};
 ghost use Rattle.tabled_pool.specs.Inherited.{whole_flags, with_passed};
 ghost use Rattle.tabled_pool.specs.Plan.{plan_of};
 
 use crate::bordered_text::{DrawnBlock, side_by_side, stacked, text_block};
-use crate::places::{BoxesLeft, Drawing, Rectangle, split_child};
-use crate::sizes::{BoxSpacing, Direction};
-use crate::tree::TableValue;
+use crate::inherited_sizes::InheritedSizes;
+use crate::places::{BoxesLeft, Drawing, Rectangle, split};
+use crate::sizes::{BoxSpacing, Direction, Size};
 use crate::tree_walk::Flags;
 use std::alloc::{AllocError, Global};
 use std::mem;
-
-/// A list of sizes, split in two, and whether the first part ends where a size does.
-#[derive(Drop)]
-pub struct TakenSizes {
-    pub part: Vec<usize>,
-    pub rest: Vec<usize>,
-    pub met: bool,
-}
-
-/// Ends a split in or after a size: `beyond` of it is left, and `behind` are the sizes after it.
-fn ended(
-    alloc: Global,
-    part: Vec<usize>,
-    beyond: usize,
-    behind: &[usize],
-) -> Result<TakenSizes, AllocError>
-    ensures { IfOk result (λ t. taken_of t ≡ record {
-      part = part.items;
-      rest = (if beyond == 0 then behind.now else (beyond - 1) ∷ behind.now);
-      met = (beyond == 0);
-    }) }
-{
-    let mut rest = Vec::new(alloc);
-    let met = beyond == 0;
-    if !met {
-        rest.push(beyond - 1)?;
-    }
-    rest.extend_from_slice(behind)?;
-    Ok(TakenSizes { part, rest, met })
-}
-
-/// Splits a list of sizes, each followed by a border of one column or line, at `size`. A size that
-/// reaches beyond loses what is before that, and one for the border there.
-pub fn taken(alloc: Global, size: usize, sizes: &[usize]) -> Result<TakenSizes, AllocError>
-    ensures { IfOk result (λ t. taken_of t ≡ taken size sizes.now) }
-{
-    let mut part = Vec::new(alloc);
-    let mut left = size;
-    for index in 0..sizes.len() {
-        let entry = sizes[index];
-        if entry >= left {
-            return ended(alloc, part, entry - left, &sizes[index + 1..]);
-        }
-        part.push(entry)?;
-        left = left - entry - 1;
-    }
-    Ok(TakenSizes {
-        part,
-        rest: Vec::new(alloc),
-        met: false,
-    })
-}
-
-/// Whether a border is at `place`: after the first of the sizes, the first two, and so on, while
-/// these add up to less than `size`.
-pub fn is_split(sizes: &[usize], size: usize, place: usize) -> bool
-    ensures { result ≡ is_split sizes.now size place }
-{
-    let mut left = size;
-    let mut at = place;
-    for entry in sizes {
-        if *entry >= left || at < *entry {
-            return false;
-        }
-        if at == *entry {
-            return true;
-        }
-        left -= *entry;
-        at = at - *entry - 1;
-    }
-    false
-}
+use tabled_base::Content;
 
 /// A box: what it inherits, and once it is drawn, what it passes on.
 #[derive(Drop)]
@@ -94,9 +24,9 @@ pub struct InheritingBox {
     pub place: Rectangle,
     pub flags: Flags,
     /// The widths of the boxes above it; once it is drawn, its own for the boxes below it.
-    pub above: Vec<usize>,
+    pub above: InheritedSizes,
     /// The heights of the boxes to its left; once it is drawn, its own for the boxes to its right.
-    pub before: Vec<usize>,
+    pub before: InheritedSizes,
     /// Its drawn lines.
     pub block: DrawnBlock,
 }
@@ -104,6 +34,8 @@ pub struct InheritingBox {
 /// Boxes of a row or a column: the drawn ones, and the one that is drawn next.
 #[derive(Drop)]
 pub struct DrawnBoxes {
+    /// The size that all of them need together.
+    pub own: Size,
     pub blocks: Vec<DrawnBlock>,
     /// The sizes that the drawn ones pass on together: widths in a row, heights in a column.
     pub sizes: Vec<usize>,
@@ -128,8 +60,8 @@ impl InheritingBox {
                 side: false,
                 cross: false,
             },
-            above: Vec::new(alloc),
-            before: Vec::new(alloc),
+            above: InheritedSizes::new(alloc),
+            before: InheritedSizes::new(alloc),
             block: DrawnBlock {
                 width: 0,
                 lines: Vec::new(alloc),
@@ -139,21 +71,23 @@ impl InheritingBox {
 
     /// Draws a text, which passes on its own width and height.
     #[inline(never)]
-    pub fn draw_text(&mut self, drawing: &Drawing<'_, '_>, text: &str) -> Result<(), AllocError>
-        ensures { IfOk result (λ _. passed_on self.new
-            ≡ text_passes (plan_of drawing.now) text.now (inheriting_box self.old)) }
+    pub fn draw_text(
+        &mut self,
+        drawing: &Drawing<'_, '_>,
+        content: &Content<'_>,
+    ) -> Result<(), AllocError>
+        ensures { IfOk result (λ _. passed_on self.new ≡ text_passes (plan_of drawing.now)
+            (content_text content.now) (inheriting_box self.old)) }
     {
-        self.block = text_block(drawing, self, text)?;
-        self.above.clear();
-        self.above.push(self.place.width)?;
-        self.before.clear();
-        self.before.push(self.place.height)?;
-        Ok(())
+        self.block = text_block(drawing, self, content)?;
+        self.above.set(self.place.width)?;
+        self.before.set(self.place.height)
     }
 
     /// The sizes that it inherits or passes on in a direction.
     fn along(&self, direction: Direction) -> &[usize]
-        ensures { result.now ≡ pick direction self.now.above.items self.now.before.items }
+        ensures { result.now ≡ pick direction (sizes_left self.now.above)
+            (sizes_left self.now.before) }
     {
         match direction {
             Direction::Across => self.above.as_slice(),
@@ -161,51 +95,45 @@ impl InheritingBox {
         }
     }
 
-    /// Passes to the first of the boxes that are left its part of what they inherit. Returns the
-    /// size that it needs.
+    /// Passes to the first of the boxes that are left, which needs `own`, its part of what they
+    /// inherit. Returns what it needs in the direction.
     #[inline(never)]
     pub fn pass_to(
         &mut self,
         direction: Direction,
         first: &mut InheritingBox,
-        child: &TableValue,
+        own: Size,
         spacing: &BoxSpacing,
         left: BoxesLeft,
     ) -> Result<usize, AllocError>
-        requires { CanSplit direction spacing.now (box_of spacing.now child.now) left
-            self.old.place }
-        ensures own { IfOk result (λ own. own
-            ≡ box_along direction (box_of spacing.now child.now)) }
+        requires { CanSplit direction spacing.now (sized own) left self.old.place }
+        ensures own { IfOk result (λ size. size ≡ box_along direction (sized own)) }
         ensures first { IfOk result (λ _. inheriting_box first.new ≡ to_first direction
-            (given_in direction spacing.now (box_of spacing.now child.now) left self.old.place)
+            (given_in direction spacing.now (sized own) left self.old.place)
             (inheriting_box self.old)) }
         ensures others { IfOk result (λ _. inheriting_box self.new ≡ to_later direction spacing.now
-            (given_in direction spacing.now (box_of spacing.now child.now) left self.old.place)
+            (given_in direction spacing.now (sized own) left self.old.place)
             (inheriting_box self.old)
-            (pick direction self.new.before.items self.new.above.items)) }
-        ensures fits { IfOk result (λ _. Fits (box_of spacing.now child.now) first.new.place) }
+            (pick direction (sizes_left self.new.before) (sizes_left self.new.above))) }
+        ensures fits { IfOk result (λ _. Fits (sized own) first.new.place) }
     {
-        let cut = split_child(direction, child, spacing, left, self.place);
+        let cut = split(direction, own, spacing, left, self.place);
         let Rectangle { width, height, .. } = cut.given.place;
         let given = direction.pick(width, height);
-        let alloc = *self.above.allocator();
-        let TakenSizes { part, rest, met } = taken(alloc, given, self.along(direction))?;
+        let met = match direction {
+            Direction::Across => {
+                mem::swap(&mut first.before, &mut self.before);
+                self.above.take(given, &mut first.above)?
+            }
+            Direction::Down => {
+                mem::swap(&mut first.above, &mut self.above);
+                self.before.take(given, &mut first.before)?
+            }
+        };
         first.place = cut.given.place;
         first.flags = self.flags.first(direction, false);
         self.place = cut.rest;
         self.flags = self.flags.later(direction, met);
-        match direction {
-            Direction::Across => {
-                first.above = part;
-                mem::swap(&mut first.before, &mut self.before);
-                self.above = rest;
-            }
-            Direction::Down => {
-                first.before = part;
-                mem::swap(&mut first.above, &mut self.above);
-                self.before = rest;
-            }
-        }
         Ok(cut.own)
     }
 
@@ -220,32 +148,33 @@ impl InheritingBox {
             ≡ to_last direction (inheriting_box self.old)) }
     {
         let size = direction.pick(self.place.width, self.place.height);
-        let sizes = taken(*self.above.allocator(), size, self.along(direction))?;
-        last.place = self.place;
-        last.flags = self.flags.first(direction, true);
         match direction {
             Direction::Across => {
-                last.above = sizes.part;
                 mem::swap(&mut last.before, &mut self.before);
+                self.above.take(size, &mut last.above)?;
             }
             Direction::Down => {
-                last.before = sizes.part;
                 mem::swap(&mut last.above, &mut self.above);
+                self.before.take(size, &mut last.before)?;
             }
         }
+        last.place = self.place;
+        last.flags = self.flags.first(direction, true);
         Ok(())
     }
 }
 
 impl DrawnBoxes {
-    /// No drawn boxes yet. They are on the heap, so that the recursive walk has a small stack
-    /// frame.
+    /// No drawn boxes yet, of boxes that need `own`. They are on the heap, so that the recursive
+    /// walk has a small stack frame.
     #[inline(never)]
-    pub fn boxed(alloc: Global, place: Rectangle) -> Result<Box<DrawnBoxes>, AllocError>
+    pub fn boxed(alloc: Global, own: Size, place: Rectangle) -> Result<Box<DrawnBoxes>, AllocError>
+        ensures own { IfOk result (λ drawn. drawn.value.own ≡ own) }
         ensures blocks { IfOk result (λ drawn. drawn.value.blocks.items ≡ []) }
         ensures sizes { IfOk result (λ drawn. drawn.value.sizes.items ≡ []) }
     {
         let drawn = DrawnBoxes {
+            own,
             blocks: Vec::new(alloc),
             sizes: Vec::new(alloc),
             next: InheritingBox::new(alloc, place),
@@ -285,18 +214,19 @@ impl DrawnBoxes {
         ensures { IfOk result (λ _. passed_on all.new ≡ joined direction (record {
           blocks = map block_sheet_of self.old.blocks.items;
           sizes = self.old.sizes.items;
-          passed = pick direction all.old.before.items all.old.above.items;
+          passed = pick direction (sizes_left all.old.before) (sizes_left all.old.above);
         })) }
     {
         let alloc = *self.sizes.allocator();
+        let blocks = mem::replace(&mut self.blocks, Vec::new(alloc));
         match direction {
             Direction::Across => {
-                all.block = side_by_side(alloc, self.blocks.as_slice())?;
-                mem::swap(&mut all.above, &mut self.sizes);
+                all.block = side_by_side(alloc, blocks.as_slice())?;
+                all.above.swap(&mut self.sizes);
             }
             Direction::Down => {
-                all.block = stacked(alloc, self.blocks.as_slice())?;
-                mem::swap(&mut all.before, &mut self.sizes);
+                all.block = stacked(alloc, blocks)?;
+                all.before.swap(&mut self.sizes);
             }
         }
         Ok(())

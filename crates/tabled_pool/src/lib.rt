@@ -15,8 +15,8 @@
 //! - `tree`: `TableValue`, a tree of texts, how it is dropped, and how it is copied
 //! - `sizes`: the sizes that boxes need; `SizeList`, those of a tree; and `BoxSpacing`, on which
 //!   they depend
-//! - `places`: `Piece`, a text or a border in its rectangle; `Drawing`, the pieces and their
-//!   settings; and the rectangles of all of them
+//! - `piece`: `Piece`, a text or a border in its rectangle
+//! - `places`: `Drawing`, the pieces and their settings; and the rectangles of all of them
 //!
 //! Shared by both ways of drawing:
 //! - `draw`: one line of a drawing, and the lines of the block of a text
@@ -30,7 +30,8 @@
 //!
 //! Drawing box by box, for trees with a zero-width text:
 //! - `tree_walk`: the walk over the tree, where each box is in it, and `draw_tree`
-//! - `inheriting_box`: what boxes inherit and pass on, and how lists of inherited sizes are split
+//! - `inheriting_box`: what boxes inherit and pass on
+//! - `inherited_sizes`: the sizes that a box inherits in a direction, and how they are split
 //! - `bordered_text`: the lines of one text, with the borders that it draws, and how drawn boxes
 //!   are joined
 #![tactic(auto)]
@@ -38,10 +39,12 @@
 mod bordered_text;
 mod color_marks;
 mod draw;
+mod inherited_sizes;
 mod inheriting_box;
 mod junction;
 mod line_runs;
 mod making;
+mod piece;
 mod places;
 mod plain;
 mod pool_table;

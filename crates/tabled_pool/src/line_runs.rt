@@ -8,7 +8,8 @@ ghost use Rattle.tabled_pool.specs.Numbers.{AreSized};
 ghost use Rattle.tabled_pool.specs.Plan.{plan_of};
 
 use crate::junction::{Arms, border_char, own_char};
-use crate::places::{Drawing, Kind, Piece, is_line_kind};
+use crate::piece::Piece;
+use crate::places::{Drawing, Kind, is_line_kind};
 use crate::sweep::{Sweep, piece_at};
 
 #[derive(Clone, Copy)]

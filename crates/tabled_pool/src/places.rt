@@ -1,20 +1,25 @@
-//! `Rectangle`; `Piece`, a text or a border in its rectangle; `PieceList`, the pieces by the line
-//! that they begin on; `Drawing`, the pieces and their settings; and the rectangles of texts, of
-//! the borders between boxes, and of those around a tree.
-ghost use Rattle.std.specs.Prelude.{IfOk, Some, [], map, true, vec_len, ◌++◌, ◌+◌, ◌<◌, ◌^◌, ◌∷◌};
-ghost use Rattle.std.specs.Prelude.{◌≡◌, ◌≤◌};
+//! `Rectangle`; `PieceList`, the pieces by the line that they begin on; `Drawing`, the pieces and
+//! their settings; and the rectangles of texts, of the borders between boxes, and of those around a
+//! tree.
+ghost use Rattle.std.specs.Prelude.{IfOk, Some, [], length, map, true, vec_len, ◌++◌, ◌+◌, ◌<◌};
+ghost use Rattle.std.specs.Prelude.{◌^◌, ◌∷◌, ◌≡◌, ◌≤◌};
+ghost use Rattle.tabled_base.specs.Content.{content_text};
 ghost use Rattle.tabled_config.specs.Compact.{each_side};
 ghost use Rattle.tabled_pool.specs.Boxes.{AreTiles, CanSplit, Fits, IsSize, behind_border};
 ghost use Rattle.tabled_pool.specs.Boxes.{border_kind, border_part, box_along, box_of, first_part};
-ghost use Rattle.tabled_pool.specs.Boxes.{framed, given_in, is_line_kind, list_box, part_of};
-ghost use Rattle.tabled_pool.specs.Boxes.{place_along, rest_part, share, shown, sized};
+ghost use Rattle.tabled_pool.specs.Boxes.{framed, given_in, is_line_kind, leaf_box, list_box};
+ghost use Rattle.tabled_pool.specs.Boxes.{part_of, place_along, rest_part, share, shown, sized};
 ghost use Rattle.tabled_pool.specs.Colours.{AreNoMarks, line_marks_of, marks_of, no_mark};
 ghost use Rattle.tabled_pool.specs.Sizes.{EndsWith, sizes_of_all, sizes_within};
+ghost use Rattle.tabled_pool.specs.declared.places.Kind.TheVariants.{Leaf};
+ghost use Rattle.tabled_text.specs.Measure.{lines_of, text_columns};
 
-use crate::sizes::{BoxSpacing, Direction, Size, own_size};
+use crate::piece::{NOT_KNOWN, Piece};
+use crate::sizes::{BoxSpacing, Direction, Size};
 use crate::tree::TableValue;
 use std::alloc::{AllocError, Global};
 use std::mem;
+use tabled_base::Content;
 use tabled_config::{ANSIStr, Borders, CellStyle, Sides};
 use tabled_size::DimensionPriority;
 
@@ -77,18 +82,16 @@ pub enum Kind {
     Rule,
 }
 
-/// A text or a border, with its rectangle.
-#[derive(Clone, Copy)]
-pub struct Piece<'a> {
-    /// What it is.
-    pub kind: Kind,
-    /// The number of the piece before it that begins on the same line, if there is one. No
-    /// contract says that it is right.
-    pub earlier: u32,
-    /// Where it is.
-    pub place: Rectangle,
-    /// Its text; a border has none.
-    pub text: &'a str,
+/// Returns the text of a box that needs `own`, with its measures.
+#[inline(always)]
+pub fn leaf_content<'a>(text: &'a str, own: Size, spacing: &BoxSpacing) -> Content<'a>
+    requires { IsSize (Some own) (leaf_box spacing.now text.now) }
+    ensures { content_text result ≡ text.now }
+{
+    let padding = &spacing.padding;
+    let columns = own.width - padding.left.size - padding.right.size;
+    let lines = own.height - padding.top.size - padding.bottom.size;
+    Content::measured(text, columns, lines)
 }
 
 /// The number of no piece.
@@ -189,24 +192,55 @@ fn share(priority: DimensionPriority, surplus: usize, count: usize) -> usize
     }
 }
 
-/// Adds a piece.
-pub fn place_piece<'a>(
+/// Adds a piece, with the columns of its text if they are known.
+fn place_piece<'a>(
     kind: Kind,
+    columns: u16,
     place: Rectangle,
     text: &'a str,
     list: &mut PieceList<'a>,
 ) -> Result<(), AllocError>
+    requires { columns < 65535
+        → (columns ≡ text_columns text.now) × (1 ≡ length (lines_of text.now)) }
     ensures { IfOk result (λ _. map shown list.new.pieces.items ≡ map shown list.old.pieces.items
         ++ (part_of kind place text.now ∷ [])) }
 {
     let earlier = list.link(place);
     list.pieces.push(Piece {
         kind,
+        columns,
         earlier,
         place,
         text,
     })?;
     Ok(())
+}
+
+/// Adds the text of a box.
+fn place_text<'a>(
+    text: &'a str,
+    spacing: &BoxSpacing,
+    whole: BoxPlace,
+    list: &mut PieceList<'a>,
+) -> Result<(), AllocError>
+    requires { IsSize (Some whole.own) (leaf_box spacing.now text.now) }
+    ensures { IfOk result (λ _. map shown list.new.pieces.items ≡ map shown list.old.pieces.items
+        ++ (part_of Leaf whole.place text.now ∷ [])) }
+{
+    let content = leaf_content(text, whole.own, spacing);
+    let columns = match u16::try_from(content.columns) {
+        Ok(columns) if content.lines == 1 => columns,
+        _ => NOT_KNOWN,
+    };
+    place_piece(Kind::Leaf, columns, whole.place, text, list)
+}
+
+/// Adds a border.
+fn place_border(kind: Kind, place: Rectangle, list: &mut PieceList<'_>) -> Result<(), AllocError>
+    ensures { IfOk result (λ _. map shown list.new.pieces.items ≡ map shown list.old.pieces.items
+        ++ (part_of kind place [] ∷ [])) }
+{
+    place_piece(kind, 0, place, "", list)
 }
 
 /// The boxes of a row or a column that are still to be placed.
@@ -247,7 +281,7 @@ pub struct SplitPlace {
 }
 
 /// Splits a rectangle of boxes after the first, which needs `size`.
-fn split(
+pub fn split(
     direction: Direction,
     size: Size,
     spacing: &BoxSpacing,
@@ -284,30 +318,8 @@ fn split(
     }
 }
 
-/// Measures the first of several boxes, and splits their rectangle after it.
-pub fn split_child(
-    direction: Direction,
-    child: &TableValue,
-    spacing: &BoxSpacing,
-    left: BoxesLeft,
-    place: Rectangle,
-) -> SplitPlace
-    requires { CanSplit direction spacing.now (box_of spacing.now child.now) left place }
-    ensures own { result.own ≡ box_along direction (box_of spacing.now child.now) }
-    ensures given { result.given.place ≡ first_part direction
-        (given_in direction spacing.now (box_of spacing.now child.now) left place) place }
-    ensures rest { result.rest ≡ behind_border direction spacing.now
-        (given_in direction spacing.now (box_of spacing.now child.now) left place) place }
-    ensures fits { Fits (box_of spacing.now child.now) result.given.place }
-{
-    let Some(size) = own_size(child, spacing) else {
-        unreachable!()
-    };
-    split(direction, size, spacing, left, place)
-}
-
 /// Takes the size of the next box.
-fn take_size(sizes: &mut Vec<Size>) -> Size
+pub fn take_size(sizes: &mut Vec<Size>) -> Size
     requires { 0 < vec_len sizes.old }
     ensures { sizes.old.items ≡ sizes.new.items ++ (result ∷ []) }
 {
@@ -339,7 +351,7 @@ fn place_list<'a>(
         ≡ placer.new.sizes.items ++ sizes_of_all spacing.now children.now) }
 {
     let Some((last, front)) = children.split_last() else {
-        return place_piece(Kind::Leaf, whole.place, "", &mut placer.list);
+        return place_text("", spacing, whole, &mut placer.list);
     };
     let border = direction.pick(spacing.bar, spacing.rule);
     let kind = direction.pick(Kind::Bar, Kind::Rule);
@@ -351,7 +363,7 @@ fn place_list<'a>(
         let own = take_size(&mut placer.sizes);
         let cut = split(direction, own, spacing, left, place);
         place_value(child, spacing, cut.given, placer)?;
-        place_piece(kind, cut.line, "", &mut placer.list)?;
+        place_border(kind, cut.line, &mut placer.list)?;
         left.size -= cut.own + border;
         left.count -= 1;
         place = cut.rest;
@@ -380,9 +392,7 @@ pub fn place_value<'a>(
         ≡ placer.new.sizes.items ++ sizes_within spacing.now value.now) }
 {
     match value.inner() {
-        TableValue::Cell(text) => {
-            place_piece(Kind::Leaf, whole.place, text.as_str(), &mut placer.list)
-        }
+        TableValue::Cell(text) => { place_text(text.as_str(), spacing, whole, &mut placer.list) }
         TableValue::Row(children) => {
             let children = children.as_slice();
             place_list(Direction::Across, children, spacing, whole, placer)
@@ -427,10 +437,10 @@ pub fn place_tree<'a>(
     let place = below.first_part(Direction::Down, height);
     let own = Size { width, height };
     let bottom = below.rest_part(Direction::Down, height);
-    place_piece(Kind::Bar, left, "", &mut placer.list)?;
-    place_piece(Kind::Bar, right, "", &mut placer.list)?;
-    place_piece(Kind::Rule, top, "", &mut placer.list)?;
-    place_piece(Kind::Rule, bottom, "", &mut placer.list)?;
+    place_border(Kind::Bar, left, &mut placer.list)?;
+    place_border(Kind::Bar, right, &mut placer.list)?;
+    place_border(Kind::Rule, top, &mut placer.list)?;
+    place_border(Kind::Rule, bottom, &mut placer.list)?;
     place_value(value, spacing, BoxPlace { own, place }, placer)?;
     Ok(())
 }

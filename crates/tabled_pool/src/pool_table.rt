@@ -23,7 +23,8 @@ ghost use Rattle.tabled_priority.specs.Sums.{one_if};
 
 use crate::bordered_text::DrawnBlock;
 use crate::junction::{has_bottom, has_top};
-use crate::places::{Drawing, Piece, PieceList, Placer, Rectangle, place_tree};
+use crate::piece::Piece;
+use crate::places::{Drawing, PieceList, Placer, Rectangle, place_tree};
 use crate::plain::{are_uncolored_lines, are_uncolored_sides};
 use crate::sizes::{BoxSpacing, Size, SizeList, measure, sum};
 use crate::table_lines::{ColoredMargin, TableLines, draw_lines};

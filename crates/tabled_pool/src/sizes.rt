@@ -56,14 +56,6 @@ impl SizeList {
         }
     }
 
-    /// A list that stores no sizes.
-    fn none(alloc: Global) -> SizeList {
-        SizeList {
-            sizes: Vec::new(alloc),
-            is_complete: false,
-        }
-    }
-
     fn add(&mut self, size: Size)
         ensures { AreAdded self.old self.new (size ∷ []) }
     {
@@ -189,24 +181,4 @@ pub fn measure(value: &TableValue, spacing: &BoxSpacing, list: &mut SizeList) ->
             measure_list(Direction::Down, children.as_slice(), spacing, list)
         }
     }
-}
-
-/// Returns the size that a box needs, if it fits in `usize`.
-pub fn own_size(value: &TableValue, spacing: &BoxSpacing) -> Option<Size>
-    ensures { IsSize result (box_of spacing.now value.now) }
-{
-    measure(value, spacing, &mut SizeList::none(value.allocator()))
-}
-
-/// Returns the size that boxes in a direction need, if it fits in `usize`.
-pub fn list_size(
-    alloc: Global,
-    direction: Direction,
-    children: &[TableValue],
-    spacing: &BoxSpacing,
-) -> Option<Size>
-    ensures { IsSize result (list_box direction spacing.now
-        (map (box_of spacing.now) children.now)) }
-{
-    measure_list(direction, children, spacing, &mut SizeList::none(alloc))
 }

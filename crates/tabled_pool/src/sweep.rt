@@ -4,7 +4,8 @@ ghost use Rattle.std.specs.Prelude.{map, option_map, true, ◌+◌, ◌<◌, ◌
 ghost use Rattle.tabled_pool.specs.Boxes.{contains, owner, shown, within};
 ghost use Rattle.tabled_pool.specs.Numbers.{IsNumber};
 
-use crate::places::{Drawing, NO_PIECE, Piece, Rectangle, no_pieces};
+use crate::piece::Piece;
+use crate::places::{Drawing, NO_PIECE, Rectangle, no_pieces};
 use std::alloc::Global;
 use std::mem;
 

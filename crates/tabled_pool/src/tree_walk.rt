@@ -1,19 +1,22 @@
 //! The walk over a tree that is drawn box by box, and where a box is in it.
-ghost use Rattle.std.specs.Prelude.{IfOk, None, [], if◌then◌else◌, map, string_bytes, ◌+◌, ◌<◌};
-ghost use Rattle.std.specs.Prelude.{◌^◌, ◌∷◌, ◌≡◌, ◌≤◌};
-ghost use Rattle.tabled_pool.specs.Boxes.{Fits, box_of, list_box, shown};
+ghost use Rattle.std.specs.Prelude.{IfOk, None, Some, [], if◌then◌else◌, length, map, string_bytes};
+ghost use Rattle.std.specs.Prelude.{◌++◌, ◌+◌, ◌<◌, ◌^◌, ◌∷◌, ◌≡◌, ◌≤◌};
+ghost use Rattle.tabled_pool.specs.Boxes.{Fits, IsSize, box_of, list_box, shown};
 ghost use Rattle.tabled_pool.specs.Inherited.{block_sheet_of, drawer, first_flags, has_zero_width};
 ghost use Rattle.tabled_pool.specs.Inherited.{inherited_block, inheriting_box, is_bottom, is_left};
 ghost use Rattle.tabled_pool.specs.Inherited.{is_right, is_top, later_flags, list_drawer};
 ghost use Rattle.tabled_pool.specs.Inherited.{own_borders, passed_on, top_left};
 ghost use Rattle.tabled_pool.specs.Plan.{plan_of};
+ghost use Rattle.tabled_pool.specs.Sizes.{EndsWith, measured, sizes_in, sizes_within};
 
 use crate::bordered_text::DrawnBlock;
 use crate::inheriting_box::{DrawnBoxes, InheritingBox};
-use crate::places::{BoxesLeft, Drawing, Piece, Rectangle, is_line_kind};
-use crate::sizes::{Direction, Size, list_size, own_size};
+use crate::piece::Piece;
+use crate::places::{BoxesLeft, Drawing, Rectangle, is_line_kind, leaf_content, take_size};
+use crate::sizes::{Direction, Size, SizeList, measure};
 use crate::tree::TableValue;
 use std::alloc::AllocError;
+use tabled_base::Content;
 use tabled_config::{Borders, Sides};
 
 /// Where a box is in its tree, and which borders meet at its top left corner.
@@ -148,74 +151,119 @@ pub fn has_zero_width(pieces: &[Piece<'_>]) -> bool
     false
 }
 
-#[cycle(draws)]
-#[inline(never)]
-#[tactic(auto, using(crate::proofs::Steps::left_first, crate::proofs::Steps::left_all, crate::proofs::Steps::left_count,))]
-fn draw_list(
-    direction: Direction,
-    children: &[TableValue],
-    drawing: &Drawing<'_, '_>,
-    inherited: &mut InheritingBox,
-    drawn: &mut DrawnBoxes,
-) -> Result<(), AllocError>
-    requires blocks { drawn.old.blocks.items ≡ [] }
-    requires sizes { drawn.old.sizes.items ≡ [] }
-    requires fits { Fits (list_box direction drawing.now.spacing
-        (map (box_of drawing.now.spacing) children.now)) inherited.old.place }
-    ensures { IfOk result (λ _. passed_on inherited.new
-        ≡ (list_drawer direction (plan_of drawing.now) drawing.now.spacing
-        (map (drawer (plan_of drawing.now) drawing.now.spacing) children.now)).draw
-        (inheriting_box inherited.old)) }
+/// Boxes side by side or below each other.
+#[derive(Clone, Copy)]
+pub struct BoxList<'v> {
+    pub direction: Direction,
+    pub children: &'v [TableValue],
+}
+
+/// Takes the size of the last box of a list, which has those in `front` before it. If these are
+/// none, its size is that of the list.
+fn take_last_size(front: &[TableValue], own: Size, sizes: &mut Vec<Size>) -> Size
+    requires { 0 < length front.now → 0 < length sizes.old.items }
+    ensures only { length front.now ≡ 0 → (result ≡ own) × (sizes.new.items ≡ sizes.old.items) }
+    ensures other { 0 < length front.now → sizes.old.items ≡ sizes.new.items ++ (result ∷ []) }
 {
-    let spacing = &drawing.spacing;
-    let Some((last, front)) = children.split_last() else {
-        return inherited.draw_text(drawing, "");
-    };
-    let Some(own) = list_size(drawing.alloc, direction, children, spacing) else {
-        unreachable!()
-    };
-    let border = direction.pick(spacing.bar, spacing.rule);
-    let size = direction.pick(own.width, own.height);
-    let count = children.len();
-    let mut left = BoxesLeft { size, count };
-    for child in front {
-        let own = inherited.pass_to(direction, &mut drawn.next, child, spacing, left)?;
-        draw_value(child, drawing, &mut drawn.next)?;
-        drawn.add(direction, inherited)?;
-        left.size -= own + border;
-        left.count -= 1;
+    if front.is_empty() {
+        return own;
     }
-    inherited.pass_rest(direction, &mut drawn.next)?;
-    draw_value(last, drawing, &mut drawn.next)?;
-    drawn.add(direction, inherited)?;
-    drawn.join(direction, inherited)
+    take_size(sizes)
 }
 
 #[cycle(draws)]
 #[inline(never)]
-#[tactic(auto, using(crate::proofs::Steps::left_first, crate::proofs::Steps::left_all, crate::proofs::Steps::left_count,))]
+#[tactic(auto, using(crate::proofs::Steps::left_first, crate::proofs::Steps::left_all, crate::proofs::Steps::left_count, crate::proofs::NodeSums::nodes_in_push, crate::proofs::NodeSums::nodes_in_at))]
+fn draw_list(
+    boxes: BoxList<'_>,
+    drawing: &Drawing<'_, '_>,
+    sizes: &mut Vec<Size>,
+    inherited: &mut InheritingBox,
+    drawn: &mut DrawnBoxes,
+) -> Result<(), AllocError>
+    requires blocks { drawn.old.blocks.items ≡ [] }
+    requires drawn_sizes { drawn.old.sizes.items ≡ [] }
+    requires sizes { EndsWith sizes.old.items
+        (sizes_in (map (measured drawing.now.spacing) boxes.children.now)) }
+    requires own { IsSize (Some drawn.old.own) (list_box boxes.direction drawing.now.spacing
+        (map (box_of drawing.now.spacing) boxes.children.now)) }
+    requires fits { Fits (list_box boxes.direction drawing.now.spacing
+        (map (box_of drawing.now.spacing) boxes.children.now)) inherited.old.place }
+    ensures passed { IfOk result (λ _. passed_on inherited.new
+        ≡ (list_drawer boxes.entry.direction (plan_of drawing.now) drawing.now.spacing
+        (map (drawer (plan_of drawing.now) drawing.now.spacing) boxes.entry.children.now)).draw
+        (inheriting_box inherited.old)) }
+    ensures sizes { IfOk result (λ _. sizes.old.items ≡ sizes.new.items
+        ++ sizes_in (map (measured drawing.now.spacing) boxes.entry.children.now)) }
+{
+    let spacing = &drawing.spacing;
+    let BoxList {
+        direction,
+        children,
+    } = boxes;
+    let Some((last, front)) = children.split_last() else {
+        return inherited.draw_text(drawing, &Content::new(""));
+    };
+    let all = drawn.own;
+    let border = direction.pick(spacing.bar, spacing.rule);
+    let size = direction.pick(all.width, all.height);
+    let count = children.len();
+    let mut left = BoxesLeft { size, count };
+    for child in front {
+        let own = take_size(sizes);
+        let needed = inherited.pass_to(direction, &mut drawn.next, own, spacing, left)?;
+        draw_value(child, own, drawing, sizes, &mut drawn.next)?;
+        drawn.add(direction, inherited)?;
+        left.size -= needed + border;
+        left.count -= 1;
+    }
+    let own = take_last_size(front, all, sizes);
+    inherited.pass_rest(direction, &mut drawn.next)?;
+    draw_value(last, own, drawing, sizes, &mut drawn.next)?;
+    drawn.add(direction, inherited)?;
+    drawn.join(direction, inherited)
+}
+
+/// Draws a box that needs `own`. Takes the sizes of the boxes in it. Recurses at each level.
+#[cycle(draws)]
+#[inline(never)]
+#[tactic(auto, using(crate::proofs::Steps::left_first, crate::proofs::Steps::left_all, crate::proofs::Steps::left_count, crate::proofs::NodeSums::nodes_in_push, crate::proofs::NodeSums::nodes_in_at))]
 fn draw_value(
     value: &TableValue,
+    own: Size,
     drawing: &Drawing<'_, '_>,
+    sizes: &mut Vec<Size>,
     inherited: &mut InheritingBox,
 ) -> Result<(), AllocError>
-    requires { Fits (box_of drawing.now.spacing value.now) inherited.old.place }
-    ensures { IfOk result (λ _. passed_on inherited.new
+    requires sizes { EndsWith sizes.old.items (sizes_within drawing.now.spacing value.now) }
+    requires own { IsSize (Some own) (box_of drawing.now.spacing value.now) }
+    requires fits { Fits (box_of drawing.now.spacing value.now) inherited.old.place }
+    ensures passed { IfOk result (λ _. passed_on inherited.new
         ≡ (drawer (plan_of drawing.now) drawing.now.spacing value.now).draw
         (inheriting_box inherited.old)) }
+    ensures sizes { IfOk result (λ _. sizes.old.items ≡ sizes.new.items
+        ++ sizes_within drawing.now.spacing value.now) }
 {
-    let alloc = drawing.alloc;
     match value {
-        TableValue::Cell(text) => inherited.draw_text(drawing, text.as_str()),
+        TableValue::Cell(text) => {
+            let content = leaf_content(text.as_str(), own, &drawing.spacing);
+            inherited.draw_text(drawing, &content)
+        }
         TableValue::Row(children) => {
-            let mut drawn = DrawnBoxes::boxed(alloc, inherited.place)?;
-            let children = children.as_slice();
-            draw_list(Direction::Across, children, drawing, inherited, &mut drawn)
+            let mut drawn = DrawnBoxes::boxed(drawing.alloc, own, inherited.place)?;
+            let boxes = BoxList {
+                direction: Direction::Across,
+                children: children.as_slice(),
+            };
+            draw_list(boxes, drawing, sizes, inherited, &mut drawn)
         }
         TableValue::Column(children) => {
-            let mut drawn = DrawnBoxes::boxed(alloc, inherited.place)?;
-            let children = children.as_slice();
-            draw_list(Direction::Down, children, drawing, inherited, &mut drawn)
+            let mut drawn = DrawnBoxes::boxed(drawing.alloc, own, inherited.place)?;
+            let boxes = BoxList {
+                direction: Direction::Down,
+                children: children.as_slice(),
+            };
+            draw_list(boxes, drawing, sizes, inherited, &mut drawn)
         }
     }
 }
@@ -228,9 +276,12 @@ pub fn draw_tree(value: &TableValue, drawing: &Drawing<'_, '_>) -> Result<DrawnB
     ensures { IfOk result (λ block. block_sheet_of block
         ≡ inherited_block (plan_of drawing.now) drawing.now.spacing value.now) }
 {
-    let Some(Size { width, height }) = own_size(value, &drawing.spacing) else {
+    let mut measured = SizeList::new(drawing.alloc);
+    let Some(own) = measure(value, &drawing.spacing, &mut measured) else {
         unreachable!()
     };
+    let mut sizes = measured.all()?;
+    let Size { width, height } = own;
     let place = Rectangle {
         x: 0,
         y: 0,
@@ -238,6 +289,6 @@ pub fn draw_tree(value: &TableValue, drawing: &Drawing<'_, '_>) -> Result<DrawnB
         height,
     };
     let mut whole = InheritingBox::new(drawing.alloc, place);
-    draw_value(value, drawing, &mut whole)?;
+    draw_value(value, own, drawing, &mut sizes, &mut whole)?;
     Ok(whole.block)
 }

@@ -24,7 +24,8 @@ returns-in-Leaf g c =
     let t = plan_of l.drawing.now in
     let p = shown r.piece.now in
     let here : p.place.x ≡ c.args.x = omega arith in
-    rw (run_text t c.args.x l.y r.count r.c p c.requires (search rules) ∙ leaf-begins t p c.args.x l.y here) c.draw_block_line.ensures
+    rw (run_text t c.args.x l.y r.count r.c p c.requires (search rules) ∙ leaf-begins t p c.args.x l.y here)
+    (rw c.content-content.ensures at c.draw_block_line.ensures)
 
 pub returns-in-Leaf-2 : goal.returns-in-Leaf-2
 returns-in-Leaf-2 g c =

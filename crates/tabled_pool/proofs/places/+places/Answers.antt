@@ -56,7 +56,7 @@ place_list-loop-child-preserved t c =
     let given = rw own at cut.given in
     let border = rw own at cut.line in
     let rest = rw own at cut.rest in
-    let line = rw c.pick-kind.ensures at c.in_ok-place_piece.ensures in
+    let line = rw c.pick-kind.ensures at c.in_ok-place_border.ensures in
     let p = c.loop-child.place in
     let l = c.loop-child.left in
     record {
@@ -137,7 +137,7 @@ pub place_value-returns-in-Cell-clause-sizes : goal.place_value-returns-in-Cell-
 place_value-returns-in-Cell-clause-sizes t c =
     let g = c.args.spacing.now in
     let none : sizes_within g c.inner.result.now ≡ [] = search (rules, the_lemmas) in
-    none_taken c.place_piece.result c.args.placer.now.sizes.items (sizes_within g c.args.value.now) (c.inner.ensures.same.sizes g ∙ none)
+    none_taken c.place_text.result c.args.placer.now.sizes.items (sizes_within g c.args.value.now) (c.inner.ensures.same.sizes g ∙ none)
 
 pub place_value-returns-in-Row-clause-pieces : goal.place_value-returns-in-Row-clause-pieces
 place_value-returns-in-Row-clause-pieces t c = rw (c.inner.ensures.same.box c.args.spacing.now) (search (rules, the_lemmas))
@@ -164,3 +164,9 @@ place_value-returns-in-Column-clause-sizes t c =
     let same = sizes_inside g c.args.value.now _ vs (c.inner.ensures.same.sizes g) inside count c.inner.ensures.several in
     subst (λ ss. IfOk c.place_list-in-Column.result (λ _. c.args.placer.now.sizes.items ≡ c.place_list-in-Column.new.placer.sizes.items ++ ss)) same
     c.place_list-in-Column.ensures.sizes
+
+pub place_value-place_text-requires : goal.place_value-place_text-requires
+place_value-place_text-requires t c =
+    let own : IsSize (Some c.args.whole.own) (box_of c.args.spacing.now c.inner.result.now) =
+    rw (c.inner.ensures.same.box c.args.spacing.now) at c.requires.own in
+    search (rules, the_lemmas)

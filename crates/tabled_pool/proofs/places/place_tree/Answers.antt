@@ -10,7 +10,7 @@ joined o a b c d n ps p q r s h1 h2 h3 h4 h5 =
 pub returns : goal.returns
 unfolding framed
 returns c =
-    let parts = joined _ _ _ _ _ _ _ _ _ _ _ c.in_ok-place_piece.ensures c.in_ok-place_piece-2.ensures
-    c.in_ok-place_piece-3.ensures c.in_ok-place_piece-4.ensures c.in_ok-place_value.ensures.pieces in
+    let parts = joined _ _ _ _ _ _ _ _ _ _ _ c.in_ok-place_border.ensures c.in_ok-place_border-2.ensures
+    c.in_ok-place_border-3.ensures c.in_ok-place_border-4.ensures c.in_ok-place_value.ensures.pieces in
     let ends = rw (c.first_part-left.ensures, c.rest_part-right.ensures, c.first_part-top.ensures, c.rest_part-bottom.ensures) at parts in
     rw (c.first_part-place.ensures, c.rest_part-below.ensures, c.first_part-middle.ensures, c.rest_part-rest.ensures) at ends

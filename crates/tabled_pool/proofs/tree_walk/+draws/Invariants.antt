@@ -1,5 +1,7 @@
-use Rattle.tabled_pool.proofs.Names.{AreLeft, Fits, block_sheet_of, boxes_left, drawer, drop, inheriting_box, list_box, map, plan_of}
+use Rattle.tabled_pool.proofs.Names.{AreLeft, Fits, block_sheet_of, boxes_left, drawer, drop, inheriting_box, list_box, map, nodes, nodes_in, plan_of, ◌*◌, ◌+◌}
+use Rattle.tabled_pool.specs.Sizes.{measured, sizes_in}
 use Rattle.tabled_pool.proofs.Drawers.{ListWalk, drawers_left, list_of}
+use Rattle.tabled_pool.proofs.Measures.{AreUnplaced, sizes_to_draw}
 use Rattle.tabled_pool.proofs.tree_walk.+draws.Given as goal
 
 abbrev pub invariant-draw_list-loop-child : goal.invariant-draw_list-loop-child
@@ -7,11 +9,20 @@ invariant-draw_list-loop-child l =
     let t = plan_of l.drawing in
     let g = l.drawing.spacing in
     let d = l.direction in
-    let bs = boxes_left g (drop l.child-index l.front) l.last in
+    let ahead = drop l.child-index l.front in
+    let bs = boxes_left g ahead l.last in
     record {
-      walk : ListWalk (list_of d g (map (drawer t g) l.children) (inheriting_box l.initial.inherited))
-          (list_of d g (drawers_left t g (drop l.child-index l.front) l.last)
-          (inheriting_box l.inherited)) (map block_sheet_of l.drawn.blocks.items) l.drawn.sizes.items;
+      walk : ListWalk (list_of d g (map (drawer t g) l.boxes.children.now) (inheriting_box l.initial.inherited))
+          (list_of d g (drawers_left t g ahead l.last) (inheriting_box l.inherited)) (map block_sheet_of l.drawn.blocks.items)
+          l.drawn.sizes.items;
       fits : Fits (list_box d g bs) l.inherited.place;
       left : AreLeft d g bs l.left;
+      sizes : AreUnplaced l.initial.sizes.items (sizes_in (map (measured g) l.boxes.children.now)) l.sizes.items
+          (sizes_to_draw g l.front ahead l.last);
     }
+
+abbrev pub decreases-draw_list : goal.decreases-draw_list
+decreases-draw_list l = 2 * nodes_in l.boxes.children.now + 1
+
+abbrev pub decreases-draw_value : goal.decreases-draw_value
+decreases-draw_value l = 2 * nodes l.value.now

@@ -1,0 +1,6 @@
+use Rattle.tabled_text.proofs.Bridge.{text_columns-nil}
+use Rattle.tabled_pool.proofs.Names.{refl, sym}
+use Rattle.tabled_pool.proofs.places.place_border.Goals as goal
+
+pub place_piece-requires : goal.place_piece-requires
+place_piece-requires c = λ h. (sym text_columns-nil, refl)
