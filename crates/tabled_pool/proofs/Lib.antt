@@ -5,6 +5,7 @@ pub mod Aparts
 pub mod Bare
 pub mod BehindLines
 pub mod Characters
+pub mod Collected
 pub mod CollectedValues
 pub mod Columns
 pub mod Contains
@@ -19,7 +20,9 @@ pub mod Neighbours
 pub mod NodeSums
 pub mod Owners
 pub mod Padded
+pub mod Besides
 pub mod BlockLines
+pub mod Bordered
 pub mod PlainBlocks
 pub mod Plains
 pub mod PoolBlocks

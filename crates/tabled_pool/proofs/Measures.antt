@@ -4,7 +4,7 @@ use Rattle.tabled_pool.proofs.Names.{arith, box_of, box_step, fold-roll-TableVal
 use Rattle.tabled_pool.proofs.Names.{common_steps, refl, roll-TableValue, subst, sym, ℕ, ◌++◌, ◌<◌, ◌∙◌, ◌∷◌, ◌≡◌}
 use Rattle.std.proofs.Common.{◌≢◌, IfSome}
 use Rattle.std.specs.Prelude.{Err, IfOk, Ok, Result}
-use Rattle.tabled_pool.proofs.Names.{Fits, None, Option, Rectangle, append-nil, box_across, box_along, drop, get_or, length-map, sized, ◌+◌, ◌≤◌}
+use Rattle.tabled_pool.proofs.Names.{Fits, None, Option, Rectangle, append-nil, box_across, box_along, drop, get_or, length-map, pick, sized, ◌+◌, ◌≤◌}
 use Rattle.tabled_pool.specs.Boxes.{CanSplit}
 use Rattle.tabled_pool.specs.declared.places.BoxesLeft.{BoxesLeft}
 use Rattle.tabled_pool.specs.Tree.{child_count}
@@ -213,7 +213,16 @@ last_size d g (v ∷ vs) last i all whole items items' own s z o u only other =
       next = λ later h. placed_all all whole later (n.next later h);
     }
 
--- there is a size for it
+-- there is a size for the next box
+pub next_there : (g : BoxSpacing) (front : List TableValue) (last : TableValue) (i : ℕ) (v : TableValue) (all whole items : List Size)
+    → i < length front → v ≡ get_or front i v → AreUnplaced all whole items (sizes_to_draw g front (drop i front) last) → 0 < length items
+next_there g front last i v all whole items h is u =
+    let some : 0 < length front = omega (arith, h) in
+    let n = ap length (u.now ∙ ap (λ ss. u.before ++ ss)
+    (to_draw_some g front (drop i front) last some ∙ ap (sizes_of_all g) (values_left front last i v h is))) in
+    grind (arith, common_steps, n)
+
+-- there is a size for the last one
 pub some_size : (g : BoxSpacing) (front : List TableValue) (last : TableValue) (i : ℕ) (all whole items : List Size) → length front ≤ i
     → AreUnplaced all whole items (sizes_to_draw g front (drop i front) last) → 0 < length front → 0 < length items
 some_size g front last i all whole items z u h =
@@ -227,6 +236,10 @@ some_size g front last i all whole items z u h =
 pub sized_along : (d : Direction) (b : Box) (s : Size) → IsSize (Some s) b → box_along d (sized s) ≡ box_along d b
 sized_along Across b s h = h.0
 sized_along Down b s h = h.1
+
+pub own_along : (d : Direction) (b : Box) (s : Size) → IsSize (Some s) b → pick d s.width s.height ≡ box_along d b
+own_along Across b s h = h.0
+own_along Down b s h = h.1
 
 sized-across : (d : Direction) (b : Box) (s : Size) → IsSize (Some s) b → box_across d (sized s) ≡ box_across d b
 sized-across Across b s h = h.1

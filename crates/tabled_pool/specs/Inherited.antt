@@ -6,7 +6,7 @@ use Rattle.std.specs.Prelude.{ℕ, ◌+◌, ◌-◌, max, List, [], ◌∷◌, �
 use Rattle.std.specs.Prelude.{not, ◌&&◌, ◌||◌, Option, Some, None, is_some, unwrap_or, encode_utf8}
 use Rattle.std.specs.List.{flat_map, range_with_len, slice_index_or}
 use Rattle.tabled_line.specs.Fill.{fill}
-use Rattle.tabled_pool.specs.declared.bordered_text.DrawnBlock.{DrawnBlock}
+use Rattle.tabled_pool.specs.declared.drawn_block.DrawnBlock.{DrawnBlock}
 use Rattle.tabled_priority.specs.Sums.{one_if}
 use Rattle.tabled_config.specs.declared.borders.Borders.{Borders}
 use Rattle.tabled_pool.specs.declared.sizes.BoxSpacing.{BoxSpacing}
@@ -53,6 +53,20 @@ most_lines (p ∷ ps) = max (length p.lines) (most_lines ps)
 -- blocks side by side
 abbrev pub side_by_side : List BlockSheet → BlockSheet
 side_by_side ps = record { width = all_columns ps; lines = map (λ y. flat_map (drawn_block_line y) ps) (range_with_len 0 (most_lines ps)) }
+
+-- a block with another one at its right, and a block that has nothing yet
+abbrev pub beside : BlockSheet → BlockSheet → BlockSheet
+beside p q = record {
+  width = p.width + q.width;
+  lines = map (λ y. drawn_block_line y p ++ drawn_block_line y q) (range_with_len 0 (max (length p.lines) (length q.lines)));
+}
+
+abbrev pub no_block : BlockSheet
+no_block = record { width = 0; lines = [] }
+
+-- the lines of a block in which there is a line y: the next one begins with spaces
+abbrev pub with_line : ℕ → BlockSheet → List (List ℕ)
+with_line y p = if ltb y (length p.lines) then p.lines else p.lines ++ (fill 32 p.width ∷ [])
 
 -- the lines of a block, filled with spaces to `width` columns
 abbrev pub widened : ℕ → BlockSheet → List (List ℕ)
@@ -209,6 +223,10 @@ pub record Drawer : Type 0 where
 
 abbrev pub boxes : List Drawer → List Box
 boxes ds = map (λ d. d.box) ds
+
+-- what a box passes on that is drawn at the right of a block
+abbrev pub passed_beside : BlockSheet → PassedOn → PassedOn
+passed_beside p l = record l { block = beside p l.block }
 
 abbrev pub text_passes : DrawingPlan → List ℕ → InheritedSheet → PassedOn
 text_passes t text h = record { block = text_block t h text; above = h.place.width ∷ []; before = h.place.height ∷ [] }

@@ -94,14 +94,25 @@ pub fn draw_block_line<S: TextSink>(
     write_colored_line(sink, &cell, colors, line, columns)
 }
 
+/// Writes a mark. Most are empty, and need no call.
+#[inline(always)]
+pub fn write_mark<S: TextSink>(sink: &mut S, mark: &str) -> Result<(), TableError>
+    ensures { Writes (S.sent sink.old) result (S.sent sink.new) mark.now }
+{
+    if mark.is_empty() {
+        return Ok(());
+    }
+    sink.write_text(mark)
+}
+
 pub fn draw_marked<S: TextSink>(sink: &mut S, marks: Marks, c: char) -> Result<(), TableError>
     ensures { Writes (S.sent sink.old) result (S.sent sink.new)
         (within_marks (around_of marks) (encode_utf8 c)) }
 {
-    sink.write_text(marks.close)?;
-    sink.write_text(marks.start)?;
+    write_mark(sink, marks.close)?;
+    write_mark(sink, marks.start)?;
     write_char(sink, c)?;
-    sink.write_text(marks.behind)
+    write_mark(sink, marks.behind)
 }
 
 /// Writes copies of a border character, each with its colour.

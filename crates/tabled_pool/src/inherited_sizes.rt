@@ -54,7 +54,7 @@ impl InheritedSizes {
         mem::swap(&mut self.sizes, sizes);
     }
 
-    /// Takes the sizes that stand in the first `size` columns or lines, where each is followed by a
+    /// Takes the sizes within the first `size` columns or lines, where each is followed by a
     /// border of one, and makes them the sizes of `part`. A size that reaches beyond loses what is
     /// before that, and one for the border there. Returns whether one ends just there.
     pub fn take(&mut self, size: usize, part: &mut InheritedSizes) -> Result<bool, AllocError>

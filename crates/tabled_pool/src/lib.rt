@@ -32,13 +32,14 @@
 //! - `tree_walk`: the walk over the tree, where each box is in it, and `draw_tree`
 //! - `inheriting_box`: what boxes inherit and pass on
 //! - `inherited_sizes`: the sizes that a box inherits in a direction, and how they are split
-//! - `bordered_text`: the lines of one text, with the borders that it draws, and how drawn boxes
-//!   are joined
+//! - `bordered_text`: the lines of one text, with the borders that it draws
+//! - `drawn_block`: the lines of a drawn box, and how drawn boxes are joined
 #![tactic(auto)]
 
 mod bordered_text;
 mod color_marks;
 mod draw;
+mod drawn_block;
 mod inherited_sizes;
 mod inheriting_box;
 mod junction;

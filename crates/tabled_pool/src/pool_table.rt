@@ -21,7 +21,7 @@ ghost use Rattle.tabled_pool.specs.Sizes.{AreAdded, sizes_within};
 ghost use Rattle.tabled_pool.specs.Tree.{IsInner};
 ghost use Rattle.tabled_priority.specs.Sums.{one_if};
 
-use crate::bordered_text::DrawnBlock;
+use crate::drawn_block::DrawnBlock;
 use crate::junction::{has_bottom, has_top};
 use crate::piece::Piece;
 use crate::places::{Drawing, PieceList, Placer, Rectangle, place_tree};

@@ -8,9 +8,9 @@ ghost use Rattle.tabled_pool.specs.Colours.{coloured, marks_of};
 ghost use Rattle.tabled_pool.specs.Pool.{with_margin, within_margin};
 ghost use Rattle.tabled_pool.specs.TableLines.{AreSizedLines, content_of, sheet_of};
 
-use crate::bordered_text::DrawnBlock;
 use crate::color_marks::draw_colored_fill;
 use crate::draw::draw_line;
+use crate::drawn_block::DrawnBlock;
 use crate::line_runs::Line;
 use crate::places::Drawing;
 use crate::sizes::Size;

@@ -5,11 +5,12 @@ ghost use Rattle.tabled_pool.specs.Boxes.{Fits, IsSize, box_of, list_box, shown}
 ghost use Rattle.tabled_pool.specs.Inherited.{block_sheet_of, drawer, first_flags, has_zero_width};
 ghost use Rattle.tabled_pool.specs.Inherited.{inherited_block, inheriting_box, is_bottom, is_left};
 ghost use Rattle.tabled_pool.specs.Inherited.{is_right, is_top, later_flags, list_drawer};
-ghost use Rattle.tabled_pool.specs.Inherited.{own_borders, passed_on, top_left};
+ghost use Rattle.tabled_pool.specs.Inherited.{no_block, own_borders, passed_beside, passed_on};
+ghost use Rattle.tabled_pool.specs.Inherited.{top_left};
 ghost use Rattle.tabled_pool.specs.Plan.{plan_of};
 ghost use Rattle.tabled_pool.specs.Sizes.{EndsWith, measured, sizes_in, sizes_within};
 
-use crate::bordered_text::DrawnBlock;
+use crate::drawn_block::DrawnBlock;
 use crate::inheriting_box::{DrawnBoxes, InheritingBox};
 use crate::piece::Piece;
 use crate::places::{BoxesLeft, Drawing, Rectangle, is_line_kind, leaf_content, take_size};
@@ -181,6 +182,7 @@ fn draw_list(
     inherited: &mut InheritingBox,
     drawn: &mut DrawnBoxes,
 ) -> Result<(), AllocError>
+    requires next { block_sheet_of drawn.old.next.block ≡ no_block }
     requires blocks { drawn.old.blocks.items ≡ [] }
     requires drawn_sizes { drawn.old.sizes.items ≡ [] }
     requires sizes { EndsWith sizes.old.items
@@ -190,9 +192,10 @@ fn draw_list(
     requires fits { Fits (list_box boxes.direction drawing.now.spacing
         (map (box_of drawing.now.spacing) boxes.children.now)) inherited.old.place }
     ensures passed { IfOk result (λ _. passed_on inherited.new
-        ≡ (list_drawer boxes.entry.direction (plan_of drawing.now) drawing.now.spacing
+        ≡ passed_beside (block_sheet_of inherited.old.block)
+        ((list_drawer boxes.entry.direction (plan_of drawing.now) drawing.now.spacing
         (map (drawer (plan_of drawing.now) drawing.now.spacing) boxes.entry.children.now)).draw
-        (inheriting_box inherited.old)) }
+        (inheriting_box inherited.old))) }
     ensures sizes { IfOk result (λ _. sizes.old.items ≡ sizes.new.items
         ++ sizes_in (map (measured drawing.now.spacing) boxes.entry.children.now)) }
 {
@@ -209,6 +212,7 @@ fn draw_list(
     let size = direction.pick(all.width, all.height);
     let count = children.len();
     let mut left = BoxesLeft { size, count };
+    drawn.begin(direction, inherited);
     for child in front {
         let own = take_size(sizes);
         let needed = inherited.pass_to(direction, &mut drawn.next, own, spacing, left)?;
@@ -224,7 +228,8 @@ fn draw_list(
     drawn.join(direction, inherited)
 }
 
-/// Draws a box that needs `own`. Takes the sizes of the boxes in it. Recurses at each level.
+/// Draws a box that needs `own`, at the right of the block that it inherits. Takes the sizes of the
+/// boxes in it. Recurses at each level.
 #[cycle(draws)]
 #[inline(never)]
 #[tactic(auto, using(crate::proofs::Steps::left_first, crate::proofs::Steps::left_all, crate::proofs::Steps::left_count, crate::proofs::NodeSums::nodes_in_push, crate::proofs::NodeSums::nodes_in_at))]
@@ -239,8 +244,9 @@ fn draw_value(
     requires own { IsSize (Some own) (box_of drawing.now.spacing value.now) }
     requires fits { Fits (box_of drawing.now.spacing value.now) inherited.old.place }
     ensures passed { IfOk result (λ _. passed_on inherited.new
-        ≡ (drawer (plan_of drawing.now) drawing.now.spacing value.now).draw
-        (inheriting_box inherited.old)) }
+        ≡ passed_beside (block_sheet_of inherited.old.block)
+        ((drawer (plan_of drawing.now) drawing.now.spacing value.now).draw
+        (inheriting_box inherited.old))) }
     ensures sizes { IfOk result (λ _. sizes.old.items ≡ sizes.new.items
         ++ sizes_within drawing.now.spacing value.now) }
 {

@@ -1,4 +1,4 @@
-use Rattle.tabled_pool.proofs.Names.{List, ap, arith, drop, encode_utf8, fill, inl, inr, run_text, rules, string_bytes, subst, sym, unwrap_or, ℕ, ◌++◌, ◌∙◌, ◌≡◌}
+use Rattle.tabled_pool.proofs.Names.{List, ap, arith, encode_utf8, fill, inl, inr, run_text, rules, string_bytes, subst, sym, unwrap_or, ℕ, ◌++◌, ◌∙◌, ◌≡◌}
 use Rattle.std.proofs.Common.{IfOk, slice_index_or}
 use Rattle.std.proofs.lemmas.List.{drop_all, drop_more}
 use Rattle.tabled_pool.proofs.Splits.{RunFrom, run_ended, run_further, run_stopped, when_ok}

@@ -1,5 +1,5 @@
 use Rattle.tabled_pool.proofs.Names.{fill, map, string_bytes, ◌++◌, ◌≡◌}
-use Rattle.tabled_pool.proofs.bordered_text.push_widened.Given as goal
+use Rattle.tabled_pool.proofs.drawn_block.push_widened.Given as goal
 
 abbrev pub invariant-loop-line : goal.invariant-loop-line
 invariant-loop-line l =
