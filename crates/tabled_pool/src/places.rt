@@ -15,7 +15,7 @@ ghost use Rattle.tabled_pool.specs.declared.places.Kind.TheVariants.{Leaf};
 ghost use Rattle.tabled_text.specs.Measure.{lines_of, text_columns};
 
 use crate::piece::{NOT_KNOWN, Piece};
-use crate::sizes::{BoxSpacing, Direction, Size};
+use crate::sizes::{BoxSpacing, Direction, Size, empty_list};
 use crate::tree::TableValue;
 use std::alloc::{AllocError, Global};
 use std::mem;
@@ -108,12 +108,13 @@ pub struct PieceList<'a> {
 }
 
 impl<'a> PieceList<'a> {
-    /// An empty list for a drawing of `height` lines.
-    pub fn new(alloc: Global, height: usize) -> PieceList<'a>
+    /// An empty list for a drawing of `height` lines, with capacity for `boxes` boxes in others,
+    /// each with a border behind it. The outermost box and the borders around it are five pieces.
+    pub fn new(alloc: Global, height: usize, boxes: usize) -> PieceList<'a>
         ensures { result.pieces.items ≡ [] }
     {
         PieceList {
-            pieces: Vec::new(alloc),
+            pieces: empty_list(alloc, boxes.saturating_mul(2).saturating_add(5)),
             begins: no_pieces(alloc, height),
         }
     }

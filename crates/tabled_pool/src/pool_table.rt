@@ -210,7 +210,7 @@ impl PoolTable {
         ensures { IfOk result (λ list. map shown list.pieces.items ≡ (plan self.now).parts) }
     {
         let sizes = measured.all()?;
-        let list = PieceList::new(self.value.allocator(), size.height);
+        let list = PieceList::new(self.value.allocator(), size.height, sizes.len());
         let mut placer = Placer { list, sizes };
         let frame = frame_of(self.config.get_borders());
         let whole = Rectangle {
@@ -265,7 +265,7 @@ impl PoolTable {
         ensures { WritesPool self.now (S.sent sink.old) result (S.sent sink.new) }
     {
         let value = self.value.inner();
-        let mut measured = SizeList::new(self.value.allocator());
+        let mut measured = SizeList::new(value);
         let Some(size) = self.checked_size(value, &mut measured) else {
             return Err(TableError::Range);
         };

@@ -35,6 +35,13 @@ pub struct Size {
     pub height: usize,
 }
 
+/// An empty list with capacity for `count` items, or without any if that can't be allocated.
+pub fn empty_list<T>(alloc: Global, count: usize) -> Vec<T>
+    ensures { result.items ≡ [] }
+{
+    Vec::with_capacity(alloc, count).unwrap_or_else(|_| Vec::new(alloc))
+}
+
 /// The sizes of the boxes in a tree, so that each text is measured once. The last size is that of
 /// the box to be placed first.
 #[derive(Drop)]
@@ -46,12 +53,14 @@ pub struct SizeList {
 }
 
 impl SizeList {
-    /// An empty list.
-    pub fn new(alloc: Global) -> SizeList
+    /// An empty list for the boxes in a tree. It has capacity for two levels, since a list that
+    /// grows is copied: that of many rows takes megabytes.
+    pub fn new(value: &TableValue) -> SizeList
         ensures { result.sizes.items ≡ [] }
     {
+        let alloc = value.allocator();
         SizeList {
-            sizes: Vec::new(alloc),
+            sizes: empty_list(alloc, value.count_two_levels()),
             is_complete: true,
         }
     }

@@ -44,6 +44,22 @@ impl TableValue {
         }
     }
 
+    fn children(&self) -> &[TableValue] {
+        match self {
+            TableValue::Row(children) | TableValue::Column(children) => children.as_slice(),
+            TableValue::Cell(_) => &[],
+        }
+    }
+
+    /// How many values are in a list and in the lists in it.
+    pub(crate) fn count_two_levels(&self) -> usize {
+        let mut count = self.children().len();
+        for child in self.children() {
+            count = count.saturating_add(child.children().len());
+        }
+        count
+    }
+
     /// Descends through lists of one value, which need no more than that. Returns the text or the
     /// list in them.
     pub(crate) fn inner(&self) -> &TableValue

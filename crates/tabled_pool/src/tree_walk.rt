@@ -282,7 +282,7 @@ pub fn draw_tree(value: &TableValue, drawing: &Drawing<'_, '_>) -> Result<DrawnB
     ensures { IfOk result (λ block. block_sheet_of block
         ≡ inherited_block (plan_of drawing.now) drawing.now.spacing value.now) }
 {
-    let mut measured = SizeList::new(drawing.alloc);
+    let mut measured = SizeList::new(value);
     let Some(own) = measure(value, &drawing.spacing, &mut measured) else {
         unreachable!()
     };
