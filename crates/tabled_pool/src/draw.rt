@@ -1,55 +1,86 @@
 //! Writes one line of a drawing, run by run, and in it the lines of the blocks of texts.
 ghost use Rattle.std.specs.List.{range_with_len};
-ghost use Rattle.std.specs.Prelude.{encode_utf8, flat_map, map};
-ghost use Rattle.std.specs.Prelude.{true, ◌++◌, ◌+◌, ◌<◌, ◌≡◌, ◌≤◌};
+ghost use Rattle.std.specs.Prelude.{List, encode_utf8, flat_map, map, true, ℕ, ◌++◌, ◌+◌, ◌<◌};
+ghost use Rattle.std.specs.Prelude.{◌-◌, ◌≡◌, ◌≤◌};
 ghost use Rattle.tabled_base.specs.Content.{content_text};
-ghost use Rattle.tabled_line.specs.Block.{inner_width};
+ghost use Rattle.tabled_line.specs.Block.{columns_before, inner_width};
 ghost use Rattle.tabled_line.specs.Sent.{Sent, Writes};
-ghost use Rattle.tabled_pool.specs.Block.{leaf_line, text_line, without_sides};
+ghost use Rattle.tabled_pool.specs.Block.{leaf_line, text_line};
 ghost use Rattle.tabled_pool.specs.Boxes.{is_line_kind, part_of, shown};
 ghost use Rattle.tabled_pool.specs.Colours.{marks_of, within_marks};
 ghost use Rattle.tabled_pool.specs.Drawn.{IsRun, drawn_line, part_text, place_text};
 ghost use Rattle.tabled_pool.specs.Plan.{around_of, plan_of};
 ghost use Rattle.tabled_pool.specs.declared.places.Kind.TheVariants.{Leaf};
-ghost use Rattle.tabled_text.specs.Measure.{line_columns};
+ghost use Rattle.tabled_text.specs.Measure.{line_columns, text_columns};
 
 use crate::color_marks::{Marks, draw_colored_fill, marks_at};
 use crate::line_runs::{Line, Run};
 use crate::places::{Drawing, Kind, Rectangle};
 use tabled_base::{Content, TableError};
-use tabled_config::{ANSIStr, CellStyle, Indent, Sides};
-use tabled_line::{CellBlock, TextSink, write_char, write_fill};
+use tabled_config::{CellStyle, Indent, Sides};
+use tabled_line::{CellBlock, TextSink, before_text, write_char, write_fill, write_padded_text};
 
-/// Writes a line of a text with coloured padding.
-fn write_colored_line<S: TextSink>(
-    sink: &mut S,
-    cell: &CellBlock<'_>,
-    colors: &Sides<ANSIStr<'static>>,
-    line: &str,
+/// A line of a text, and what its place depends on.
+#[derive(Clone, Copy)]
+struct TextLine<'t> {
+    line: &'t str,
+    /// The columns that it takes.
     columns: usize,
-) -> Result<(), TableError>
-    requires { columns ≡ line_columns line.now }
-    ensures { Writes (S.sent sink.old) result (S.sent sink.new)
-        (text_line cell.now.style (marks_of colors.now) cell.now.width
-        (content_text cell.now.content) line.now) }
+    /// The columns of the entire text.
+    all: usize,
+}
+
+/// The columns of spaces before and behind a line of a text.
+#[derive(Clone, Copy)]
+struct Spaces {
+    before: usize,
+    behind: usize,
+}
+
+/// Returns the spaces around a line of a text, in `width` columns with the padding.
+fn spaces_around(style: &CellStyle, width: usize, text: &TextLine<'_>) -> Spaces
+    requires { text.now.columns ≡ line_columns text.now.line.now }
+    ensures before { (whole : List ℕ) → text.now.all ≡ text_columns whole → result.before
+        ≡ columns_before style.now (inner_width style.now width) whole text.now.line.now }
+    ensures behind { result.behind ≡ inner_width style.now width - result.before
+        - line_columns text.now.line.now }
 {
-    let Sides { left, right, .. } = cell.style.padding;
-    let Sides { top, bottom, .. } = cell.style.padding;
-    let zero = Indent::zero();
-    let padding = Sides::new(zero, zero, top, bottom);
-    let width = cell.width.saturating_sub(left.size);
-    let inner = CellBlock {
-        style: CellStyle {
-            padding,
-            ..cell.style
-        },
-        width: width.saturating_sub(right.size),
-        height: cell.height,
-        content: cell.content,
+    let Sides { left, right, .. } = style.padding;
+    let inner = width.saturating_sub(left.size).saturating_sub(right.size);
+    let used = if style.line_alignment {
+        text.columns
+    } else {
+        text.all
     };
-    draw_colored_fill(sink, colors.left, left.fill, left.size)?;
-    inner.write_text_line(sink, line, columns)?;
-    draw_colored_fill(sink, colors.right, right.fill, right.size)
+    let before = before_text(style.horizontal, inner.saturating_sub(used));
+    Spaces {
+        before,
+        behind: inner.saturating_sub(before).saturating_sub(text.columns),
+    }
+}
+
+/// Writes a line of a text in `width` columns, with padding and alignment.
+fn draw_text_line<S: TextSink>(
+    sink: &mut S,
+    drawing: &Drawing<'_, '_>,
+    width: usize,
+    text: &TextLine<'_>,
+) -> Result<(), TableError>
+    requires { text.now.columns ≡ line_columns text.now.line.now }
+    ensures { (whole : List ℕ) → text.now.all ≡ text_columns whole
+        → Writes (S.sent sink.old) result (S.sent sink.new) (text_line drawing.now.style
+        (marks_of drawing.now.padding_colors) width whole text.now.line.now) }
+{
+    let padding = &drawing.style.padding;
+    let spaces = spaces_around(&drawing.style, width, text);
+    if drawing.uncolored_padding {
+        return write_padded_text(sink, padding, spaces.before, text.line, spaces.behind);
+    }
+    let colors = &drawing.padding_colors;
+    draw_colored_fill(sink, colors.left, padding.left.fill, padding.left.size)?;
+    let none = Sides::filled(Indent::zero());
+    write_padded_text(sink, &none, spaces.before, text.line, spaces.behind)?;
+    draw_colored_fill(sink, colors.right, padding.right.fill, padding.right.size)
 }
 
 /// Writes line `index` of the block of a text.
@@ -73,25 +104,27 @@ pub fn draw_block_line<S: TextSink>(
     };
     let above = cell.lines_above();
     if index < above {
-        return write_fill(sink, ' ', cell.width);
+        return write_fill(sink, ' ', place.width);
     }
-    let Sides { top, bottom, .. } = cell.style.padding;
+    let Sides { top, bottom, .. } = drawing.style.padding;
     let padded = index - above;
     if padded < top.size {
-        return draw_colored_fill(sink, colors.top, top.fill, cell.width);
+        return draw_colored_fill(sink, colors.top, top.fill, place.width);
     }
     let row = padded - top.size;
-    let Some((line, columns)) = cell.content.line(row) else {
-        let below = row - cell.content.lines;
+    let Some((line, columns)) = content.line(row) else {
+        let below = row - content.lines;
         if below < bottom.size {
-            return draw_colored_fill(sink, colors.bottom, bottom.fill, cell.width);
+            return draw_colored_fill(sink, colors.bottom, bottom.fill, place.width);
         }
-        return write_fill(sink, ' ', cell.width);
+        return write_fill(sink, ' ', place.width);
     };
-    if drawing.uncolored_padding {
-        return cell.write_text_line(sink, line, columns);
-    }
-    write_colored_line(sink, &cell, colors, line, columns)
+    let text = TextLine {
+        line,
+        columns,
+        all: content.columns,
+    };
+    draw_text_line(sink, drawing, place.width, &text)
 }
 
 /// Writes a mark. Most are empty, and need no call.

@@ -4,7 +4,6 @@ use Rattle.tabled_pool.proofs.Names.{◌<◌, ◌≡◌, ◌≤◌}
 use Rattle.tabled_base.specs.Content.{content_text}
 use Rattle.tabled_pool.specs.declared.places.Drawing.{Drawing}
 use Rattle.tabled_pool.specs.Block.{line_below, lines_above}
-use Rattle.tabled_pool.proofs.PlainBlocks.{bare-text_line}
 use Rattle.tabled_pool.proofs.PoolBlocks.{block-above, block-top, block-text, past_from_none, block-below}
 use Rattle.tabled_pool.proofs.draw.draw_block_line.Goals as goal
 
@@ -57,14 +56,6 @@ returns-in_default g c =
 pub returns : goal.returns
 returns g c =
     let a = c.lines_above-above.ensures.value in
-    rw (shown_line c.args.drawing.now c.args.place (content_text c.args.content.now) _ _ (block-text _ _ _ _ _ _ c.in-Some.line.now (rw a at c.if-index-above.false)
-    (rw a at c.if-padded-top.false) (rw a at c.in-Some.ensures.line))) c.write_colored_line.ensures
-
-pub returns-then-drawing : goal.returns-then-drawing
-returns-then-drawing g c =
-    let d = c.args.drawing.now in
-    let a = c.lines_above-above.ensures.value in
-    rw (shown_line d c.args.place (content_text c.args.content.now) _ _ (block-text _ _ _ _ _ _ c.in-Some.line.now (rw a at c.if-index-above.false)
-    (rw a at c.if-padded-top.false) (rw a at c.in-Some.ensures.line))
-    ∙ bare-text_line d.style (marks_of d.padding_colors) c.args.place.width _ c.in-Some.line.now (d.bare_padding c.if-drawing.true))
-    c.write_text_line.ensures
+    let text = content_text c.args.content.now in
+    rw (shown_line c.args.drawing.now c.args.place text _ _ (block-text _ _ _ _ _ _ c.in-Some.line.now (rw a at c.if-index-above.false)
+    (rw a at c.if-padded-top.false) (rw a at c.in-Some.ensures.line))) (c.draw_text_line.ensures text c.args.content.now.columns_are)
