@@ -15,6 +15,7 @@ use Rattle.tabled_pool.specs.declared.places.Kind.TheVariants.{Leaf, Bar, Rule}
 use Rattle.tabled_pool.specs.declared.tree.TableValue.{TableValue}
 use Rattle.tabled_pool.specs.declared.tree.TableValue.TheOpen.{TableValue-F, Row, Column, Cell}
 use Rattle.tabled_pool.specs.declared.tree.TableValue.TheFolds.{fold-TableValue}
+use Rattle.tabled_pool.specs.PieceText.{piece_text}
 use Rattle.tabled_pool.specs.declared.piece.Piece.{Piece}
 use Rattle.tabled_pool.specs.declared.places.BoxesLeft.{BoxesLeft}
 use Rattle.tabled_config.specs.declared.sides.Sides.{Sides}
@@ -144,7 +145,7 @@ is_line_kind Rule = true
 -- ---- pieces as parts, and which rectangles are large enough for a box
 
 abbrev pub shown : Piece → Part
-shown p = part_of p.kind p.place p.text.now
+shown p = part_of p.kind p.place (piece_text p.kind p.value.now)
 
 pub record Fits (b : Box) (r : Rectangle) : Type 0 where
   pub wide : b.width ≤ r.width

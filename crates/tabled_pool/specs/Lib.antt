@@ -5,6 +5,7 @@ pub mod Colours
 pub mod Drawn
 pub mod Inherited
 pub mod Numbers
+pub mod PieceText
 pub mod NewPool
 pub mod Plain
 pub mod Plan

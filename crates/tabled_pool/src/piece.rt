@@ -1,9 +1,11 @@
 //! `Piece`: a text or a border in its rectangle.
 ghost use Rattle.std.specs.Prelude.{length, ◌<◌, ◌≡◌};
 ghost use Rattle.tabled_base.specs.Content.{content_text};
+ghost use Rattle.tabled_pool.specs.PieceText.{own_text, piece_text};
 ghost use Rattle.tabled_text.specs.Measure.{lines_of, text_columns};
 
 use crate::places::{Kind, Rectangle};
+use crate::tree::TableValue;
 use tabled_base::Content;
 
 /// A text or a border, with its rectangle.
@@ -18,24 +20,47 @@ pub struct Piece<'a> {
     pub earlier: u32,
     /// Where it is.
     pub place: Rectangle,
-    /// Its text; a border has none.
-    pub text: &'a str,
-    ghost measured: { columns < 65535
-        → (columns ≡ text_columns text.now) × (1 ≡ length (lines_of text.now)) },
+    /// The value whose text it is, or any other for a border. Tables have many pieces, so they are
+    /// kept small: a text itself would take twice as much.
+    pub value: &'a TableValue,
+    ghost measured: { columns < 65535 → (columns ≡ text_columns (piece_text kind value.now))
+        × (1 ≡ length (lines_of (piece_text kind value.now))) },
 }
 
 /// The columns of a text that is measured when it is drawn.
 pub const NOT_KNOWN: u16 = u16::MAX;
 
+/// Returns the text of a value. A list has none.
+#[inline(always)]
+pub fn own_text(value: &TableValue) -> &str
+    ensures { result.now ≡ own_text value.now }
+{
+    match value {
+        TableValue::Cell(text) => text.as_str(),
+        TableValue::Row(_) | TableValue::Column(_) => "",
+    }
+}
+
 impl<'a> Piece<'a> {
+    #[inline(always)]
+    fn text(&self) -> &'a str
+        ensures { result.now ≡ piece_text self.now.kind self.now.value.now }
+    {
+        match self.kind {
+            Kind::Leaf => own_text(self.value),
+            Kind::Bar | Kind::Rule => "",
+        }
+    }
+
     /// Returns the text with its measures.
     #[inline(always)]
     pub fn content(&self) -> Content<'a>
-        ensures { content_text result ≡ self.now.text.now }
+        ensures { content_text result ≡ piece_text self.now.kind self.now.value.now }
     {
+        let text = self.text();
         if self.columns < NOT_KNOWN {
-            return Content::measured(self.text, self.columns as usize, 1);
+            return Content::measured(text, self.columns as usize, 1);
         }
-        Content::new(self.text)
+        Content::new(text)
     }
 }

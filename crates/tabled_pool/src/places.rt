@@ -10,13 +10,14 @@ ghost use Rattle.tabled_pool.specs.Boxes.{border_kind, border_part, box_along, b
 ghost use Rattle.tabled_pool.specs.Boxes.{framed, given_in, is_line_kind, leaf_box, list_box};
 ghost use Rattle.tabled_pool.specs.Boxes.{part_of, place_along, rest_part, share, shown, sized};
 ghost use Rattle.tabled_pool.specs.Colours.{AreNoMarks, line_marks_of, marks_of, no_mark};
+ghost use Rattle.tabled_pool.specs.PieceText.{own_text, piece_text};
 ghost use Rattle.tabled_pool.specs.Sizes.{EndsWith, sizes_of_all, sizes_within};
 ghost use Rattle.tabled_pool.specs.declared.places.Kind.TheVariants.{Leaf};
 ghost use Rattle.tabled_text.specs.Measure.{lines_of, text_columns};
 
-use crate::piece::{NOT_KNOWN, Piece};
+use crate::piece::{NOT_KNOWN, Piece, own_text};
 use crate::sizes::{BoxSpacing, Direction, Size, empty_list};
-use crate::tree::TableValue;
+use crate::tree::{BoxList, TableValue};
 use std::alloc::{AllocError, Global};
 use std::mem;
 use tabled_base::Content;
@@ -198,13 +199,13 @@ fn place_piece<'a>(
     kind: Kind,
     columns: u16,
     place: Rectangle,
-    text: &'a str,
+    value: &'a TableValue,
     list: &mut PieceList<'a>,
 ) -> Result<(), AllocError>
-    requires { columns < 65535
-        → (columns ≡ text_columns text.now) × (1 ≡ length (lines_of text.now)) }
+    requires { columns < 65535 → (columns ≡ text_columns (piece_text kind value.now))
+        × (1 ≡ length (lines_of (piece_text kind value.now))) }
     ensures { IfOk result (λ _. map shown list.new.pieces.items ≡ map shown list.old.pieces.items
-        ++ (part_of kind place text.now ∷ [])) }
+        ++ (part_of kind place (piece_text kind value.now) ∷ [])) }
 {
     let earlier = list.link(place);
     list.pieces.push(Piece {
@@ -212,36 +213,44 @@ fn place_piece<'a>(
         columns,
         earlier,
         place,
-        text,
+        value,
     })?;
     Ok(())
 }
 
-/// Adds the text of a box.
+/// Adds the text of a value: its own, or none if it is a list.
 fn place_text<'a>(
-    text: &'a str,
+    value: &'a TableValue,
     spacing: &BoxSpacing,
     whole: BoxPlace,
     list: &mut PieceList<'a>,
 ) -> Result<(), AllocError>
-    requires { IsSize (Some whole.own) (leaf_box spacing.now text.now) }
+    requires { IsSize (Some whole.own) (leaf_box spacing.now (own_text value.now)) }
     ensures { IfOk result (λ _. map shown list.new.pieces.items ≡ map shown list.old.pieces.items
-        ++ (part_of Leaf whole.place text.now ∷ [])) }
+        ++ (part_of Leaf whole.place (own_text value.now) ∷ [])) }
 {
-    let content = leaf_content(text, whole.own, spacing);
+    let content = leaf_content(own_text(value), whole.own, spacing);
     let columns = match u16::try_from(content.columns) {
         Ok(columns) if content.lines == 1 => columns,
         _ => NOT_KNOWN,
     };
-    place_piece(Kind::Leaf, columns, whole.place, text, list)
+    place_piece(Kind::Leaf, columns, whole.place, value, list)
 }
 
 /// Adds a border.
-fn place_border(kind: Kind, place: Rectangle, list: &mut PieceList<'_>) -> Result<(), AllocError>
+fn place_border<'a>(
+    direction: Direction,
+    place: Rectangle,
+    value: &'a TableValue,
+    list: &mut PieceList<'a>,
+) -> Result<(), AllocError>
     ensures { IfOk result (λ _. map shown list.new.pieces.items ≡ map shown list.old.pieces.items
-        ++ (part_of kind place [] ∷ [])) }
+        ++ (part_of (border_kind direction) place [] ∷ [])) }
 {
-    place_piece(kind, 0, place, "", list)
+    match direction {
+        Direction::Across => place_piece(Kind::Bar, 0, place, value, list),
+        Direction::Down => place_piece(Kind::Rule, 0, place, value, list),
+    }
 }
 
 /// The boxes of a row or a column that are still to be placed.
@@ -333,29 +342,33 @@ pub fn take_size(sizes: &mut Vec<Size>) -> Size
 #[cycle(places)]
 #[tactic(auto, using(crate::proofs::Steps::left_first, crate::proofs::Steps::left_all, crate::proofs::Steps::left_count, crate::proofs::NodeSums::nodes_in_push, crate::proofs::NodeSums::nodes_in_at))]
 fn place_list<'a>(
-    direction: Direction,
-    children: &'a [TableValue],
+    boxes: BoxList<'a>,
+    value: &'a TableValue,
     spacing: &BoxSpacing,
     whole: BoxPlace,
     placer: &mut Placer<'a>,
 ) -> Result<(), AllocError>
-    requires sizes { EndsWith placer.old.sizes.items (sizes_of_all spacing.now children.now) }
+    requires list { own_text value.now ≡ [] }
+    requires sizes { EndsWith placer.old.sizes.items (sizes_of_all spacing.now boxes.children.now) }
     requires own { IsSize (Some whole.own)
-        (list_box direction spacing.now (map (box_of spacing.now) children.now)) }
-    requires fits { Fits (list_box direction spacing.now (map (box_of spacing.now) children.now))
+        (list_box boxes.direction spacing.now (map (box_of spacing.now) boxes.children.now)) }
+    requires fits { Fits (list_box boxes.direction spacing.now (map (box_of spacing.now) boxes.children.now))
         whole.place }
     ensures pieces { IfOk result (λ _. map shown placer.new.list.pieces.items
         ≡ map shown placer.old.list.pieces.items
-        ++ (list_box direction spacing.now (map (box_of spacing.now) children.now)).parts
+        ++ (list_box boxes.entry.direction spacing.now (map (box_of spacing.now) boxes.entry.children.now)).parts
         whole.place) }
     ensures sizes { IfOk result (λ _. placer.old.sizes.items
-        ≡ placer.new.sizes.items ++ sizes_of_all spacing.now children.now) }
+        ≡ placer.new.sizes.items ++ sizes_of_all spacing.now boxes.entry.children.now) }
 {
+    let BoxList {
+        direction,
+        children,
+    } = boxes;
     let Some((last, front)) = children.split_last() else {
-        return place_text("", spacing, whole, &mut placer.list);
+        return place_text(value, spacing, whole, &mut placer.list);
     };
     let border = direction.pick(spacing.bar, spacing.rule);
-    let kind = direction.pick(Kind::Bar, Kind::Rule);
     let size = direction.pick(whole.own.width, whole.own.height);
     let count = children.len();
     let mut left = BoxesLeft { size, count };
@@ -364,7 +377,7 @@ fn place_list<'a>(
         let own = take_size(&mut placer.sizes);
         let cut = split(direction, own, spacing, left, place);
         place_value(child, spacing, cut.given, placer)?;
-        place_border(kind, cut.line, &mut placer.list)?;
+        place_border(direction, cut.line, value, &mut placer.list)?;
         left.size -= cut.own + border;
         left.count -= 1;
         place = cut.rest;
@@ -392,15 +405,22 @@ pub fn place_value<'a>(
     ensures sizes { IfOk result (λ _. placer.old.sizes.items
         ≡ placer.new.sizes.items ++ sizes_within spacing.now value.now) }
 {
-    match value.inner() {
-        TableValue::Cell(text) => { place_text(text.as_str(), spacing, whole, &mut placer.list) }
+    let inner = value.inner();
+    match inner {
+        TableValue::Cell(_) => place_text(inner, spacing, whole, &mut placer.list),
         TableValue::Row(children) => {
-            let children = children.as_slice();
-            place_list(Direction::Across, children, spacing, whole, placer)
+            let boxes = BoxList {
+                direction: Direction::Across,
+                children: children.as_slice(),
+            };
+            place_list(boxes, inner, spacing, whole, placer)
         }
         TableValue::Column(children) => {
-            let children = children.as_slice();
-            place_list(Direction::Down, children, spacing, whole, placer)
+            let boxes = BoxList {
+                direction: Direction::Down,
+                children: children.as_slice(),
+            };
+            place_list(boxes, inner, spacing, whole, placer)
         }
     }
 }
@@ -438,10 +458,10 @@ pub fn place_tree<'a>(
     let place = below.first_part(Direction::Down, height);
     let own = Size { width, height };
     let bottom = below.rest_part(Direction::Down, height);
-    place_border(Kind::Bar, left, &mut placer.list)?;
-    place_border(Kind::Bar, right, &mut placer.list)?;
-    place_border(Kind::Rule, top, &mut placer.list)?;
-    place_border(Kind::Rule, bottom, &mut placer.list)?;
+    place_border(Direction::Across, left, value, &mut placer.list)?;
+    place_border(Direction::Across, right, value, &mut placer.list)?;
+    place_border(Direction::Down, top, value, &mut placer.list)?;
+    place_border(Direction::Down, bottom, value, &mut placer.list)?;
     place_value(value, spacing, BoxPlace { own, place }, placer)?;
     Ok(())
 }

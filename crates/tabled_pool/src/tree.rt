@@ -5,6 +5,7 @@ ghost use Rattle.tabled_base.specs.declared.error.TableError.TheVariants.{Memory
 ghost use Rattle.tabled_pool.specs.Tree.{IsBegun, IsInner, IsOnlyChild, child_count};
 ghost use Rattle.tabled_pool.specs.Tree.{left_in, list, nodes, nodes_in, tree_of, within};
 
+use crate::sizes::Direction;
 use std::alloc::{AllocError, Global};
 use tabled_base::TableError;
 
@@ -20,6 +21,13 @@ pub enum TableValue {
     Column(Vec<TableValue>),
     /// One text.
     Cell(String),
+}
+
+/// Boxes side by side or below each other.
+#[derive(Clone, Copy)]
+pub struct BoxList<'v> {
+    pub direction: Direction,
+    pub children: &'v [TableValue],
 }
 
 impl TableValue {

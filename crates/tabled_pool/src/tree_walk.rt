@@ -15,7 +15,7 @@ use crate::inheriting_box::{DrawnBoxes, InheritingBox};
 use crate::piece::Piece;
 use crate::places::{BoxesLeft, Drawing, Rectangle, is_line_kind, leaf_content, take_size};
 use crate::sizes::{Direction, Size, SizeList, measure};
-use crate::tree::TableValue;
+use crate::tree::{BoxList, TableValue};
 use std::alloc::AllocError;
 use tabled_base::Content;
 use tabled_config::{Borders, Sides};
@@ -150,13 +150,6 @@ pub fn has_zero_width(pieces: &[Piece<'_>]) -> bool
         }
     }
     false
-}
-
-/// Boxes side by side or below each other.
-#[derive(Clone, Copy)]
-pub struct BoxList<'v> {
-    pub direction: Direction,
-    pub children: &'v [TableValue],
 }
 
 /// Takes the size of the last box of a list, which has those in `front` before it. If these are

@@ -4,3 +4,6 @@ use Rattle.tabled_pool.proofs.places.place_border.Goals as goal
 
 pub place_piece-requires : goal.place_piece-requires
 place_piece-requires c = λ h. (sym text_columns-nil, refl)
+
+pub place_piece-requires-in-Down : goal.place_piece-requires-in-Down
+place_piece-requires-in-Down c = λ h. (sym text_columns-nil, refl)
