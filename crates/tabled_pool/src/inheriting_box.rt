@@ -193,6 +193,13 @@ impl DrawnBoxes {
         Ok(Box::new(alloc, drawn)?)
     }
 
+    /// Drops boxes that are drawn. Not inlined either: the stack frame of the walk would have all
+    /// that is dropped.
+    #[inline(never)]
+    pub fn finish(boxes: Box<DrawnBoxes>) {
+        mem::drop(boxes);
+    }
+
     /// Begins with the block that a row is drawn at the right of.
     #[inline(never)]
     pub fn begin(&mut self, direction: Direction, all: &mut InheritingBox)

@@ -222,12 +222,12 @@ fn place_piece<'a>(
 fn place_text<'a>(
     value: &'a TableValue,
     spacing: &BoxSpacing,
-    whole: BoxPlace,
+    whole: &BoxPlace,
     list: &mut PieceList<'a>,
 ) -> Result<(), AllocError>
-    requires { IsSize (Some whole.own) (leaf_box spacing.now (own_text value.now)) }
+    requires { IsSize (Some whole.now.own) (leaf_box spacing.now (own_text value.now)) }
     ensures { IfOk result (λ _. map shown list.new.pieces.items ≡ map shown list.old.pieces.items
-        ++ (part_of Leaf whole.place (own_text value.now) ∷ [])) }
+        ++ (part_of Leaf whole.now.place (own_text value.now) ∷ [])) }
 {
     let content = leaf_content(own_text(value), whole.own, spacing);
     let columns = match u16::try_from(content.columns) {
@@ -345,19 +345,19 @@ fn place_list<'a>(
     boxes: BoxList<'a>,
     value: &'a TableValue,
     spacing: &BoxSpacing,
-    whole: BoxPlace,
+    whole: &BoxPlace,
     placer: &mut Placer<'a>,
 ) -> Result<(), AllocError>
     requires list { own_text value.now ≡ [] }
     requires sizes { EndsWith placer.old.sizes.items (sizes_of_all spacing.now boxes.children.now) }
-    requires own { IsSize (Some whole.own)
+    requires own { IsSize (Some whole.now.own)
         (list_box boxes.direction spacing.now (map (box_of spacing.now) boxes.children.now)) }
     requires fits { Fits (list_box boxes.direction spacing.now (map (box_of spacing.now) boxes.children.now))
-        whole.place }
+        whole.now.place }
     ensures pieces { IfOk result (λ _. map shown placer.new.list.pieces.items
         ≡ map shown placer.old.list.pieces.items
         ++ (list_box boxes.entry.direction spacing.now (map (box_of spacing.now) boxes.entry.children.now)).parts
-        whole.place) }
+        whole.now.place) }
     ensures sizes { IfOk result (λ _. placer.old.sizes.items
         ≡ placer.new.sizes.items ++ sizes_of_all spacing.now boxes.entry.children.now) }
 {
@@ -376,14 +376,17 @@ fn place_list<'a>(
     for child in front {
         let own = take_size(&mut placer.sizes);
         let cut = split(direction, own, spacing, left, place);
-        place_value(child, spacing, cut.given, placer)?;
+        // A copy, so that the stack frame has no more of `cut`.
+        let given = cut.given;
+        place_value(child, spacing, &given, placer)?;
         place_border(direction, cut.line, value, &mut placer.list)?;
         left.size -= cut.own + border;
         left.count -= 1;
         place = cut.rest;
     }
     let own = take_size(&mut placer.sizes);
-    place_value(last, spacing, BoxPlace { own, place }, placer)
+    let given = BoxPlace { own, place };
+    place_value(last, spacing, &given, placer)
 }
 
 /// Adds the texts of a tree and the borders between its boxes. Recurses at each level of several
@@ -393,15 +396,15 @@ fn place_list<'a>(
 pub fn place_value<'a>(
     value: &'a TableValue,
     spacing: &BoxSpacing,
-    whole: BoxPlace,
+    whole: &BoxPlace,
     placer: &mut Placer<'a>,
 ) -> Result<(), AllocError>
     requires sizes { EndsWith placer.old.sizes.items (sizes_within spacing.now value.now) }
-    requires own { IsSize (Some whole.own) (box_of spacing.now value.now) }
-    requires fits { Fits (box_of spacing.now value.now) whole.place }
+    requires own { IsSize (Some whole.now.own) (box_of spacing.now value.now) }
+    requires fits { Fits (box_of spacing.now value.now) whole.now.place }
     ensures pieces { IfOk result (λ _. map shown placer.new.list.pieces.items
         ≡ map shown placer.old.list.pieces.items
-        ++ (box_of spacing.now value.now).parts whole.place) }
+        ++ (box_of spacing.now value.now).parts whole.now.place) }
     ensures sizes { IfOk result (λ _. placer.old.sizes.items
         ≡ placer.new.sizes.items ++ sizes_within spacing.now value.now) }
 {
@@ -462,6 +465,6 @@ pub fn place_tree<'a>(
     place_border(Direction::Across, right, value, &mut placer.list)?;
     place_border(Direction::Down, top, value, &mut placer.list)?;
     place_border(Direction::Down, bottom, value, &mut placer.list)?;
-    place_value(value, spacing, BoxPlace { own, place }, placer)?;
+    place_value(value, spacing, &BoxPlace { own, place }, placer)?;
     Ok(())
 }

@@ -254,7 +254,9 @@ fn draw_value(
                 direction: Direction::Across,
                 children: children.as_slice(),
             };
-            draw_list(boxes, drawing, sizes, inherited, &mut drawn)
+            let result = draw_list(boxes, drawing, sizes, inherited, &mut drawn);
+            DrawnBoxes::finish(drawn);
+            result
         }
         TableValue::Column(children) => {
             let mut drawn = DrawnBoxes::boxed(drawing.alloc, own, inherited.place)?;
@@ -262,7 +264,9 @@ fn draw_value(
                 direction: Direction::Down,
                 children: children.as_slice(),
             };
-            draw_list(boxes, drawing, sizes, inherited, &mut drawn)
+            let result = draw_list(boxes, drawing, sizes, inherited, &mut drawn);
+            DrawnBoxes::finish(drawn);
+            result
         }
     }
 }

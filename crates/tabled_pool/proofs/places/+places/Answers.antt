@@ -113,8 +113,8 @@ place_value-place_list-requires t c =
     let fewer : 2 * nodes_in vs + 1 < 2 * nodes c.args.value.now = omega (arith, n, c.inner-inner.ensures.same.fewer) in
     let sizes : EndsWith c.args.placer.now.sizes.items (sizes_of_all g vs) = subst (EndsWith c.args.placer.now.sizes.items) (sym same) c.requires.sizes in
     let none : own_text c.inner-inner.result.now ≡ [] = search (rules, the_lemmas) in
-    let own : IsSize (Some c.args.whole.own) (box_of g c.inner-inner.result.now) = rw e at c.requires.own in
-    let fits : Fits (box_of g c.inner-inner.result.now) c.args.whole.place = rw e at c.requires.fits in
+    let own : IsSize (Some c.args.whole.now.own) (box_of g c.inner-inner.result.now) = rw e at c.requires.own in
+    let fits : Fits (box_of g c.inner-inner.result.now) c.args.whole.now.place = rw e at c.requires.fits in
     search (rules, the_lemmas)
 
 pub place_value-place_list-requires-in-Column : goal.place_value-place_list-requires-in-Column
@@ -129,8 +129,8 @@ place_value-place_list-requires-in-Column t c =
     let fewer : 2 * nodes_in vs + 1 < 2 * nodes c.args.value.now = omega (arith, n, c.inner-inner.ensures.same.fewer) in
     let sizes : EndsWith c.args.placer.now.sizes.items (sizes_of_all g vs) = subst (EndsWith c.args.placer.now.sizes.items) (sym same) c.requires.sizes in
     let none : own_text c.inner-inner.result.now ≡ [] = search (rules, the_lemmas) in
-    let own : IsSize (Some c.args.whole.own) (box_of g c.inner-inner.result.now) = rw e at c.requires.own in
-    let fits : Fits (box_of g c.inner-inner.result.now) c.args.whole.place = rw e at c.requires.fits in
+    let own : IsSize (Some c.args.whole.now.own) (box_of g c.inner-inner.result.now) = rw e at c.requires.own in
+    let fits : Fits (box_of g c.inner-inner.result.now) c.args.whole.now.place = rw e at c.requires.fits in
     search (rules, the_lemmas)
 
 pub place_value-returns-in-Cell-clause-pieces : goal.place_value-returns-in-Cell-clause-pieces
@@ -170,6 +170,6 @@ place_value-returns-in-Column-clause-sizes t c =
 
 pub place_value-place_text-requires : goal.place_value-place_text-requires
 place_value-place_text-requires t c =
-    let own : IsSize (Some c.args.whole.own) (box_of c.args.spacing.now c.inner-inner.result.now) =
+    let own : IsSize (Some c.args.whole.now.own) (box_of c.args.spacing.now c.inner-inner.result.now) =
     rw (c.inner-inner.ensures.same.box c.args.spacing.now) at c.requires.own in
     search (rules, the_lemmas)

@@ -64,15 +64,15 @@ draw_list-returns-clause-sizes t c =
     c.take_last_size-own.ensures.other in
     in_any_case c.join.result (n.next _ c.in_ok-draw_value-2.ensures.sizes)
 
-pub draw_value-draw_list-requires : goal.draw_value-draw_list-requires
-draw_value-draw_list-requires t c =
+pub draw_value-draw_list-result-requires : goal.draw_value-draw_list-result-requires
+draw_value-draw_list-result-requires t c =
     let vs = c.as_slice.result.now in
     let n : nodes c.args.value.now ≡ nodes_in vs + 1 = search (rules, the_lemmas) in
     let fewer : 2 * nodes_in vs + 1 < 2 * nodes c.args.value.now = omega (arith, n) in
     search (rules, the_lemmas)
 
-pub draw_value-draw_list-requires-in-Column : goal.draw_value-draw_list-requires-in-Column
-draw_value-draw_list-requires-in-Column t c =
+pub draw_value-draw_list-result-requires-in-Column : goal.draw_value-draw_list-result-requires-in-Column
+draw_value-draw_list-result-requires-in-Column t c =
     let vs = c.as_slice-in-Column.result.now in
     let n : nodes c.args.value.now ≡ nodes_in vs + 1 = search (rules, the_lemmas) in
     let fewer : 2 * nodes_in vs + 1 < 2 * nodes c.args.value.now = omega (arith, n) in
