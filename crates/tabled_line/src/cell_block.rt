@@ -111,7 +111,7 @@ impl<'a> CellBlock<'a> {
     }
 
     /// Returns how many lines of the block come before the text.
-    pub(crate) fn text_start(&self) -> usize
+    pub fn text_start(&self) -> usize
         ensures { result ≡ fill_above self.now.style self.now.height (content_text self.now.content) }
     {
         // In range, since alignment adds at most the height less the padding.

@@ -14,7 +14,7 @@ pub struct Cursor<'a> {
     /// How many lines of the row come before the text.
     above: usize,
     /// The line and its width in columns. `None` above and below the text.
-    pub(crate) line: Option<(&'a str, usize)>,
+    pub line: Option<(&'a str, usize)>,
     /// The text from its next line on, if it has one.
     rest: Option<&'a str>,
     /// What ends the lines of the text.
@@ -42,7 +42,7 @@ impl<'a> Cursor<'a> {
 
     /// Returns the cursor of a text in the first line of a row. `above` lines come before the text.
     #[inline(always)]
-    pub(crate) fn new(content: &Content<'a>, above: usize) -> Cursor<'a>
+    pub fn new(content: &Content<'a>, above: usize) -> Cursor<'a>
         ensures { IsAt (content_text content.now) above 0 result }
     {
         if above == 0 && content.lines == 1 {
@@ -67,7 +67,7 @@ impl<'a> Cursor<'a> {
 
     /// Moves to the next line of the row.
     #[inline(always)]
-    pub(crate) fn advance(&mut self)
+    pub fn advance(&mut self)
         ensures { (text : List ℕ) (above index : ℕ) → IsAhead text above index self.old
             → IsAt text above index self.new }
     {
