@@ -10,7 +10,10 @@ with `rt run`. It runs anew for each table:
 - boxes: rows of ten texts, drawn as boxes;
 - zero-width: rows of ten texts without padding, one of which is given no columns, so that the boxes are drawn
   one by one and joined;
+- tall: two texts of so many lines, and a short one between them;
+- zero-tall: the same without padding, beside a text that is given no columns;
 - levels: a text in levels of rows and columns that each have one more text;
+- zero-levels: the same without padding, around a text that is given no columns;
 - nested: a text in levels of rows and columns that have nothing else.
 
 Printing a nested level takes the same few instructions, whatever the number of levels, and one read
@@ -35,7 +38,10 @@ TABLES = {
     "records": (100, 1_000, 10_000),
     "boxes": (100, 300, 1_000, 3_000, 30_000),
     "zero-width": (100, 3_000, 30_000),
+    "tall": (2_000, 20_000),
+    "zero-tall": (2_000, 20_000),
     "levels": (30, 100, 300, 1_000),
+    "zero-levels": (300, 1_000),
     "nested": (300_000, 3_000_000),
 }
 
@@ -45,12 +51,19 @@ BOX_TIME = 15
 BOX_SHARE = 1.3
 # The same for rows with a text that is given no columns: three times as much.
 ZERO_WIDTH_TIME = 45
-# The most levels: nanoseconds a byte. Ten times as many nested levels: their time to that of the fewer.
+# Texts of many lines: nanoseconds a byte, those to the nanoseconds a byte of fewer lines, and the same with a text that is
+# given no columns.
+TALL_TIME = 15
+ZERO_TALL_TIME = 45
+TALL_SHARE = 1.3
+# The most levels: nanoseconds a byte, and the same with a text that is given no columns, where each row copies the lines of
+# the boxes in it. Ten times as many nested levels: their time to that of the fewer.
 LEVEL_TIME = 60
+ZERO_LEVEL_TIME = 180
 NESTED_SHARE = 13
 
 PROGRAM = """\
-//! Prints a table of so many records, rows of boxes or levels to a writer that counts.
+//! Prints a table of so many records, rows of boxes, lines or levels to a writer that counts.
 #![tactic(auto)]
 
 use std::alloc::Global;
@@ -120,17 +133,34 @@ fn records(alloc: Global, count: usize) -> Result<ExtendedTable, TableError> {
     ExtendedTable::from_rows(alloc, named)
 }
 
-fn cell(alloc: Global) -> Result<TableValue, TableError> {
-    Ok(TableValue::Cell(String::from_str(alloc, "a")?))
+fn cell(alloc: Global, text: &str) -> Result<TableValue, TableError> {
+    Ok(TableValue::Cell(String::from_str(alloc, text)?))
+}
+
+// A row of two texts of so many lines with a short one between, or with one that is given no columns.
+fn tall(alloc: Global, count: usize, has_zero: bool) -> Result<PoolTable, TableError> {
+    let mut text = String::from_str(alloc, "a weir")?;
+    for _line in 1..count {
+        text.push_str("\\nby the sea")?;
+    }
+    let mut children = Vec::new(alloc);
+    children.push(cell(alloc, text.as_str())?)?;
+    children.push(cell(alloc, if has_zero { "" } else { "a" })?)?;
+    children.push(TableValue::Cell(text))?;
+    let mut table = PoolTable::from_value(TableValue::Row(children));
+    if has_zero {
+        table.with(Padding::zero())?;
+    }
+    Ok(table)
 }
 
 // A text in so many rows and columns, each of which has one more text if they are wide.
-fn levels(alloc: Global, count: usize, is_wide: bool) -> Result<PoolTable, TableError> {
-    let mut value = cell(alloc)?;
+fn levels(alloc: Global, text: &str, count: usize, is_wide: bool) -> Result<PoolTable, TableError> {
+    let mut value = cell(alloc, text)?;
     for level in 0..count {
         let mut children = Vec::new(alloc);
         if is_wide {
-            children.push(cell(alloc)?)?;
+            children.push(cell(alloc, "a")?)?;
         }
         children.push(value)?;
         value = if level % 2 == 0 {
@@ -140,6 +170,13 @@ fn levels(alloc: Global, count: usize, is_wide: bool) -> Result<PoolTable, Table
         };
     }
     Ok(PoolTable::from_value(value))
+}
+
+// The same around a text that is given no columns.
+fn zero_levels(alloc: Global, count: usize) -> Result<PoolTable, TableError> {
+    let mut table = levels(alloc, "", count, true)?;
+    table.with(Padding::zero())?;
+    Ok(table)
 }
 
 // The nanoseconds that printing takes.
@@ -156,8 +193,12 @@ fn timed(rt: &HostRuntime, kind: &str, count: usize, counter: &mut Counter) -> R
         PoolTable::new(alloc, rows(alloc, count)?)?
     } else if kind == "zero-width" {
         zero_width(alloc, count)?
+    } else if kind == "tall" || kind == "zero-tall" {
+        tall(alloc, count, kind == "zero-tall")?
+    } else if kind == "zero-levels" {
+        zero_levels(alloc, count)?
     } else {
-        levels(alloc, count, kind == "levels")?
+        levels(alloc, "a", count, kind == "levels")?
     };
     let start = Instant::now(rt)?;
     table.write_to(&mut sink)?;
@@ -202,7 +243,7 @@ def run(program, kind, count):
             peak = peak_of(process)
         process.stdin.close()
         if process.wait() != 0 or not line:
-            print(f"{kind:10} {count:>7}  ended with {process.returncode}", flush=True)
+            print(f"{kind:11} {count:>7}  ended with {process.returncode}", flush=True)
             return None
     time, size = map(int, line.split())
     return time, size, peak
@@ -219,7 +260,7 @@ def measure(program, kind, count):
         runs.append(found)
     time, size, peak = min(time for time, _, _ in runs), runs[0][1], max(peak for _, _, peak in runs)
     print(
-        f"{kind:10} {count:>7}  {size:>9} bytes  {time / 1e6:9.2f} ms"
+        f"{kind:11} {count:>7}  {size:>9} bytes  {time / 1e6:9.2f} ms"
         f"  {time / size:8.1f} ns a byte  {peak / 1e6:7.2f} MB",
         flush=True,
     )
@@ -249,8 +290,14 @@ def judge(found):
         held.append(holds(f"{count} rows of boxes, to the fewest rows", share, BOX_SHARE))
     for count in BOX_COUNTS:
         held.append(holds(f"{count} rows with a zero-width text, ns a byte", a_byte["zero-width", count], ZERO_WIDTH_TIME))
+    for kind, most in (("tall", TALL_TIME), ("zero-tall", ZERO_TALL_TIME)):
+        fewer, more = TABLES[kind]
+        share = ratio(a_byte[kind, more], a_byte[kind, fewer])
+        held.append(holds(f"{kind}, {more} lines, ns a byte", a_byte[kind, more], most))
+        held.append(holds(f"{kind}, {more} lines, to {fewer}", share, TALL_SHARE))
     most = TABLES["levels"][-1]
     held.append(holds(f"{most} levels, ns a byte", a_byte["levels", most], LEVEL_TIME))
+    held.append(holds(f"{most} levels with a zero-width text, ns a byte", a_byte["zero-levels", most], ZERO_LEVEL_TIME))
     fewer, more = TABLES["nested"]
     share = ratio(times["nested", more], times["nested", fewer])
     held.append(holds(f"{more} nested levels, to {fewer}", share, NESTED_SHARE))

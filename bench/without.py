@@ -27,6 +27,8 @@ PATHS = {
     "placements": ("tabled_grid/src/print.rt", ("FEW_PLACEMENTS: usize = 128;", "FEW_PLACEMENTS: usize = 1;")),
     # Tables of few columns have few cursors.
     "cursors": ("tabled_grid/src/print.rt", ("FEW_CURSORS: usize = 8;", "FEW_CURSORS: usize = 1_024;")),
+    # Texts of several lines in boxes have cursors. For `boxes.py`.
+    "tall": ("tabled_pool/src/tall_texts.rt", (".columns == NOT_KNOWN {", ".columns == NOT_KNOWN && y == usize::MAX {")),
     # The bar between two texts is kept with spaces around it.
     "separator": ("tabled_line/src/column_separator.rt", ("ColumnSeparator { bar, buffer, whole }", "ColumnSeparator { bar, buffer, whole: whole && false }")),
     # Spaces and dashes are written 64 at a time.

@@ -1,6 +1,6 @@
 -- Blocks beside each other.
-use Rattle.tabled_pool.proofs.Names.{BlockSheet, DrawingPlan, InheritedSheet, List, [], add-one, ap, append-nil, append_assoc, arith, block_sheet_of, drawn_block_line, drop, fill, flat_map}
-use Rattle.tabled_pool.proofs.Names.{get_or, get_or-map-range_with_len, if◌then◌else◌, inl, inr, length, length-map-range_with_len, ltb, map, max}
+use Rattle.tabled_pool.proofs.Names.{BlockSheet, DrawingPlan, InheritedSheet, List, [], ap, append-nil, append_assoc, arith, block_sheet_of, drawn_block_line, drop, fill, flat_map}
+use Rattle.tabled_pool.proofs.Names.{get_or, get_or-map-range_with_len, inl, inr, length, length-map-range_with_len, map, max}
 use Rattle.tabled_pool.proofs.Names.{nat_tests, range_with_len, refl, string_bytes, sym, zero, suc, ℕ, ⊎_elim, ◌++◌, ◌+◌, ◌-◌, ◌<◌, ◌∙◌, ◌∷◌, ◌≡◌, ◌≤◌, ◌⊎◌}
 use Rattle.std.proofs.Common.{slice_set}
 use Rattle.std.proofs.lemmas.Bool.{cases_order}

@@ -1,6 +1,6 @@
 -- The lines of the block of a text with the borders that it draws.
 use Rattle.tabled_pool.proofs.Names.{Bool, Borders, DrawingPlan, InheritedSheet, List, [], ap, arith, false, get_or, get_or-map-range_with_len, inner_text, length}
-use Rattle.tabled_pool.proofs.Names.{length-map-range_with_len, map, range_with_len, refl, sym, true, zero, suc, ℕ, ◌++◌, ◌+◌, ◌-◌, ◌<◌, ◌∙◌, ◌∷◌, ◌≡◌, ◌≤◌}
+use Rattle.tabled_pool.proofs.Names.{length-map-range_with_len, map, range_with_len, refl, true, zero, suc, ℕ, ◌++◌, ◌+◌, ◌-◌, ◌<◌, ◌∙◌, ◌≡◌, ◌≤◌}
 use Rattle.std.proofs.lemmas.List.{get_or-append_right, get_or_append_left, length-append}
 use Rattle.tabled_priority.specs.Sums.{one_if}
 use Rattle.tabled_pool.specs.Inherited.{bottom_text, is_bottom, is_left, is_right, is_top, line_if, top_text}

@@ -1,5 +1,5 @@
 -- The boxes of a row or a column that are drawn so far.
-use Rattle.tabled_pool.proofs.Names.{Across, BlockSheet, Direction, Down, List, [], ap, pick, refl, ℕ, ◌++◌, ◌∙◌, ◌∷◌, ◌≡◌}
+use Rattle.tabled_pool.proofs.Names.{Across, BlockSheet, Direction, Down, List, [], ap, pick, ℕ, ◌++◌, ◌∙◌, ◌∷◌, ◌≡◌}
 use Rattle.tabled_pool.specs.Inherited.{Children, PassedOn, beside, joined, no_block, passed_beside, side_by_side, stacked}
 use Rattle.tabled_pool.proofs.Besides.{beside_nothing, none_beside, one_more_beside}
 use Rattle.tabled_pool.proofs.Drawers.{ListWalk}

@@ -33,6 +33,7 @@ pub mod Steps
 pub mod StraightPools
 pub mod Sums
 pub mod TakenSizes
+pub mod TallCursors
 pub mod Tiles
 pub mod Tiling
 pub mod Totals

@@ -1,5 +1,5 @@
 -- Sizes that boxes take of a list.
-use Rattle.tabled_pool.proofs.Names.{List, [], ap, append-nil, arith, drop, nat_tests, refl, sym, true, zero, ℕ, ◌++◌, ◌∙◌, ◌∷◌, ◌≡◌}
+use Rattle.tabled_pool.proofs.Names.{List, [], ap, append-nil, arith, drop, nat_tests, sym, true, ℕ, ◌++◌, ◌∙◌, ◌∷◌, ◌≡◌}
 use Rattle.tabled_pool.specs.Inherited.{Taken, taken}
 
 pub taken_met : (size e : ℕ) (es : List ℕ) → e ≡ size → taken size (e ∷ es) ≡ record { part = []; rest = es; met = true }

@@ -23,6 +23,9 @@ use Rattle.tabled_pool.specs.declared.tree_walk.Flags.{Flags}
 use Rattle.tabled_pool.specs.Colours.{Around, alone, begun, ended, used_after, within_marks, Mark}
 use Rattle.tabled_pool.specs.Block.{leaf_line}
 use Rattle.tabled_pool.specs.Plan.{DrawingPlan, plan_of}
+use Rattle.tabled_pool.specs.TallTexts.{IsInPlace}
+use Rattle.tabled_base.specs.Content.{content_text}
+use Rattle.tabled_line.specs.declared.cursor.Cursor.{Cursor}
 use Rattle.tabled_pool.specs.declared.inheriting_box.InheritingBox.{InheritingBox}
 use Rattle.tabled_pool.specs.declared.bordered_text.BorderedText.{BorderedText}
 use Rattle.tabled_pool.specs.declared.inherited_sizes.InheritedSizes.{InheritedSizes}
@@ -373,3 +376,8 @@ plan_for b = plan_of b.drawing.now
 
 abbrev pub inherited_by : BorderedText → InheritedSheet
 inherited_by b = inheriting_box b.inherited.now
+
+-- a cursor in its text is in line `index` of its rectangle
+abbrev pub IsInText : BorderedText → ℕ → Cursor → Type 0
+IsInText b index cursor =
+    IsInPlace b.drawing.now.style b.inherited.now.place (content_text b.content.now) index cursor

@@ -12,4 +12,5 @@ pub mod Plan
 pub mod Pool
 pub mod Sizes
 pub mod TableLines
+pub mod TallTexts
 pub mod Tree

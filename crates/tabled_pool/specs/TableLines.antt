@@ -11,6 +11,8 @@ use Rattle.tabled_pool.specs.Inherited.{BlockSheet, block_sheet_of}
 use Rattle.tabled_pool.specs.Numbers.{AreSized}
 use Rattle.tabled_pool.specs.Plan.{plan_of}
 use Rattle.tabled_pool.specs.Boxes.{shown}
+use Rattle.tabled_pool.specs.TallTexts.{AreTall}
+use Rattle.tabled_pool.specs.declared.sweep.Sweep.{Sweep}
 
 abbrev pub sheet_of : TableLines → BlockSheet
 sheet_of (Placed d) = record { width = d.now.width; lines = drawn (plan_of d.now) }
@@ -20,6 +22,11 @@ sheet_of (Drawn b) = block_sheet_of b.now
 abbrev pub AreSizedLines : TableLines → Type 0
 AreSizedLines (Placed d) = AreSized (map shown d.now.pieces.now)
 AreSizedLines (Drawn b) = Unit {0}
+
+-- the texts of several lines have their cursors in line y
+abbrev pub IsSwept : TableLines → ℕ → Sweep → Type 0
+IsSwept (Placed d) y sweep = AreTall (plan_of d.now) y sweep.texts
+IsSwept (Drawn b) y sweep = Unit {0}
 
 abbrev pub content_of : LineContent → List ℕ
 content_of (content.Fill color c width) = coloured (mark_of color) (fill c width)

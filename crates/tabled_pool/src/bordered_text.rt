@@ -1,14 +1,15 @@
 //! The lines of one text with the borders that it draws.
 ghost use Rattle.std.specs.Prelude.{IfOk, MatchOption, None, [], if◌then◌else◌, length, map, option_map};
-ghost use Rattle.std.specs.Prelude.{slice_index_or, slice_set, string_bytes, unwrap_or, ◌++◌, ◌+◌, ◌<◌, ◌^◌};
+ghost use Rattle.std.specs.Prelude.{slice_index_or, slice_set, string_bytes, unwrap_or, ◌++◌, ◌+◌, ◌-◌, ◌<◌, ◌^◌};
 ghost use Rattle.std.specs.Prelude.{◌≡◌, ◌≤◌};
 ghost use Rattle.tabled_base.specs.Content.{content_text};
 ghost use Rattle.tabled_pool.specs.Colours.{mark_of, within_marks};
 ghost use Rattle.tabled_pool.specs.Inherited.{beside, block_sheet_of, bordered_block, bottom_text};
-ghost use Rattle.tabled_pool.specs.Inherited.{inherited_by, inheriting_box, inner_text, is_left};
-ghost use Rattle.tabled_pool.specs.Inherited.{is_right, marked_text, outer_line, plan_for, run_text};
-ghost use Rattle.tabled_pool.specs.Inherited.{text_block, top_text, written};
+ghost use Rattle.tabled_pool.specs.Inherited.{IsInText, inherited_by, inheriting_box, inner_text};
+ghost use Rattle.tabled_pool.specs.Inherited.{is_left, is_right, is_top, marked_text, outer_line};
+ghost use Rattle.tabled_pool.specs.Inherited.{plan_for, run_text, text_block, top_text, written};
 ghost use Rattle.tabled_pool.specs.Plan.{around_of, plan_of};
+ghost use Rattle.tabled_priority.specs.Sums.{one_if};
 
 use crate::color_marks::{LineColors, Marks, alone, begun, ended, used_after};
 use crate::draw::{draw_block_line, draw_marked, write_mark};
@@ -17,11 +18,12 @@ use crate::inherited_sizes::is_split;
 use crate::inheriting_box::InheritingBox;
 use crate::places::Drawing;
 use crate::pool_table::one_if;
+use crate::tall_texts::{BoxText, text_start};
 use crate::tree_walk::{own_borders, own_sides};
 use std::alloc::AllocError;
 use tabled_base::Content;
 use tabled_config::Borders;
-use tabled_line::write_fill;
+use tabled_line::{Cursor, write_fill};
 
 /// Appends the character of a border, if that is there. A missing character is a space.
 fn add_char(line: &mut String, marks: Marks, there: bool, c: Option<char>) -> Result<(), AllocError>
@@ -97,7 +99,7 @@ pub struct BorderedText<'r, 'd, 'a> {
     content: &'r Content<'r>,
 }
 
-impl BorderedText<'_, '_, '_> {
+impl<'r> BorderedText<'r, '_, '_> {
     /// Appends the border above or below the text: a corner, a run, a corner, each with its colour.
     fn add_outer(&self, line: &mut String, outer: &OuterLine<'_>) -> Result<(), AllocError>
         ensures { IfOk result (λ _. string_bytes line.new ≡ string_bytes line.old
@@ -168,8 +170,9 @@ impl BorderedText<'_, '_, '_> {
         self.add_outer(line, &outer)
     }
 
-    fn add_inner(&self, line: &mut String, y: usize) -> Result<(), AllocError>
-        requires { y < self.now.inherited.now.place.height }
+    fn add_inner(&self, line: &mut String, cursor: &Cursor<'_>, y: usize) -> Result<(), AllocError>
+        requires inside { y < self.now.inherited.now.place.height }
+        requires cursor { IsInText self.now y cursor.now }
         ensures { IfOk result (λ _. string_bytes line.new ≡ string_bytes line.old
             ++ inner_text (plan_for self.now) self.now.own (inherited_by self.now)
             (content_text self.now.content.now) y) }
@@ -185,7 +188,11 @@ impl BorderedText<'_, '_, '_> {
         };
         let colors = &drawing.colors;
         add_char(line, alone(colors.left), sides.left, first)?;
-        draw_block_line(line, drawing, place, self.content, y).map_err(|_| AllocError)?;
+        let text = BoxText {
+            content: *self.content,
+            cursor: Some(cursor),
+        };
+        draw_block_line(line, drawing, place, &text, y).map_err(|_| AllocError)?;
         add_char(line, alone(colors.right), sides.right, own.right)
     }
 
@@ -213,30 +220,67 @@ impl BorderedText<'_, '_, '_> {
         self.inherited.place.width.checked_add(borders)
     }
 
+    /// Whether a horizontal border is above the text: 1, else 0.
+    fn top(&self) -> usize
+        ensures { result ≡ one_if (is_top self.now.own) }
+    {
+        one_if(own_sides(&self.own).top)
+    }
+
+    /// Returns a cursor in its text, in the first line of its rectangle.
+    fn cursor(&self) -> Cursor<'r>
+        ensures { IsInText self.now 0 result }
+    {
+        let start = text_start(&self.drawing.style, self.inherited.place, self.content);
+        Cursor::new(self.content, start)
+    }
+
+    /// Moves the cursor from line `y` of its block to the next line.
+    fn move_cursor(&self, cursor: &mut Cursor<'_>, y: usize)
+        ensures { IsInText self.now (y - one_if (is_top self.now.own)) cursor.old
+            → IsInText self.now (y + 1 - one_if (is_top self.now.own)) cursor.new }
+    {
+        if y >= self.top() {
+            cursor.advance();
+        }
+    }
+
     /// Appends a line of its block.
-    fn append_line(&self, line: &mut String, y: usize) -> Result<(), AllocError>
-        requires { y < length (bordered_block (plan_for self.now) self.now.own
+    fn append_line(
+        &self,
+        line: &mut String,
+        cursor: &Cursor<'_>,
+        y: usize,
+    ) -> Result<(), AllocError>
+        requires there { y < length (bordered_block (plan_for self.now) self.now.own
             (inherited_by self.now) (content_text self.now.content.now)).lines }
+        requires cursor { IsInText self.now (y - one_if (is_top self.now.own)) cursor.now }
         ensures { IfOk result (λ _. string_bytes line.new ≡ string_bytes line.old
             ++ slice_index_or (bordered_block (plan_for self.now) self.now.own
             (inherited_by self.now) (content_text self.now.content.now)).lines y []) }
     {
-        let top = one_if(own_sides(&self.own).top);
+        let top = self.top();
         if y < top {
             return self.add_top(line);
         }
         let row = y - top;
         if row < self.inherited.place.height {
-            return self.add_inner(line, row);
+            return self.add_inner(line, cursor, row);
         }
         self.add_bottom(line)
     }
 
     /// Appends a line of its block to line `y` of another one.
-    fn add_line(&self, block: &mut DrawnBlock, y: usize) -> Result<(), AllocError>
+    fn add_line(
+        &self,
+        block: &mut DrawnBlock,
+        cursor: &Cursor<'_>,
+        y: usize,
+    ) -> Result<(), AllocError>
         requires there { y < length block.old.lines.items }
         requires own { y < length (bordered_block (plan_for self.now) self.now.own
             (inherited_by self.now) (content_text self.now.content.now)).lines }
+        requires cursor { IsInText self.now (y - one_if (is_top self.now.own)) cursor.now }
         ensures width { block.new.width ≡ block.old.width }
         ensures lines { IfOk result (λ _. map string_bytes block.new.lines.items
             ≡ slice_set (map string_bytes block.old.lines.items) y
@@ -244,7 +288,7 @@ impl BorderedText<'_, '_, '_> {
             ++ slice_index_or (bordered_block (plan_for self.now) self.now.own
             (inherited_by self.now) (content_text self.now.content.now)).lines y [])) }
     {
-        self.append_line(&mut block.lines[y], y)
+        self.append_line(&mut block.lines[y], cursor, y)
     }
 
     /// Appends its block at the right of another one.
@@ -256,13 +300,15 @@ impl BorderedText<'_, '_, '_> {
         let (Some(width), Some(own)) = (self.width(), self.count_lines()) else {
             return Err(AllocError);
         };
+        let mut cursor = self.cursor();
         for y in 0..own.max(block.lines.len()) {
             block.begin_line(y)?;
             if y < own {
-                self.add_line(block, y)?;
+                self.add_line(block, &cursor, y)?;
             } else {
                 block.add_spaces(y, width)?;
             }
+            self.move_cursor(&mut cursor, y);
         }
         block.widen(width)
     }

@@ -10,13 +10,15 @@ ghost use Rattle.tabled_pool.specs.Boxes.{is_line_kind, part_of, shown};
 ghost use Rattle.tabled_pool.specs.Colours.{marks_of, within_marks};
 ghost use Rattle.tabled_pool.specs.Drawn.{IsRun, drawn_line, part_text, place_text};
 ghost use Rattle.tabled_pool.specs.Plan.{around_of, plan_of};
+ghost use Rattle.tabled_pool.specs.TallTexts.{IsInLine};
 ghost use Rattle.tabled_pool.specs.declared.places.Kind.TheVariants.{Leaf};
 ghost use Rattle.tabled_text.specs.Measure.{line_columns, text_columns};
 
 use crate::color_marks::{Marks, draw_colored_fill, marks_at};
 use crate::line_runs::{Line, Run};
 use crate::places::{Drawing, Kind, Rectangle};
-use tabled_base::{Content, TableError};
+use crate::tall_texts::BoxText;
+use tabled_base::TableError;
 use tabled_config::{CellStyle, Indent, Sides};
 use tabled_line::{CellBlock, TextSink, before_text, write_char, write_fill, write_padded_text};
 
@@ -88,19 +90,20 @@ pub fn draw_block_line<S: TextSink>(
     sink: &mut S,
     drawing: &Drawing<'_, '_>,
     place: Rectangle,
-    content: &Content<'_>,
+    text: &BoxText<'_, '_>,
     index: usize,
 ) -> Result<(), TableError>
-    requires { index < place.height }
+    requires inside { index < place.height }
+    requires cursor { IsInLine drawing.now.style place index text.now }
     ensures { Writes (S.sent sink.old) result (S.sent sink.new) (leaf_line (plan_of drawing.now)
-        (part_of Leaf place (content_text content.now)) index) }
+        (part_of Leaf place (content_text text.now.content)) index) }
 {
     let colors = &drawing.padding_colors;
     let cell = CellBlock {
         style: drawing.style,
         width: place.width,
         height: place.height,
-        content: *content,
+        content: text.content,
     };
     let above = cell.lines_above();
     if index < above {
@@ -112,19 +115,19 @@ pub fn draw_block_line<S: TextSink>(
         return draw_colored_fill(sink, colors.top, top.fill, place.width);
     }
     let row = padded - top.size;
-    let Some((line, columns)) = content.line(row) else {
-        let below = row - content.lines;
+    let Some((line, columns)) = text.line(row) else {
+        let below = row - text.content.lines;
         if below < bottom.size {
             return draw_colored_fill(sink, colors.bottom, bottom.fill, place.width);
         }
         return write_fill(sink, ' ', place.width);
     };
-    let text = TextLine {
+    let line = TextLine {
         line,
         columns,
-        all: content.columns,
+        all: text.content.columns,
     };
-    draw_text_line(sink, drawing, place.width, &text)
+    draw_text_line(sink, drawing, place.width, &line)
 }
 
 /// Writes a mark. Most are empty, and need no call.
@@ -187,8 +190,8 @@ fn draw_run<S: TextSink>(
     match run.piece.kind {
         Kind::Bar | Kind::Rule => draw_border(sink, line, run, x),
         Kind::Leaf if place.x == x => {
-            let content = run.piece.content();
-            draw_block_line(sink, line.drawing, place, &content, line.y - place.y)
+            let text = line.text(run.piece, x);
+            draw_block_line(sink, line.drawing, place, &text, line.y - place.y)
         }
         Kind::Leaf => Ok(()),
     }

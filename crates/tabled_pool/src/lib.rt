@@ -20,6 +20,7 @@
 //!
 //! Shared by both ways of drawing:
 //! - `draw`: one line of a drawing, and the lines of the block of a text
+//! - `tall_texts`: the text of a box, and texts of several lines, with a cursor in each
 //! - `color_marks`: the marks around a border character or a run: a colour's prefix and suffix
 //! - `table_lines`: all lines of a table, with the margin
 //!
@@ -52,6 +53,7 @@ mod pool_table;
 mod sizes;
 mod sweep;
 mod table_lines;
+mod tall_texts;
 mod tree;
 mod tree_walk;
 

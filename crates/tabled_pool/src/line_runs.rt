@@ -1,24 +1,30 @@
 //! The runs of a line of a drawing: columns of one text, or of equal border characters.
+ghost use Rattle.std.proofs.Props.{props};
 ghost use Rattle.std.specs.Prelude.{Some, map, option_map, true, ℕ, ◌+◌, ◌-◌, ◌<◌, ◌==◌, ◌≡◌, ◌≤◌};
-ghost use Rattle.std.specs.Prelude.{MatchOption, ◌⊎◌};
-ghost use Rattle.tabled_pool.specs.Boxes.{is_border, is_border_above, is_line, is_line_kind, owner};
+ghost use Rattle.std.specs.Prelude.{IfSome, MatchOption, ◌⊎◌};
+ghost use Rattle.tabled_base.specs.Content.{content_text};
+ghost use Rattle.tabled_pool.specs.Boxes.{Part, is_border, is_border_above, is_line, is_line_kind};
+ghost use Rattle.tabled_pool.specs.Boxes.{owner};
 ghost use Rattle.tabled_pool.specs.Boxes.{shown};
 ghost use Rattle.tabled_pool.specs.Drawn.{IsAt, RunsFrom};
 ghost use Rattle.tabled_pool.specs.Numbers.{AreSized};
 ghost use Rattle.tabled_pool.specs.Plan.{plan_of};
+ghost use Rattle.tabled_pool.specs.TallTexts.{AreTall, IsIn, IsInLine};
 
 use crate::junction::{Arms, border_char, own_char};
-use crate::piece::Piece;
+use crate::piece::{NOT_KNOWN, Piece};
 use crate::places::{Drawing, Kind, is_line_kind};
-use crate::sweep::{Sweep, piece_at};
+use crate::sweep::{Sweep, number_at, piece_at};
+use crate::tall_texts::{BoxText, TallText};
 
 #[derive(Clone, Copy)]
 pub struct Line<'l, 's, 'd, 'a> {
     pub drawing: &'l Drawing<'d, 'a>,
-    pub sweep: &'s Sweep,
+    pub sweep: &'s Sweep<'a>,
     pub y: usize,
     ghost inside: { y < drawing.now.height },
     ghost sized: { AreSized (map shown drawing.now.pieces.now) },
+    ghost tall: { AreTall (plan_of drawing.now) y sweep.now.texts } by { Prim.hlevel props },
 }
 
 /// Columns of a line that belong to one piece and, if that is a border, have the same character.
@@ -206,6 +212,39 @@ impl<'l, 's, 'd, 'a> Line<'l, 's, 'd, 'a> {
             down,
         };
         run
+    }
+
+    /// Looks for a text of several lines in the sweep. Not inlined, since most texts have one line.
+    #[inline(never)]
+    fn find_tall(&self, x: usize) -> Option<&'s TallText<'a>>
+        ensures { (p : Part) → owner (plan_of self.now.drawing.now).parts x self.now.y ≡ Some p
+            → IfSome result (λ tall. IsIn self.now.drawing.now.style p self.now.y tall.now) }
+    {
+        let number = number_at(self.drawing, self.sweep.here.as_slice(), x, self.y)?;
+        self.sweep.texts.get(number, x)
+    }
+
+    /// Returns the text of a piece that begins in column `x`. If it has several lines, its cursor
+    /// comes with it, unless there was no memory for that.
+    #[inline(always)]
+    pub fn text(&self, piece: &Piece<'a>, x: usize) -> BoxText<'s, 'a>
+        requires { owner (plan_of self.now.drawing.now).parts x self.now.y ≡ Some (shown piece.now) }
+        ensures text { content_text result.content ≡ (shown piece.now).text }
+        ensures cursor { IsInLine self.now.drawing.now.style piece.now.place
+            (self.now.y - piece.now.place.y) result }
+    {
+        if piece.columns == NOT_KNOWN
+            && let Some(tall) = self.find_tall(x)
+        {
+            return BoxText {
+                content: tall.content,
+                cursor: Some(&tall.cursor),
+            };
+        }
+        BoxText {
+            content: piece.content(),
+            cursor: None,
+        }
     }
 
     /// The run at a cursor, where `piece` is. The cursor goes to the column after it.

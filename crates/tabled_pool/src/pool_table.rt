@@ -294,13 +294,15 @@ impl PoolTable {
     /// starts with the current suffix and its own prefix, and the current suffix ends the border.
     ///
     /// A text that is given no columns changes how the table is drawn; side padding prevents this.
-    /// All lines are then built in memory first. Each text draws the borders above it and to its
-    /// left, and a text of no columns draws none. Boxes pass on to the next ones where borders
-    /// meet. A table that is one empty line has no margin.
+    /// All lines are then built in memory first, and each row copies those of the boxes in it. Each
+    /// text draws the borders above it and to its left, and a text of no columns draws none. Boxes
+    /// pass on to the next ones where borders meet. A table that is one empty line has no margin.
     ///
     /// Recurses at each level of several boxes (see `PoolTable`). Drawing takes a time that grows
-    /// with the printed text. Without memory to find texts and borders by their columns, each run
-    /// of a line, and each coloured border character, takes passes over all of them.
+    /// with the printed text, and where rows copy lines also with their levels. Without memory to
+    /// find texts and borders by their columns, each run of a line, and each coloured border
+    /// character, takes passes over all of them. Without memory for a cursor in a text of several
+    /// lines, each of its lines takes a pass over it.
     #[tactic(auto, using(crate::proofs::Padded::padded_columns, crate::proofs::StraightPools::pool_columns, crate::proofs::StraightPools::pool_tiles, crate::proofs::StraightPools::whole_columns, crate::proofs::Totals::whole_lines))]
     pub fn write_to<S: TextSink>(&self, sink: &mut S) -> Result<(), TableError>
         ensures printed { WritesPool self.now (S.sent sink.old) result (S.sent sink.new) }

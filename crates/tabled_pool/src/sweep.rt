@@ -1,22 +1,27 @@
 //! `Sweep`: where to look first for the pieces on a line and on the lines next to it; and the piece
 //! at a position.
-ghost use Rattle.std.specs.Prelude.{map, option_map, true, ◌+◌, ◌<◌, ◌≡◌, ◌≤◌};
+ghost use Rattle.std.specs.Prelude.{map, option_map, true, ◌+◌, ◌-◌, ◌<◌, ◌≡◌, ◌≤◌};
 ghost use Rattle.tabled_pool.specs.Boxes.{contains, owner, shown, within};
 ghost use Rattle.tabled_pool.specs.Numbers.{IsNumber};
+ghost use Rattle.tabled_pool.specs.Plan.{plan_of};
+ghost use Rattle.tabled_pool.specs.TallTexts.{AreTall};
 
 use crate::piece::Piece;
 use crate::places::{Drawing, NO_PIECE, Rectangle, no_pieces};
+use crate::tall_texts::TallTexts;
 use std::alloc::Global;
 use std::mem;
 
-/// Numbers of pieces. No contract says that they are right: who uses one looks whether the piece is
-/// there. A list is too short if an allocation failed.
+/// Where to look for pieces: numbers of which no contract says that they are right. Who uses one
+/// looks whether the piece is there. A list is too short if an allocation failed.
 #[derive(Drop)]
-pub struct Sweep {
+pub struct Sweep<'a> {
     /// The pieces on three lines, by column.
     pub above: Vec<u32>,
     pub here: Vec<u32>,
     pub below: Vec<u32>,
+    /// The texts of several lines.
+    pub texts: TallTexts<'a>,
 }
 
 /// Sets the number of the piece in the columns of a rectangle.
@@ -27,32 +32,41 @@ fn mark(line: &mut [u32], place: Rectangle, number: u32) {
     }
 }
 
-impl Sweep {
+impl<'a> Sweep<'a> {
     /// A sweep over no pieces.
-    pub fn empty(alloc: Global) -> Sweep {
+    pub fn empty(alloc: Global) -> Sweep<'a> {
         Sweep {
             above: Vec::new(alloc),
             here: Vec::new(alloc),
             below: Vec::new(alloc),
+            texts: TallTexts::new(alloc),
         }
     }
 
-    /// A sweep above the first line.
-    pub fn new(drawing: &Drawing<'_, '_>) -> Sweep {
+    /// A sweep above the first line. Its texts are in the first line already.
+    pub fn new(drawing: &Drawing<'_, 'a>) -> Sweep<'a>
+        ensures { AreTall (plan_of drawing.now) 0 result.texts }
+    {
         let mut sweep = Sweep {
             above: Vec::new(drawing.alloc),
             here: no_pieces(drawing.alloc, drawing.width),
             below: no_pieces(drawing.alloc, drawing.width),
+            texts: TallTexts::new(drawing.alloc),
         };
-        sweep.mark_line(drawing, 0);
+        sweep.mark_line(drawing, 0, 0);
         sweep
     }
 
-    /// Sets the pieces that begin on line `y`, which is the line below.
-    fn mark_line(&mut self, drawing: &Drawing<'_, '_>, y: usize) {
-        let mut number = drawing.begins.get(y).copied().unwrap_or(NO_PIECE);
+    /// Sets the pieces that begin on line `below`, which is the line below. The texts are in line
+    /// `y`.
+    fn mark_line(&mut self, drawing: &Drawing<'_, 'a>, below: usize, y: usize)
+        ensures { AreTall (plan_of drawing.now) y self.old.texts
+            → AreTall (plan_of drawing.now) y self.new.texts }
+    {
+        let mut number = drawing.begins.get(below).copied().unwrap_or(NO_PIECE);
         'pieces: while let Some(piece) = drawing.pieces.get(number as usize) {
             mark(self.below.as_mut_slice(), piece.place, number);
+            self.texts.begin(drawing, number as usize, y);
             if piece.earlier >= number {
                 return;
             }
@@ -60,13 +74,17 @@ impl Sweep {
         }
     }
 
-    /// Goes on to line `y`.
-    pub fn advance(&mut self, drawing: &Drawing<'_, '_>, y: usize) {
+    /// Goes on to line `y`, from the line before it.
+    pub fn advance(&mut self, drawing: &Drawing<'_, 'a>, y: usize)
+        ensures { AreTall (plan_of drawing.now) (y - 1) self.old.texts
+            → AreTall (plan_of drawing.now) y self.new.texts }
+    {
+        self.texts.advance(y);
         mem::swap(&mut self.above, &mut self.here);
         mem::swap(&mut self.here, &mut self.below);
         self.below.clear();
         if self.below.extend_from_slice(self.here.as_slice()).is_ok() {
-            self.mark_line(drawing, y.saturating_add(1));
+            self.mark_line(drawing, y.saturating_add(1), y);
         }
     }
 }

@@ -1,12 +1,12 @@
 //! `TableLines`: all lines of a table, and how they are written with the margin around them.
 ghost use Rattle.std.specs.List.{join_with_byte};
-ghost use Rattle.std.specs.Prelude.{[], length, map, replicate, slice_index_or, ◌<◌, ◌∷◌, ◌≡◌};
+ghost use Rattle.std.specs.Prelude.{[], length, map, replicate, slice_index_or, ◌-◌, ◌<◌, ◌∷◌, ◌≡◌};
 ghost use Rattle.tabled_line.specs.Fill.{indent};
 ghost use Rattle.tabled_line.specs.Leading.{WritesLines};
 ghost use Rattle.tabled_line.specs.Sent.{Sent, Writes};
 ghost use Rattle.tabled_pool.specs.Colours.{coloured, marks_of};
 ghost use Rattle.tabled_pool.specs.Pool.{with_margin, within_margin};
-ghost use Rattle.tabled_pool.specs.TableLines.{AreSizedLines, content_of, sheet_of};
+ghost use Rattle.tabled_pool.specs.TableLines.{AreSizedLines, IsSwept, content_of, sheet_of};
 
 use crate::color_marks::draw_colored_fill;
 use crate::draw::draw_line;
@@ -72,10 +72,30 @@ impl<'l, 'd, 'a> TableLines<'l, 'd, 'a> {
         }
     }
 
+    /// A sweep above the first line.
+    fn sweep(self) -> Sweep<'a>
+        ensures { IsSwept self.entry 0 result }
+    {
+        match self {
+            TableLines::Placed(drawing) => Sweep::new(drawing),
+            TableLines::Drawn(block) => Sweep::empty(*block.lines.allocator()),
+        }
+    }
+
+    /// Moves a sweep to line `y`, from the line before it.
+    fn advance(self, sweep: &mut Sweep<'a>, y: usize)
+        ensures { IsSwept self.entry (y - 1) sweep.old → IsSwept self.entry y sweep.new }
+    {
+        if let TableLines::Placed(drawing) = self {
+            sweep.advance(drawing, y);
+        }
+    }
+
     /// Line `y`, which the sweep is at.
-    fn line<'s>(self, sweep: &'s Sweep, y: usize) -> LineContent<'l, 's, 'd, 'a>
+    fn line<'s>(self, sweep: &'s Sweep<'a>, y: usize) -> LineContent<'l, 's, 'd, 'a>
         requires inside { y < length (sheet_of self).lines }
         requires sized { AreSizedLines self }
+        requires swept { IsSwept self y sweep.now }
         ensures { content_of result ≡ slice_index_or (sheet_of self.entry).lines y [] }
     {
         match self {
@@ -133,15 +153,10 @@ fn draw_inner_lines<S: TextSink>(
         (map (within_margin margin.now.indent (marks_of margin.now.colors))
         (sheet_of lines.entry).lines) }
 {
-    let mut sweep = match lines {
-        TableLines::Placed(drawing) => Sweep::new(drawing),
-        TableLines::Drawn(block) => Sweep::empty(*block.lines.allocator()),
-    };
+    let mut sweep = lines.sweep();
     let height = lines.size().height;
     'lines: for y in 0..height {
-        if let TableLines::Placed(drawing) = lines {
-            sweep.advance(drawing, y);
-        }
+        lines.advance(&mut sweep, y);
         draw_next(sink, begun, margin, lines.line(&sweep, y))?;
     }
     Ok(())

@@ -29,33 +29,33 @@ below d r text k h l m n =
 pub returns-then-index-above : goal.returns-then-index-above
 returns-then-index-above g c =
     let l = rw c.lines_above-above.ensures.value at c.if-index-above.true in
-    rw (shown_line c.args.drawing.now c.args.place (content_text c.args.content.now) _ _ (block-above _ _ _ _ _ _ l)) c.write_fill.ensures
+    rw (shown_line c.args.drawing.now c.args.place (content_text c.args.text.now.content) _ _ (block-above _ _ _ _ _ _ l)) c.write_fill.ensures
 
 pub returns-then-padded-top : goal.returns-then-padded-top
 returns-then-padded-top g c =
     let l = rw c.lines_above-above.ensures.value at c.if-index-above.false in
     let m = rw c.lines_above-above.ensures.value at c.if-padded-top.true in
-    rw (shown_line c.args.drawing.now c.args.place (content_text c.args.content.now) _ _ (block-top _ _ _ _ _ _ l m)) c.draw_colored_fill.ensures
+    rw (shown_line c.args.drawing.now c.args.place (content_text c.args.text.now.content) _ _ (block-top _ _ _ _ _ _ l m)) c.draw_colored_fill.ensures
 
 pub returns-then-below-bottom : goal.returns-then-below-bottom
 returns-then-below-bottom g c =
     let d = c.args.drawing.now in
     let a = c.lines_above-above.ensures.value in
-    let b = rw (a, c.args.content.now.lines_are) at c.if-below-bottom.true in
-    rw (below d c.args.place (content_text c.args.content.now) _ c.requires (rw a at c.if-index-above.false) (rw a at c.if-padded-top.false)
+    let b = rw (a, c.args.text.now.content.lines_are) at c.if-below-bottom.true in
+    rw (below d c.args.place (content_text c.args.text.now.content) _ c.requires.inside (rw a at c.if-index-above.false) (rw a at c.if-padded-top.false)
     (rw a at c.in_default.ensures.line) ∙ below_padded d.style (marks_of d.padding_colors) c.args.place.width _ b) c.draw_colored_fill-then-below-bottom.ensures
 
 pub returns-in_default : goal.returns-in_default
 returns-in_default g c =
     let d = c.args.drawing.now in
     let a = c.lines_above-above.ensures.value in
-    let b = rw (a, c.args.content.now.lines_are) at c.if-below-bottom.false in
-    rw (below d c.args.place (content_text c.args.content.now) _ c.requires (rw a at c.if-index-above.false) (rw a at c.if-padded-top.false)
+    let b = rw (a, c.args.text.now.content.lines_are) at c.if-below-bottom.false in
+    rw (below d c.args.place (content_text c.args.text.now.content) _ c.requires.inside (rw a at c.if-index-above.false) (rw a at c.if-padded-top.false)
     (rw a at c.in_default.ensures.line) ∙ below_blank d.style (marks_of d.padding_colors) c.args.place.width _ b) c.write_fill-in_default.ensures
 
 pub returns : goal.returns
 returns g c =
     let a = c.lines_above-above.ensures.value in
-    let text = content_text c.args.content.now in
+    let text = content_text c.args.text.now.content in
     rw (shown_line c.args.drawing.now c.args.place text _ _ (block-text _ _ _ _ _ _ c.in-Some.line.now (rw a at c.if-index-above.false)
-    (rw a at c.if-padded-top.false) (rw a at c.in-Some.ensures.line))) (c.draw_text_line.ensures text c.args.content.now.columns_are)
+    (rw a at c.if-padded-top.false) (rw a at c.in-Some.ensures.line))) (c.draw_text_line.ensures text c.args.text.now.content.columns_are)

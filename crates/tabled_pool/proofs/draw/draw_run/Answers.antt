@@ -10,8 +10,8 @@ overflow_sub-line g c =
     let r = c.args.run.now in
     let i = run_inside (plan_of l.drawing.now) c.args.x l.y r.count r.c (shown r.piece.now) c.requires in omega (arith, i.top)
 
-pub draw_block_line-requires : goal.draw_block_line-requires
-draw_block_line-requires g c =
+pub draw_block_line-requires-clause-inside : goal.draw_block_line-requires-clause-inside
+draw_block_line-requires-clause-inside g c =
     let l = c.args.line.now in
     let r = c.args.run.now in
     let i = run_inside (plan_of l.drawing.now) c.args.x l.y r.count r.c (shown r.piece.now) c.requires in omega (arith, i.top, i.bottom)
@@ -25,7 +25,7 @@ returns-in-Leaf g c =
     let p = shown r.piece.now in
     let here : p.place.x ≡ c.args.x = omega arith in
     rw (run_text t c.args.x l.y r.count r.c p c.requires (search rules) ∙ leaf-begins t p c.args.x l.y here)
-    (rw c.content-content.ensures at c.draw_block_line.ensures)
+    (rw c.text-text.ensures.text at c.draw_block_line.ensures)
 
 pub returns-in-Leaf-2 : goal.returns-in-Leaf-2
 returns-in-Leaf-2 g c =

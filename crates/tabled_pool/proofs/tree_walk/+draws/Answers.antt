@@ -3,7 +3,7 @@ use Rattle.tabled_pool.proofs.NodeSums.{nodes_in_at, nodes_in_push}
 use Rattle.std.proofs.lemmas.List.{drop_all}
 use Rattle.tabled_pool.specs.Sizes.{EndsWith, measured, sizes_in, sizes_within}
 use Rattle.tabled_pool.proofs.Directions.{fits_along, fits_bound}
-use Rattle.tabled_pool.specs.Inherited.{Children, PassedOn, beside, no_block, passed_beside, sizes_left, passes_across, passes_along, with_passed}
+use Rattle.tabled_pool.specs.Inherited.{Children, PassedOn, beside, no_block, sizes_left, passes_across, passes_along, with_passed}
 use Rattle.tabled_pool.proofs.Collected.{SoFar, all_joined, more_so_far, none_so_far}
 use Rattle.tabled_pool.proofs.Drawers.{drawers_left, list_added, list_done, list_of, passed_across}
 use Rattle.tabled_pool.proofs.Splits.{when_ok}

@@ -8,6 +8,7 @@ invariant_of-result c =
     record {
       inside = omega (arith, h, drawn-length (plan_of c.in-Placed.drawing.now));
       sized = rw c.in-Placed.is at c.requires.sized;
+      tall = rw c.in-Placed.is at c.requires.swept;
     }
 
 pub returns-in-Placed : goal.returns-in-Placed
