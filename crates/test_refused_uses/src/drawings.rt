@@ -28,6 +28,8 @@ pub const DRAWINGS: &[&str] = &[
     "compact tables to writers",
     "boxes",
     "boxes of values",
+    "boxes of lines",
+    "joined boxes of lines",
     "styles",
 ];
 
@@ -212,6 +214,29 @@ fn nested(alloc: Global) -> Result<Found, TableError> {
     Ok(whole_if(text.as_str() == "+---+\n| a |\n+---+"))
 }
 
+// A row of two texts.
+fn row_of(alloc: Global, first: &str, second: &str) -> Result<PoolTable, TableError> {
+    let mut cells = Vec::new(alloc);
+    cells.push(TableValue::Cell(String::from_str(alloc, first)?))?;
+    cells.push(TableValue::Cell(String::from_str(alloc, second)?))?;
+    Ok(PoolTable::from_value(TableValue::Row(cells)))
+}
+
+// Prints texts of several lines, whose cursors are allocated.
+fn of_lines(alloc: Global) -> Result<Found, TableError> {
+    let text = row_of(alloc, "a\nbb\nc", "d\ne")?.to_string()?;
+    let picture = "+----+---+\n| a  | d |\n| bb | e |\n| c  |   |\n+----+---+";
+    Ok(whole_if(text.as_str() == picture))
+}
+
+// Prints a text of two lines beside one that gets no column.
+fn joined_boxes(alloc: Global) -> Result<Found, TableError> {
+    let mut table = row_of(alloc, "", "a\nbb")?;
+    table.with(Padding::zero())?;
+    let text = table.to_string()?;
+    Ok(whole_if(text.as_str() == "+--+\n|a |\n|bb|\n+--+"))
+}
+
 fn styled(alloc: Global) -> Result<Found, TableError> {
     let mut text = String::new(alloc);
     render_styled(
@@ -238,6 +263,8 @@ pub fn drawn(alloc: Global, name: &str) -> Result<Found, TableError> {
         "compact tables to writers" => compact_to_writer(),
         "boxes" => boxed(alloc),
         "boxes of values" => nested(alloc),
+        "boxes of lines" => of_lines(alloc),
+        "joined boxes of lines" => joined_boxes(alloc),
         _ => styled(alloc),
     }
 }
