@@ -6,7 +6,7 @@ use Rattle.std.proofs.Common.{◌≢◌, IfSome}
 use Rattle.std.specs.Prelude.{Err, IfOk, Ok, Result}
 use Rattle.tabled_pool.proofs.Names.{Fits, None, Option, Rectangle, append-nil, box_across, box_along, drop, get_or, length-map, pick, sized, ◌+◌, ◌≤◌}
 use Rattle.tabled_pool.specs.Boxes.{CanSplit}
-use Rattle.tabled_pool.specs.declared.places.BoxesLeft.{BoxesLeft}
+use Rattle.tabled_pool.specs.declared.rectangle.BoxesLeft.{BoxesLeft}
 use Rattle.tabled_pool.specs.Tree.{child_count}
 use Rattle.std.proofs.lemmas.List.{append_cancel_right, drop_all, drop_more, same_from_push}
 use Rattle.tabled_pool.specs.Sizes.{AreAdded, EndsWith, Measured, measured, measured_step, size_of, sizes_in, sizes_of, sizes_of_all, sizes_within}

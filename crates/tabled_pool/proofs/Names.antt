@@ -53,10 +53,10 @@ pub use Rattle.tabled_pool.specs.TableLines.{sheet_of}
 unfoldable pub use Rattle.tabled_pool.specs.Boxes.{framed, spans}
 pub use Rattle.tabled_pool.specs.declared.color_marks.RunSide.{RunSide}
 pub use Rattle.tabled_pool.specs.declared.color_marks.RunSide.TheVariants.{Before, Behind, Outside}
-pub use Rattle.tabled_pool.specs.declared.places.Kind.{Kind}
-pub use Rattle.tabled_pool.specs.declared.places.Kind.TheVariants.{Bar, Leaf, Rule}
+pub use Rattle.tabled_pool.specs.declared.kind.Kind.{Kind}
+pub use Rattle.tabled_pool.specs.declared.kind.Kind.TheVariants.{Bar, Leaf, Rule}
 pub use Rattle.tabled_pool.specs.declared.piece.Piece.{Piece}
-pub use Rattle.tabled_pool.specs.declared.places.Rectangle.{Rectangle}
+pub use Rattle.tabled_pool.specs.declared.rectangle.Rectangle.{Rectangle}
 pub use Rattle.tabled_pool.specs.declared.pool_table.PoolTable.{PoolTable}
 pub use Rattle.tabled_pool.specs.declared.sizes.BoxSpacing.{BoxSpacing}
 pub use Rattle.tabled_pool.specs.declared.sizes.Direction.{Direction}

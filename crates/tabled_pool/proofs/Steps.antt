@@ -5,7 +5,7 @@ use Rattle.tabled_pool.proofs.Names.{box_of, boxes_left, common_steps, drop, dro
 use Rattle.tabled_pool.proofs.Names.{list_box, map, max, needed_by, part_of, place_along, refl, subst, sym, ℕ, ◌++◌, ◌+◌, ◌<◌, ◌∙◌, ◌∷◌}
 use Rattle.tabled_pool.proofs.Names.{◌≡◌}
 use Rattle.tabled_pool.specs.Boxes.{joined_parts, CanSplit}
-use Rattle.tabled_pool.specs.declared.places.BoxesLeft.{BoxesLeft}
+use Rattle.tabled_pool.specs.declared.rectangle.BoxesLeft.{BoxesLeft}
 use Rattle.tabled_pool.proofs.Directions.{fits_across, fits_along, joined_along, joined_across, shares}
 
 pub left_count : (g : BoxSpacing) (front : List TableValue) (last : TableValue) → length (boxes_left g front last) ≡ length front + 1

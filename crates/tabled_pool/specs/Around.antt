@@ -2,7 +2,7 @@
 -- their corner; at the edges of the table also those below it and to its right.
 use Rattle.std.specs.Prelude.{ℕ, ◌+◌, ◌==◌, ltb, leb, if◌then◌else◌, Bool, ◌&&◌, List, [], ◌∷◌, Option, Some, None, unwrap_or}
 use Rattle.tabled_config.specs.Frame.{has_left, has_right}
-use Rattle.tabled_pool.specs.declared.places.Rectangle.{Rectangle}
+use Rattle.tabled_pool.specs.declared.rectangle.Rectangle.{Rectangle}
 use Rattle.tabled_pool.specs.Boxes.{Part, is_line_kind}
 use Rattle.tabled_pool.specs.Colours.{Mark, Around, alone, begun, ended, nothing_around, used_after}
 use Rattle.tabled_pool.specs.Plan.{DrawingPlan, has_bottom, has_top}

@@ -9,15 +9,15 @@ use Rattle.tabled_pool.specs.declared.sizes.BoxSpacing.{BoxSpacing}
 use Rattle.tabled_pool.specs.declared.sizes.Direction.{Direction}
 use Rattle.tabled_pool.specs.declared.sizes.Direction.TheVariants.{Across, Down}
 use Rattle.tabled_pool.specs.declared.sizes.Size.{Size}
-use Rattle.tabled_pool.specs.declared.places.Rectangle.{Rectangle}
-use Rattle.tabled_pool.specs.declared.places.Kind.{Kind}
-use Rattle.tabled_pool.specs.declared.places.Kind.TheVariants.{Leaf, Bar, Rule}
+use Rattle.tabled_pool.specs.declared.rectangle.Rectangle.{Rectangle}
+use Rattle.tabled_pool.specs.declared.kind.Kind.{Kind}
+use Rattle.tabled_pool.specs.declared.kind.Kind.TheVariants.{Leaf, Bar, Rule}
 use Rattle.tabled_pool.specs.declared.tree.TableValue.{TableValue}
 use Rattle.tabled_pool.specs.declared.tree.TableValue.TheOpen.{TableValue-F, Row, Column, Cell}
 use Rattle.tabled_pool.specs.declared.tree.TableValue.TheFolds.{fold-TableValue}
 use Rattle.tabled_pool.specs.PieceText.{piece_text}
 use Rattle.tabled_pool.specs.declared.piece.Piece.{Piece}
-use Rattle.tabled_pool.specs.declared.places.BoxesLeft.{BoxesLeft}
+use Rattle.tabled_pool.specs.declared.rectangle.BoxesLeft.{BoxesLeft}
 use Rattle.tabled_config.specs.declared.sides.Sides.{Sides}
 
 -- a text, or a border between boxes

@@ -3,9 +3,9 @@
 use Rattle.std.specs.Prelude.{ℕ, ◌+◌, ◌-◌, ◌==◌, if◌then◌else◌, Bool, ◌&&◌, ◌||◌, List, [], map, Option, Some, None, unwrap_or, encode_utf8}
 use Rattle.std.specs.Prelude.{◌≡◌, ◌<◌, ◌≤◌, true, ◌++◌}
 use Rattle.std.specs.List.{range_with_len, flat_map}
-use Rattle.tabled_pool.specs.declared.places.Rectangle.{Rectangle}
-use Rattle.tabled_pool.specs.declared.places.Kind.{Kind}
-use Rattle.tabled_pool.specs.declared.places.Kind.TheVariants.{Leaf, Bar, Rule}
+use Rattle.tabled_pool.specs.declared.rectangle.Rectangle.{Rectangle}
+use Rattle.tabled_pool.specs.declared.kind.Kind.{Kind}
+use Rattle.tabled_pool.specs.declared.kind.Kind.TheVariants.{Leaf, Bar, Rule}
 use Rattle.tabled_pool.specs.Boxes.{Part, is_line_kind, owner, is_border, is_border_before, is_border_above, shown, covering}
 use Rattle.tabled_config.specs.Frame.{has_right}
 use Rattle.tabled_config.specs.Junction.{junction}

@@ -10,8 +10,8 @@ use Rattle.tabled_pool.specs.declared.drawn_block.DrawnBlock.{DrawnBlock}
 use Rattle.tabled_priority.specs.Sums.{one_if}
 use Rattle.tabled_config.specs.declared.borders.Borders.{Borders}
 use Rattle.tabled_pool.specs.declared.sizes.BoxSpacing.{BoxSpacing}
-use Rattle.tabled_pool.specs.declared.places.Kind.TheVariants.{Leaf}
-use Rattle.tabled_pool.specs.declared.places.Rectangle.{Rectangle}
+use Rattle.tabled_pool.specs.declared.kind.Kind.TheVariants.{Leaf}
+use Rattle.tabled_pool.specs.declared.rectangle.Rectangle.{Rectangle}
 use Rattle.tabled_pool.specs.declared.tree.TableValue.{TableValue}
 use Rattle.tabled_pool.specs.declared.tree.TableValue.TheOpen.{TableValue-F, Row, Column, Cell}
 use Rattle.tabled_pool.specs.declared.tree.TableValue.TheFolds.{fold-TableValue}

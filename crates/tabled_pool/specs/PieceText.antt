@@ -1,7 +1,7 @@
 -- The text that a piece has of a value: a text has its own, a list and a border have none.
 use Rattle.std.specs.Prelude.{ℕ, List, [], string_bytes}
-use Rattle.tabled_pool.specs.declared.places.Kind.{Kind}
-use Rattle.tabled_pool.specs.declared.places.Kind.TheVariants.{Leaf, Bar, Rule}
+use Rattle.tabled_pool.specs.declared.kind.Kind.{Kind}
+use Rattle.tabled_pool.specs.declared.kind.Kind.TheVariants.{Leaf, Bar, Rule}
 use Rattle.tabled_pool.specs.declared.tree.TableValue.{TableValue}
 use Rattle.tabled_pool.specs.declared.tree.TableValue.TheOpen.{TableValue-F, Row, Column, Cell}
 use Rattle.tabled_pool.specs.declared.tree.TableValue.TheFolds.{fold-TableValue}

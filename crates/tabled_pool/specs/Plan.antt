@@ -5,9 +5,9 @@ use Rattle.tabled_config.specs.declared.sides.Sides.{Sides}
 use Rattle.tabled_config.specs.declared.spanned.CellStyle.{CellStyle}
 use Rattle.tabled_pool.specs.Boxes.{Part, shown}
 use Rattle.tabled_pool.specs.Colours.{LineMarks, Mark, Around, line_marks_of, marks_of}
-use Rattle.tabled_pool.specs.declared.places.Rectangle.{Rectangle}
+use Rattle.tabled_pool.specs.declared.rectangle.Rectangle.{Rectangle}
 use Rattle.tabled_pool.specs.declared.color_marks.Marks.{Marks}
-use Rattle.tabled_pool.specs.declared.places.Drawing.{Drawing}
+use Rattle.tabled_pool.specs.declared.drawing.Drawing.{Drawing}
 
 -- parts in a drawing of `width` columns and `height` lines, and the settings that they are drawn
 -- with

@@ -16,7 +16,7 @@ use Rattle.tabled_config.specs.Compact.{each_side, no_indent}
 use Rattle.tabled_config.specs.Frame.{has_left, has_right}
 use Rattle.tabled_line.specs.Sent.{Sent, Sends, Stops}
 use Rattle.tabled_pool.specs.declared.sizes.BoxSpacing.{BoxSpacing}
-use Rattle.tabled_pool.specs.declared.places.Rectangle.{Rectangle}
+use Rattle.tabled_pool.specs.declared.rectangle.Rectangle.{Rectangle}
 use Rattle.tabled_pool.specs.Boxes.{box_of, framed}
 use Rattle.tabled_pool.specs.Inherited.{inherited_block, has_zero_width, BlockSheet}
 use Rattle.tabled_pool.specs.Plan.{DrawingPlan, has_bottom, has_top}

@@ -10,7 +10,7 @@ use Rattle.tabled_line.specs.declared.cursor.Cursor.{Cursor}
 use Rattle.tabled_text.specs.Measure.{line_columns, lines_of}
 use Rattle.tabled_pool.specs.Boxes.{Part}
 use Rattle.tabled_pool.specs.Plan.{DrawingPlan}
-use Rattle.tabled_pool.specs.declared.places.Rectangle.{Rectangle}
+use Rattle.tabled_pool.specs.declared.rectangle.Rectangle.{Rectangle}
 use Rattle.tabled_pool.specs.declared.tall_texts.BoxText.{BoxText}
 use Rattle.tabled_pool.specs.declared.tall_texts.TallText.{TallText}
 use Rattle.tabled_pool.specs.declared.tall_texts.TallTexts.{TallTexts}

@@ -13,10 +13,10 @@ ghost use Rattle.tabled_priority.specs.Sums.{one_if};
 
 use crate::color_marks::{LineColors, Marks, alone, begun, ended, used_after};
 use crate::draw::{draw_block_line, draw_marked, write_mark};
+use crate::drawing::Drawing;
 use crate::drawn_block::DrawnBlock;
 use crate::inherited_sizes::is_split;
 use crate::inheriting_box::InheritingBox;
-use crate::places::Drawing;
 use crate::pool_table::one_if;
 use crate::tall_texts::{BoxText, text_start};
 use crate::tree_walk::{own_borders, own_sides};

@@ -10,10 +10,12 @@ ghost use Rattle.tabled_pool.specs.Colours.{used_after};
 ghost use Rattle.tabled_pool.specs.Numbers.{IsEarlier, IsFirst, Skips, SkipsBeside};
 ghost use Rattle.tabled_pool.specs.Plan.{around_of, plan_of};
 
+use crate::drawing::Drawing;
 use crate::junction::{ends_at, has_bottom, has_top};
+use crate::kind::is_line_kind;
 use crate::line_runs::Line;
 use crate::piece::Piece;
-use crate::places::{Drawing, Rectangle, is_line_kind};
+use crate::rectangle::Rectangle;
 use crate::sweep::number_at;
 use tabled_base::TableError;
 use tabled_config::ANSIStr;

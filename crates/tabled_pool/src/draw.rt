@@ -11,12 +11,14 @@ ghost use Rattle.tabled_pool.specs.Colours.{marks_of, within_marks};
 ghost use Rattle.tabled_pool.specs.Drawn.{IsRun, drawn_line, part_text, place_text};
 ghost use Rattle.tabled_pool.specs.Plan.{around_of, plan_of};
 ghost use Rattle.tabled_pool.specs.TallTexts.{IsInLine};
-ghost use Rattle.tabled_pool.specs.declared.places.Kind.TheVariants.{Leaf};
+ghost use Rattle.tabled_pool.specs.declared.kind.Kind.TheVariants.{Leaf};
 ghost use Rattle.tabled_text.specs.Measure.{line_columns, text_columns};
 
 use crate::color_marks::{Marks, draw_colored_fill, marks_at};
+use crate::drawing::Drawing;
+use crate::kind::Kind;
 use crate::line_runs::{Line, Run};
-use crate::places::{Drawing, Kind, Rectangle};
+use crate::rectangle::Rectangle;
 use crate::tall_texts::BoxText;
 use tabled_base::TableError;
 use tabled_config::{CellStyle, Indent, Sides};

@@ -11,9 +11,10 @@ ghost use Rattle.tabled_pool.specs.Inherited.{whole_flags, with_passed};
 ghost use Rattle.tabled_pool.specs.Plan.{plan_of};
 
 use crate::bordered_text::add_text;
+use crate::drawing::Drawing;
 use crate::drawn_block::{DrawnBlock, stacked};
 use crate::inherited_sizes::InheritedSizes;
-use crate::places::{BoxesLeft, Drawing, Rectangle, split};
+use crate::rectangle::{BoxesLeft, Rectangle, split};
 use crate::sizes::{BoxSpacing, Direction, Size};
 use crate::tree_walk::Flags;
 use std::alloc::{AllocError, Global};

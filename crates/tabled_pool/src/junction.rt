@@ -4,8 +4,10 @@ ghost use Rattle.std.specs.Prelude.{unwrap_or, ◌+◌, ◌-◌, ◌<◌, ◌==�
 ghost use Rattle.tabled_pool.specs.Drawn.{armed_char, main_of};
 ghost use Rattle.tabled_pool.specs.Plan.{has_bottom, has_top, plan_of};
 
+use crate::drawing::Drawing;
+use crate::kind::Kind;
 use crate::piece::Piece;
-use crate::places::{Drawing, Kind, Rectangle};
+use crate::rectangle::Rectangle;
 use tabled_config::Borders;
 
 /// Whether there is a top border: any of its characters is set.

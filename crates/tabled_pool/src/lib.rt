@@ -15,8 +15,11 @@
 //! - `tree`: `TableValue`, a tree of texts, how it is dropped, and how it is copied
 //! - `sizes`: the sizes that boxes need; `SizeList`, those of a tree; and `BoxSpacing`, on which
 //!   they depend
-//! - `piece`: `Piece`, a text or a border in its rectangle
-//! - `places`: `Drawing`, the pieces and their settings; and the rectangles of all of them
+//! - `rectangle`: `Rectangle`, and how one of several boxes is split after the first
+//! - `kind`, `piece`, `piece_list`: `Piece`, a text or a border in its rectangle; its `Kind`; and
+//!   `PieceList`, all of them
+//! - `places`: where the boxes of a tree are placed
+//! - `drawing`: `Drawing`, the pieces and their settings
 //!
 //! Shared by both ways of drawing:
 //! - `draw`: one line of a drawing, and the lines of the block of a text
@@ -40,16 +43,20 @@
 mod bordered_text;
 mod color_marks;
 mod draw;
+mod drawing;
 mod drawn_block;
 mod inherited_sizes;
 mod inheriting_box;
 mod junction;
+mod kind;
 mod line_runs;
 mod making;
 mod piece;
+mod piece_list;
 mod places;
 mod plain;
 mod pool_table;
+mod rectangle;
 mod sizes;
 mod sweep;
 mod table_lines;

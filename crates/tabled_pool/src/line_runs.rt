@@ -11,9 +11,10 @@ ghost use Rattle.tabled_pool.specs.Numbers.{AreSized};
 ghost use Rattle.tabled_pool.specs.Plan.{plan_of};
 ghost use Rattle.tabled_pool.specs.TallTexts.{AreTall, IsIn, IsInLine};
 
+use crate::drawing::Drawing;
 use crate::junction::{Arms, border_char, own_char};
+use crate::kind::{Kind, is_line_kind};
 use crate::piece::{NOT_KNOWN, Piece};
-use crate::places::{Drawing, Kind, is_line_kind};
 use crate::sweep::{Sweep, number_at, piece_at};
 use crate::tall_texts::{BoxText, TallText};
 

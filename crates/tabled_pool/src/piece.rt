@@ -4,7 +4,8 @@ ghost use Rattle.tabled_base.specs.Content.{content_text};
 ghost use Rattle.tabled_pool.specs.PieceText.{own_text, piece_text};
 ghost use Rattle.tabled_text.specs.Measure.{lines_of, text_columns};
 
-use crate::places::{Kind, Rectangle};
+use crate::kind::Kind;
+use crate::rectangle::Rectangle;
 use crate::tree::TableValue;
 use tabled_base::Content;
 

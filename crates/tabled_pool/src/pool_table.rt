@@ -21,11 +21,14 @@ ghost use Rattle.tabled_pool.specs.Sizes.{AreAdded, sizes_within};
 ghost use Rattle.tabled_pool.specs.Tree.{IsInner};
 ghost use Rattle.tabled_priority.specs.Sums.{one_if};
 
+use crate::drawing::Drawing;
 use crate::drawn_block::DrawnBlock;
 use crate::junction::{has_bottom, has_top};
 use crate::piece::Piece;
-use crate::places::{Drawing, PieceList, Placer, Rectangle, place_tree};
+use crate::piece_list::PieceList;
+use crate::places::{Placer, place_tree};
 use crate::plain::{are_uncolored_lines, are_uncolored_sides};
+use crate::rectangle::Rectangle;
 use crate::sizes::{BoxSpacing, Size, SizeList, measure, sum};
 use crate::table_lines::{ColoredMargin, TableLines, draw_lines};
 use crate::tree::TableValue;

@@ -6,8 +6,10 @@ ghost use Rattle.tabled_pool.specs.Numbers.{IsNumber};
 ghost use Rattle.tabled_pool.specs.Plan.{plan_of};
 ghost use Rattle.tabled_pool.specs.TallTexts.{AreTall};
 
+use crate::drawing::Drawing;
 use crate::piece::Piece;
-use crate::places::{Drawing, NO_PIECE, Rectangle, no_pieces};
+use crate::piece_list::{NO_PIECE, no_pieces};
+use crate::rectangle::Rectangle;
 use crate::tall_texts::TallTexts;
 use std::alloc::Global;
 use std::mem;

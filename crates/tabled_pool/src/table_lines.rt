@@ -10,9 +10,9 @@ ghost use Rattle.tabled_pool.specs.TableLines.{AreSizedLines, IsSwept, content_o
 
 use crate::color_marks::draw_colored_fill;
 use crate::draw::draw_line;
+use crate::drawing::Drawing;
 use crate::drawn_block::DrawnBlock;
 use crate::line_runs::Line;
-use crate::places::Drawing;
 use crate::sizes::Size;
 use crate::sweep::Sweep;
 use tabled_base::TableError;

@@ -9,8 +9,10 @@ ghost use Rattle.tabled_pool.specs.Plan.{DrawingPlan, plan_of};
 ghost use Rattle.tabled_pool.specs.TallTexts.{AreTall, HasLine, IsIn, IsTall};
 ghost use Rattle.tabled_text.specs.Measure.{line_columns, lines_of};
 
+use crate::drawing::Drawing;
 use crate::piece::{NOT_KNOWN, Piece};
-use crate::places::{Drawing, Rectangle, no_pieces};
+use crate::piece_list::no_pieces;
+use crate::rectangle::Rectangle;
 use std::alloc::Global;
 use tabled_base::Content;
 use tabled_config::CellStyle;

@@ -10,10 +10,13 @@ ghost use Rattle.tabled_pool.specs.Inherited.{top_left};
 ghost use Rattle.tabled_pool.specs.Plan.{plan_of};
 ghost use Rattle.tabled_pool.specs.Sizes.{EndsWith, measured, sizes_in, sizes_within};
 
+use crate::drawing::Drawing;
 use crate::drawn_block::DrawnBlock;
 use crate::inheriting_box::{DrawnBoxes, InheritingBox};
+use crate::kind::is_line_kind;
 use crate::piece::Piece;
-use crate::places::{BoxesLeft, Drawing, Rectangle, is_line_kind, leaf_content, take_size};
+use crate::places::{leaf_content, take_size};
+use crate::rectangle::{BoxesLeft, Rectangle};
 use crate::sizes::{Direction, Size, SizeList, measure};
 use crate::tree::{BoxList, TableValue};
 use std::alloc::AllocError;

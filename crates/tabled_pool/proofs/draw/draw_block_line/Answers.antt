@@ -2,7 +2,7 @@ use Rattle.tabled_pool.proofs.Names.{CellStyle, List, Mark, None, Rectangle, Sid
 use Rattle.tabled_pool.proofs.Names.{length, lines_of, marks_of, nat_tests, part_of, plan_of, pool_block, slice_get, Leaf, ℕ, ◌-◌, ◌∙◌}
 use Rattle.tabled_pool.proofs.Names.{◌<◌, ◌≡◌, ◌≤◌}
 use Rattle.tabled_base.specs.Content.{content_text}
-use Rattle.tabled_pool.specs.declared.places.Drawing.{Drawing}
+use Rattle.tabled_pool.specs.declared.drawing.Drawing.{Drawing}
 use Rattle.tabled_pool.specs.Block.{line_below, lines_above}
 use Rattle.tabled_pool.proofs.PoolBlocks.{block-above, block-top, block-text, past_from_none, block-below}
 use Rattle.tabled_pool.proofs.draw.draw_block_line.Goals as goal

@@ -20,7 +20,8 @@ texts-preserved c =
             | inl e ↦
                 let is : get_or (slice_set texts index new) k d ≡ new =
                 ap (λ j. get_or (slice_set texts index new) j d) e ∙ get_or-set_same texts index new d inside in
-                let before : IsTall t y was = subst (IsTall t y) (sym (old.left index was (omega arith)) ∙ sym c.index_mut.ensures.value) (all index was (omega (arith, inside, old.same))) in
+                let same = sym (old.left index was (omega arith)) ∙ sym c.index_mut.ensures.value in
+                let before : IsTall t y was = subst (IsTall t y) same (all index was (omega (arith, inside, old.same))) in
                 subst (IsTall t (y + 1)) (sym is) (moved_text t y was c.advance.new.self c.advance.ensures before)
             | inr other ↦
                 subst (IsTall t (y + 1)) (sym (get_or-set_other texts index k new d other)) (old.moved t y k d all (omega (arith, within, other)))

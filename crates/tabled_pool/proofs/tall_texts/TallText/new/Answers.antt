@@ -14,7 +14,8 @@ returns c =
     let own : content_text content ≡ p.text = c.content-content.ensures in
     let first : c.in_ok-first.first ≡ p.place.y + fill_above style p.place.height p.text =
     c.in_ok-first.ensures.1 ∙ ap (λ n. p.place.y + n) (c.text_start.ensures ∙ ap (fill_above style p.place.height) own) in
-    let at = from_top (content_text content) (c.in_ok-first.first - c.args.y) c.in_ok-first.first c.args.y cursor refl c.if-first-y.false c.new.ensures in (
-      refl,
-      record { text = own; cursor = subst (λ text. IsAt text (p.place.y + fill_above style p.place.height p.text) c.args.y cursor) own (subst (λ n. IsAt (content_text content) n c.args.y cursor) first at) },
-    )
+    let start = c.in_ok-first.first in
+    let at = from_top (content_text content) (start - c.args.y) start c.args.y cursor refl c.if-first-y.false c.new.ensures in
+    let from = p.place.y + fill_above style p.place.height p.text in
+    let there = subst (λ n. IsAt (content_text content) n c.args.y cursor) first at in
+    (refl, record { text = own; cursor = subst (λ text. IsAt text from c.args.y cursor) own there })

@@ -1,8 +1,8 @@
 use Rattle.tabled_pool.proofs.Names.{Fits, first_part, place_along, rest_part, rules, sized, subst, sym, ◌≡◌, ◌≤◌}
 use Rattle.tabled_pool.specs.Boxes.{given_in}
 use Rattle.tabled_pool.proofs.Directions.{Cut, cut_facts}
-use Rattle.tabled_pool.proofs.places.split.Goals.{Start, After-rest_part-behind}
-use Rattle.tabled_pool.proofs.places.split.Goals as goal
+use Rattle.tabled_pool.proofs.rectangle.split.Goals.{Start, After-rest_part-behind}
+use Rattle.tabled_pool.proofs.rectangle.split.Goals as goal
 
 cut : (c : Start) → Cut c.args.direction c.args.spacing.now (sized c.args.size)
     (given_in c.args.direction c.args.spacing.now (sized c.args.size) c.args.left c.args.place) c.args.place
