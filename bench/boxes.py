@@ -22,9 +22,9 @@ processor (10,000), 20 to 50 ns where they aren't. So the bar of linear time com
 exceed the caches: at 144 bytes a level, they take 45 and 430 MB.
 
 A table is printed to a writer that counts bytes and keeps none. The time is that from the first to the
-last byte, without making the table. Printed are the shortest time of the rounds, also for each byte, and
-the greatest peak memory; then whether the bars below hold. The exit status is 1 if a bar is missed or
-a run fails.
+last byte, without making the table. The rounds of all tables are interleaved, since a host may be slow
+for some seconds. Printed are the shortest time of the rounds, also for each byte, and the greatest peak
+memory; then whether the bars below hold. The exit status is 1 if a bar is missed or a run fails.
 """
 
 import pathlib
@@ -33,7 +33,7 @@ import sys
 
 import building
 
-ROUNDS = 5
+ROUNDS = 25
 TABLES = {
     "records": (100, 1_000, 10_000),
     "boxes": (100, 300, 1_000, 3_000, 30_000),
@@ -249,15 +249,23 @@ def run(program, kind, count):
     return time, size, peak
 
 
-def measure(program, kind, count):
-    """Prints the shortest time and the greatest peak of the rounds. Returns that time and the bytes,
-    or nothing if a run fails."""
-    runs = []
+def measure(program):
+    """Runs all tables in interleaved rounds. Returns the runs of each, or nothing for one that failed."""
+    tables = [(kind, count) for kind, counts in TABLES.items() for count in counts]
+    runs = {table: [] for table in tables}
     for _ in range(ROUNDS):
-        found = run(program, kind, count)
-        if found is None:
-            return None
-        runs.append(found)
+        for table in tables:
+            if runs[table] is not None:
+                found = run(program, *table)
+                runs[table] = None if found is None else [*runs[table], found]
+    return runs
+
+
+def show(kind, count, runs):
+    """Prints the shortest time and the greatest peak of the runs. Returns that time and the bytes,
+    or nothing if a run failed."""
+    if runs is None:
+        return None
     time, size, peak = min(time for time, _, _ in runs), runs[0][1], max(peak for _, _, peak in runs)
     print(
         f"{kind:11} {count:>7}  {size:>9} bytes  {time / 1e6:9.2f} ms"
@@ -307,11 +315,9 @@ def judge(found):
 def main():
     crates = building.standing_on("tabled_pool", "tabled_extended", "tabled_set")
     used = ("tabled_base", "tabled_line", "tabled_pool", "tabled_extended", "tabled_set")
-    found = {}
     with building.program(__doc__, "box_times", crates, {"src/main.rt": PROGRAM}, used) as program:
-        for kind, counts in TABLES.items():
-            for count in counts:
-                found[kind, count] = measure(program, kind, count)
+        runs = measure(program)
+    found = {table: show(*table, runs[table]) for table in runs}
     sys.exit(0 if judge(found) else 1)
 
 
