@@ -1,5 +1,7 @@
 -- Two options in turn.
-use Rattle.std.specs.Prelude.{Option, None, Some, ◌⊎◌}
+use Rattle.std.specs.Prelude.{Option, None, Some, ◌≡◌, ◌⊎◌}
+use Rattle.tabled_base.specs.declared.error.TableError.{TableError}
+use Rattle.tabled_base.specs.declared.error.TableError.TheVariants.{Memory}
 use Rattle.tabled_base.specs.declared.position.Entity.{Entity}
 use Rattle.tabled_base.specs.declared.position.Entity.TheVariants.{Global}
 
@@ -26,6 +28,15 @@ module _ {R C D : Type 0} where
       (first second : R → C → D → R → C → D → Type 0) → R → C → D → R → C → D → Type 0
   EitherInTurn changes clears first second records config sizes records' config' sizes' =
       first records config sizes records' config' sizes' ⊎ InTurn changes clears second records config sizes records' config' sizes'
+
+  -- what is left of two changes that fail: the configuration is as it was. The records and the sizes
+  -- are as the changes left them, or as they were if the copy of the configuration failed
+  abbrev pub FailsInTurn : (needs_memory : C → Type 0) → TableError → (changes : R → C → D → R → C → D → Type 0) (clears : D → D → Type 0)
+      (first second : R → C → D → R → C → D → Type 0) → R → C → D → R → C → D → Type 0
+  FailsInTurn needs_memory error changes clears first second records config sizes records' config' sizes' =
+      (config' ≡ config)
+      × (((last : C) × EitherInTurn changes clears first second records config sizes records' last sizes')
+      ⊎ ((error ≡ Memory) × (needs_memory config × ((records' ≡ records) × (sizes' ≡ sizes)))))
 
   -- it holds before the first change, or where the second one begins
   abbrev pub HoldsInTurn : (changes : R → C → D → R → C → D → Type 0) (clears : D → D → Type 0)

@@ -33,7 +33,7 @@ pub use builder::Builder;
 pub use content::{Content, ContentRecords};
 pub use error::TableError;
 pub use objects::{Cell, Columns, Object, Rows};
-pub use options::{CellOption, StoredSizes, TableOption};
+pub use options::{CellOption, Configuration, StoredSizes, TableOption};
 pub use position::{Entity, Position};
 pub use records::{CellText, ExactRecords, IntoRecords, PeekableRecords, Records, RecordsMut};
 pub use row_slices::RowSlices;

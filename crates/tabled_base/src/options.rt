@@ -1,6 +1,7 @@
 //! `TableOption` and `CellOption`, which change tables and cells, and the sizes that a table
 //! stores.
-ghost use Rattle.std.specs.Prelude.{◌≡◌, ◌⊎◌, IfErr, OnOk, Option, Some};
+ghost use Rattle.std.specs.Prelude.{◌≡◌, ◌⊎◌, Bool, IfErr, IfOk, OnErr, OnOk, Option, Some, false};
+ghost use Rattle.std.specs.Prelude.{true};
 ghost use Rattle.tabled_base.specs.declared.error.TableError.{TableError};
 ghost use Rattle.tabled_base.specs.declared.error.TableError.TheVariants.{Memory, Range};
 ghost use Rattle.tabled_base.specs.declared.position.Entity.{Entity};
@@ -60,6 +61,10 @@ pub trait CellOption<R, C> {
     // The entity whose sizes must be measured again after the change. By default the entire table.
     ghost hint: { Self → Option Entity } = { λ _. Some Global };
 
+    // Whether a table undoes a failed change. If it doesn't, the change leaves the configuration as
+    // it was. By default it does.
+    ghost is_undone: { Self → Bool } = { λ _. true };
+
     /// Changes the cells of an entity. Fails with `Memory` if an allocation fails, or with `Range`
     /// if a sum or product exceeds `usize::MAX`.
     fn change(&self, records: &mut R, cfg: &mut C, entity: Entity) -> Result<(), TableError>
@@ -69,11 +74,30 @@ pub trait CellOption<R, C> {
             records.old cfg.old entity records.new cfg.new) }
         ensures only { IfErr result (λ e. (e ≡ Memory) ⊎ (e ≡ Range)) }
         ensures range { IfErr result (λ e. e ≡ Range
-            → out_of_range self.now records.old cfg.old entity) };
+            → out_of_range self.now records.old cfg.old entity) }
+        ensures kept { OnErr result (is_undone self.now ≡ false → cfg.new ≡ cfg.old) };
 
     /// Returns the entity whose sizes must be measured again after the change, or `None`.
     fn hint_change(&self) -> Option<Entity>
         ensures { result ≡ hint self.now };
+
+    /// Whether a failed change may leave the configuration changed, or the cells half changed, as
+    /// by the first of two options. A `Table` then copies the configuration and the cells of the
+    /// entity before the change, and restores them after an error. `true` is always right.
+    fn needs_undo(&self) -> bool
+        ensures { result ≡ is_undone self.now };
+}
+
+/// The configuration of a table, as its options see it.
+pub trait Configuration {
+    // Holds of a configuration whose copy needs an allocation. By default all do.
+    ghost needs_memory: { Self → Type 0 } = { λ _. Unit {0} };
+
+    /// Returns a copy. Fails only with `Memory`, if an allocation fails.
+    fn copied(&self) -> Result<Self, TableError>
+        ensures ok { IfOk result (λ copy. copy ≡ self.now) }
+        ensures needed { OnErr result (needs_memory self.now) }
+        ensures only { IfErr result (λ e. e ≡ Memory) };
 }
 
 /// The sizes of a table, as its options see them.

@@ -1,14 +1,16 @@
 //! `Settings`: two options in turn.
-ghost use Rattle.std.specs.Prelude.{◌≡◌};
+ghost use Rattle.std.specs.Prelude.{◌≡◌, ◌⊎◌, IfErr, OnOk};
 ghost use Rattle.tabled_base.specs.Settings.{Both, CellsHoldInTurn, CellsInTurn, EitherCellsInTurn};
-ghost use Rattle.tabled_base.specs.Settings.{EitherInTurn, HoldsInTurn, InTurn, both};
+ghost use Rattle.tabled_base.specs.Settings.{EitherInTurn, FailsInTurn, HoldsInTurn, InTurn, both};
+ghost use Rattle.tabled_base.specs.declared.error.TableError.TheVariants.{Memory, Range};
 
 use crate::error::TableError;
-use crate::options::{CellOption, StoredSizes, TableOption};
+use crate::options::{CellOption, Configuration, StoredSizes, TableOption};
 use crate::position::Entity;
 
 /// Two options, which change a table, or cells of it, in turn. A table changes as by two calls of
-/// `with`: behind each option the stored sizes that its hint names are cleared.
+/// `with`: behind each option the stored sizes that its hint names are cleared. If one of them
+/// fails, the configuration is as it was before both.
 ///
 /// ```rust
 /// table.with(Settings::new(Style::modern(), Padding::zero()).with(Width::wrap(40)))?;
@@ -48,10 +50,12 @@ fn both(first: Option<Entity>, second: Option<Entity>) -> Option<Entity>
     }
 }
 
-/// Fails where the first option fails, or the second one behind it.
+/// Copies the configuration first, and fails if that fails, or where the first option fails, or the
+/// second one behind it. Then the configuration is as it was, and the records are as the options
+/// left them.
 impl<
     R,
-    C,
+    C: Configuration + Drop,
     D: StoredSizes,
     A: TableOption<R, C, D> + Drop,
     B: TableOption<R, C, D> + Drop,
@@ -59,8 +63,8 @@ impl<
     ghost changes = { λ s. InTurn (A.changes s.first) (D.clears (A.hint s.first))
         (B.changes s.second) };
 
-    ghost fails = { λ s e. EitherInTurn (A.changes s.first) (D.clears (A.hint s.first))
-        (A.fails s.first e) (B.fails s.second e) };
+    ghost fails = { λ s e. FailsInTurn C.needs_memory e (A.changes s.first)
+        (D.clears (A.hint s.first)) (A.fails s.first e) (B.fails s.second e) };
 
     ghost out_of_range = { λ s. HoldsInTurn (A.changes s.first) (D.clears (A.hint s.first))
         (A.out_of_range s.first) (B.out_of_range s.second) };
@@ -71,15 +75,50 @@ impl<
     ghost hint = { λ s. B.hint s.second };
 
     fn change(self, records: &mut R, cfg: &mut C, dims: &mut D) -> Result<(), TableError> {
+        let before = cfg.copied()?;
+        match self.change_in_turn(records, cfg, dims) {
+            Ok(()) => Ok(()),
+            Err(e) => {
+                *cfg = before;
+                Err(e)
+            }
+        }
+    }
+
+    fn hint_change(&self) -> Option<Entity> {
+        self.second.hint_change()
+    }
+}
+
+impl<A, B> Settings<A, B> {
+    /// Changes a table by the first option, and then by the second one.
+    fn change_in_turn<R, C, D: StoredSizes>(
+        self,
+        records: &mut R,
+        cfg: &mut C,
+        dims: &mut D,
+    ) -> Result<(), TableError>
+    where
+        A: TableOption<R, C, D> + Drop,
+        B: TableOption<R, C, D> + Drop,
+        ensures ok { OnOk result (InTurn (A.changes self.first) (D.clears (A.hint self.first))
+            (B.changes self.second) records.old cfg.old dims.old records.new cfg.new dims.new) }
+        ensures promised { OnOk result (InTurn (Both (A.changes self.first) (A.promises self.first))
+            (D.clears (A.hint self.first)) (B.promises self.second)
+            records.old cfg.old dims.old records.new cfg.new dims.new) }
+        ensures err { IfErr result (λ e. EitherInTurn (A.changes self.first)
+            (D.clears (A.hint self.first)) (A.fails self.first e) (B.fails self.second e)
+            records.old cfg.old dims.old records.new cfg.new dims.new) }
+        ensures only { IfErr result (λ e. (e ≡ Memory) ⊎ (e ≡ Range)) }
+        ensures range { IfErr result (λ e. e ≡ Range → HoldsInTurn (A.changes self.first)
+            (D.clears (A.hint self.first)) (A.out_of_range self.first)
+            (B.out_of_range self.second) records.old cfg.old dims.old) }
+    {
         let Settings { first, second } = self;
         let hint = first.hint_change();
         first.change(records, cfg, dims)?;
         dims.clear_for(hint);
         second.change(records, cfg, dims)
-    }
-
-    fn hint_change(&self) -> Option<Entity> {
-        self.second.hint_change()
     }
 }
 
@@ -102,5 +141,9 @@ impl<R, C, A: CellOption<R, C>, B: CellOption<R, C>> CellOption<R, C> for Settin
 
     fn hint_change(&self) -> Option<Entity> {
         both(self.first.hint_change(), self.second.hint_change())
+    }
+
+    fn needs_undo(&self) -> bool {
+        true
     }
 }

@@ -5,7 +5,7 @@ ghost use Rattle.tabled_base.specs.declared.error.TableError.TheVariants.{Memory
 ghost use Rattle.tabled_config.specs.Lending.{LendsConfig};
 
 use crate::spanned::SpannedConfig;
-use tabled_base::TableError;
+use tabled_base::{Configuration, TableError};
 
 /// The strings written before and after a coloured part, such as ANSI escape sequences. They take
 /// no columns.
@@ -82,5 +82,11 @@ impl ColoredConfig {
     {
         let config = self.config.clone()?;
         Ok(ColoredConfig { config })
+    }
+}
+
+impl Configuration for ColoredConfig {
+    fn copied(&self) -> Result<ColoredConfig, TableError> {
+        self.clone()
     }
 }

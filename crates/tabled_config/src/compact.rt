@@ -8,6 +8,7 @@ use crate::alignment::{AlignmentHorizontal, AlignmentVertical, Formatting};
 use crate::borders::{Borders, Frame};
 use crate::colored::ANSIStr;
 use crate::sides::{Indent, Sides};
+use tabled_base::{Configuration, TableError};
 
 /// The settings of a table whose cells share them. It never allocates.
 #[derive(Clone, Copy, Debug, PartialEq, Eq, PartialOrd, Ord, Hash)]
@@ -339,5 +340,21 @@ impl From<CompactMultilineConfig> for CompactConfig {
 
     fn from(multiline: CompactMultilineConfig) -> CompactConfig {
         multiline.config
+    }
+}
+
+impl Configuration for CompactConfig {
+    ghost needs_memory = { λ _. ⊥ };
+
+    fn copied(&self) -> Result<CompactConfig, TableError> {
+        Ok(*self)
+    }
+}
+
+impl Configuration for CompactMultilineConfig {
+    ghost needs_memory = { λ _. ⊥ };
+
+    fn copied(&self) -> Result<CompactMultilineConfig, TableError> {
+        Ok(*self)
     }
 }

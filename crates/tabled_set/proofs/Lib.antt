@@ -8,5 +8,6 @@ pub mod NarrowedCells
 pub mod NarrowingTables
 pub mod Picking
 pub mod PromisedSizes
+pub mod PuttingBack
 pub mod RewrittenRecords
 pub mod TruncatedTexts

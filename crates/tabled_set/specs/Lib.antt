@@ -11,6 +11,7 @@ pub mod Narrowed
 pub mod NarrowedCells
 pub mod Priorities
 pub mod Promised
+pub mod PutBack
 pub mod Sides
 pub mod TextLines
 pub mod Truncated

@@ -1,5 +1,5 @@
 //! The option `Alignment`: where texts are placed in their cells.
-ghost use Rattle.std.specs.Prelude.{◌≡◌, IfErr, None, OnErr, OnOk};
+ghost use Rattle.std.specs.Prelude.{◌≡◌, IfErr, None, OnErr, OnOk, false};
 ghost use Rattle.tabled_base.specs.declared.position.Entity.TheVariants.{Global};
 ghost use Rattle.tabled_config.specs.Options.{Becomes, colored};
 ghost use Rattle.tabled_config.specs.declared.alignment.AlignmentHorizontal.TheVariants as horizontal;
@@ -154,11 +154,17 @@ impl<R> CellOption<R, ColoredConfig> for Alignment {
 
     ghost hint = { λ s. None };
 
+    ghost is_undone = { λ s. false };
+
     fn change(&self, _: &mut R, cfg: &mut ColoredConfig, entity: Entity) -> Result<(), TableError> {
         self.set_for(cfg.as_mut(), entity)
     }
 
     fn hint_change(&self) -> Option<Entity> {
         None
+    }
+
+    fn needs_undo(&self) -> bool {
+        false
     }
 }

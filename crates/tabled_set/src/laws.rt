@@ -1,6 +1,8 @@
-//! Facts about truncated texts, stated as contracts.
-ghost use Rattle.std.specs.Prelude.{ℕ, Bool, true, false, List, []};
-ghost use Rattle.tabled_set.specs.Common.{FitsIn, IsAdditive, IsCut, IsExactLine, IsLongestCut};
+//! Facts about truncated texts and about changes that failed, stated as contracts.
+ghost use Rattle.std.specs.Prelude.{ℕ, Bool, true, false, List, [], ◌≡◌};
+ghost use Rattle.tabled_set.specs.Common.{Entity, FitsIn, IsAdditive, IsCut, IsExactLine};
+ghost use Rattle.tabled_set.specs.Common.{IsLongestCut, IsRectangular};
+ghost use Rattle.tabled_set.specs.PutBack.{IsPutBack, StaysOutside};
 ghost use Rattle.tabled_set.specs.Truncated.{HasLongestLines, IsAdditiveLimit, IsTruncated};
 ghost use Rattle.tabled_set.specs.Truncated.{SuffixLimit};
 ghost use Rattle.tabled_text.specs.Room.{StaysWithin};
@@ -26,4 +28,17 @@ pub fn truncated_texts()
         → IsTruncated n [] limit false line answer → IsLongestCut n line answer }
     ensures lines { (n : ℕ) (limit : SuffixLimit) (text answer : List ℕ)
         → IsTruncated n [] limit true text answer → HasLongestLines n text answer }
+{}
+
+/// States what putting back the cells of a part leaves, after a change of the part failed: if the
+/// change left all other cells, every cell is as it was. The options of this library that change
+/// cells leave the others, whether they fail or not, and so do two of them in turn.
+#[tactic(auto, using(crate::proofs::PuttingBack::stays_twice))]
+pub fn parts_put_back()
+    ensures whole { (part : Entity) (before left after : List (List (List ℕ)))
+        → IsRectangular before → StaysOutside part before left
+        → IsPutBack part before left after → after ≡ before }
+    ensures in_turn { (part : Entity) (old between new : List (List (List ℕ)))
+        → StaysOutside part old between → StaysOutside part between new
+        → StaysOutside part old new }
 {}

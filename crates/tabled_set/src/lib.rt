@@ -19,6 +19,7 @@
 //!
 //! Changing cells and tables:
 //! - `walk`: changes the cells of an entity, row by row or column by column
+//! - `saved_cells`: copies of cells, which are put back if a change fails
 //! - `rewriting`: writes records anew, row by row, with some cells changed
 //! - `narrowing`: the widths to which columns shrink, and the change of a table to them
 //! - `narrowed_cells`: the cells of a narrowed table, for records that are only borrowed
@@ -33,6 +34,7 @@ mod narrowed_cells;
 mod narrowing;
 mod resize;
 mod rewriting;
+mod saved_cells;
 mod sizes;
 mod spaces;
 mod truncate;
@@ -47,9 +49,9 @@ pub use min_width::{Justify, MinWidth};
 pub use narrowed_cells::NarrowedRows;
 pub use resize::{CellFilter, Change, ContentSizes};
 pub use rewriting::changed_records;
+pub use saved_cells::{SavedCell, put_back, save_cells};
 pub use sizes::{HeightList, WidthList};
 pub use spaces::{Margin, Padding, PaddingExpand};
 pub use truncate::{SuffixLimit, Truncate, Truncating, columns_beside};
-pub use walk::{WalkOrder, change_cells};
 pub use word_wrap::WordWrap;
 pub use wrap::Wrap;

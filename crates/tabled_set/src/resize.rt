@@ -1,7 +1,7 @@
 //! `Resize`, the type of the options that change widths and heights: their transforms of one text,
 //! the cells that they are for, and the change of one, in place if possible.
 ghost use Rattle.std.specs.Prelude.{◌≡◌, ℕ, Option, Some, true, IfErr, IfNone, IfSome, List};
-ghost use Rattle.std.specs.Prelude.{IfOk, OnErr, OnOk, length, string_bytes};
+ghost use Rattle.std.specs.Prelude.{IfOk, OnErr, OnOk, length, string_bytes, false};
 ghost use Rattle.std.specs.Str.{IsCharBoundary};
 ghost use Rattle.tabled_set.specs.Common.{Cell, cell_at, covers, IsInside, lines_of, Memory};
 ghost use Rattle.tabled_set.specs.Common.{text_columns};
@@ -73,6 +73,8 @@ impl<T: TextTransform, W: Measurement<T::Direction>, P, R: RecordsMut> CellOptio
 
     ghost out_of_range = { λ s r c e. W.out_of_range s.size (R.cells r) c.config };
 
+    ghost is_undone = { λ s. false };
+
     fn change(
         &self,
         records: &mut R,
@@ -90,6 +92,10 @@ impl<T: TextTransform, W: Measurement<T::Direction>, P, R: RecordsMut> CellOptio
 
     fn hint_change(&self) -> Option<Entity> {
         Some(Entity::Global)
+    }
+
+    fn needs_undo(&self) -> bool {
+        false
     }
 }
 

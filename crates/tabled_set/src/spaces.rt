@@ -1,5 +1,5 @@
 //! The options `Margin` and `Padding`, the space around a table and around the text of a cell.
-ghost use Rattle.std.specs.Prelude.{◌≡◌, if◌then◌else◌, OnErr, OnOk};
+ghost use Rattle.std.specs.Prelude.{◌≡◌, if◌then◌else◌, OnErr, OnOk, false};
 ghost use Rattle.tabled_set.specs.Common.{Memory};
 ghost use Rattle.tabled_config.specs.Options.{Becomes, colored};
 ghost use Rattle.tabled_config.specs.declared.sides.Indent.{Indent};
@@ -193,11 +193,17 @@ impl<R> CellOption<R, ColoredConfig> for Padding {
 
     ghost fails = { λ s f r c e r' c'. IsPart e × ((f ≡ Memory) × ((r' ≡ r) × (c' ≡ c))) };
 
+    ghost is_undone = { λ s. false };
+
     fn change(&self, _: &mut R, cfg: &mut ColoredConfig, entity: Entity) -> Result<(), TableError> {
         cfg.as_mut().set_padding(entity, self.indent)
     }
 
     fn hint_change(&self) -> Option<Entity> {
         Some(Entity::Global)
+    }
+
+    fn needs_undo(&self) -> bool {
+        false
     }
 }

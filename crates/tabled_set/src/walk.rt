@@ -41,7 +41,7 @@ fn one_of(place: usize, count: usize) -> Range<usize>
 }
 
 /// Returns the lines of an entity's cells and their places in each.
-fn lines_of_entity<R: ExactRecords>(
+pub(crate) fn lines_of_entity<R: ExactRecords>(
     entity: Entity,
     order: WalkOrder,
     records: &R,
@@ -145,7 +145,7 @@ fn order_for<T: TextTransform, M: ContentSizes, R: RecordsMut>(
 /// Changes the entity's cells that have a content size and pass the filter, in the given order. No
 /// other cell changes. Fails only with `Memory`, at one of these cells that can't be cut in place.
 /// That cell and those after it are unchanged.
-pub fn change_cells<T: TextTransform, M: ContentSizes, R: RecordsMut>(
+pub(crate) fn change_cells<T: TextTransform, M: ContentSizes, R: RecordsMut>(
     by: &Change<'_, T, M>,
     records: &mut R,
     order: WalkOrder,

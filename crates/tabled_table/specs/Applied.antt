@@ -1,13 +1,14 @@
 -- What an option leaves of a table. The stored sizes that its hint names are cleared, and all of
 -- them if it fails.
-use Rattle.std.specs.Prelude.{◌≡◌, ℕ, List, [], ◌∷◌, Option, None, length, ◌⊎◌, ◌<◌, Some, if◌then◌else◌, nat_lt, slice_get, take}
-use Rattle.std.specs.Prelude.{unwrap_or}
+use Rattle.std.specs.Prelude.{◌≡◌, ℕ, List, [], ◌∷◌, Option, None, length, ◌⊎◌, ◌<◌, Some, slice_get, take}
+use Rattle.std.specs.Prelude.{Bool, false, true, if◌then◌else◌, nat_lt, ◌&&◌, ◌||◌, ◌==◌}
 use Rattle.tabled_base.specs.Cells.{columns}
 use Rattle.tabled_base.specs.declared.position.Entity.{Entity}
 use Rattle.tabled_config.specs.declared.colored.ColoredConfig.{ColoredConfig}
 use Rattle.tabled_size.specs.Cleared.{AreCleared}
 use Rattle.tabled_size.specs.Stored.{heights_of, widths_of}
 use Rattle.tabled_size.specs.declared.complete_dimension.CompleteDimension.{CompleteDimension}
+use Rattle.tabled_set.specs.PutBack.{IsPutBack}
 use Rattle.tabled_table.specs.declared.table.Table.{Table}
 use Rattle.tabled_base.specs.declared.error.TableError.{TableError}
 use Rattle.tabled_base.specs.declared.error.TableError.TheVariants.{Memory, Range}
@@ -58,9 +59,17 @@ pub record IsModified (changes : CellChange) (entities : List Entity) (hint : Op
 
 -- ---- a modification that fails at an entity, and why
 
+-- what is left of the cells and the configuration if a cell option fails at an entity. If its
+-- failure is undone, the cells of the entity are put back, and the copy for that may fail too
+abbrev pub FailsAt : Bool → (TableError → CellChange) → TableError → CellChange
+FailsAt false fails error cells config entity cells' config' = fails error cells config entity cells' config'
+FailsAt true fails error cells config entity cells' config' =
+    ((left : Cells) × fails error cells config entity left config' × IsPutBack entity cells left cells')
+    ⊎ ((error ≡ Memory) × ((cells' ≡ cells) × (config' ≡ config)))
+
 -- the option changes the first entities and fails at the next one; `Range` comes only if a sum or
 -- product exceeds the greatest `usize` there
-pub record IsStopped (changes : CellChange) (fails : TableError → CellChange)
+pub record IsStopped (is_undone : Bool) (changes : CellChange) (fails : TableError → CellChange)
     (out_of_range : Cells → ColoredConfig → Entity → Type 0) (entities : List Entity) (error : TableError)
     (cells : Cells) (config : ColoredConfig) (cells' : Cells) (config' : ColoredConfig) : Type 0 where
   pub count : ℕ
@@ -69,28 +78,29 @@ pub record IsStopped (changes : CellChange) (fails : TableError → CellChange)
   pub between : Cells
   pub between_config : ColoredConfig
   pub changed : ChangesEach changes (take count entities) cells config between between_config
-  pub refused : fails error between between_config entity cells' config'
+  pub refused : FailsAt is_undone fails error between between_config entity cells' config'
   pub cause : error ≡ Range → out_of_range between between_config entity
 
--- a copy of the configuration, if there are several entities
-abbrev pub kept_config : List Entity → ColoredConfig → Option ColoredConfig
-kept_config entities config = if nat_lt 1 (length entities) then Some config else None
+-- a copy of the configuration, if it may have to be restored
+abbrev pub kept_config : Bool → List Entity → ColoredConfig → Option ColoredConfig
+kept_config is_undone entities config =
+    if (nat_lt 1 (length entities) || (is_undone && length entities == 1)) then Some config else None
 
--- what a failed modification of some entities leaves: either an allocation failed, for their list
--- or the copy of the configuration, and then there is an entity and nothing changed; or the option
--- failed at an entity: those before it stay changed, and the configuration is the copy, or what the
--- option leaves if there is no copy
-abbrev pub IsPutBack : CellChange → (TableError → CellChange) → (Cells → ColoredConfig → Entity → Type 0)
-    → List Entity → TableError → Cells → ColoredConfig → Cells → ColoredConfig → Type 0
-IsPutBack changes fails out_of_range entities error cells config cells' config' =
-    ((error ≡ Memory) × ((0 < length entities) × ((cells' ≡ cells) × (config' ≡ config))))
-    ⊎ ((last : ColoredConfig)
-    × IsStopped changes fails out_of_range entities error cells config cells' last
-    × (config' ≡ unwrap_or (kept_config entities config) last))
+-- what a failed modification of some entities leaves. The configuration is as it was. Either the
+-- option failed at an entity, and those before it stay changed; or an allocation failed, for the
+-- list of entities or the copy of the configuration, and then there is an entity and no cell has
+-- changed
+pub record StopsModifying (is_undone : Bool) (changes : CellChange) (fails : TableError → CellChange)
+    (out_of_range : Cells → ColoredConfig → Entity → Type 0) (entities : List Entity) (error : TableError)
+    (cells : Cells) (config : ColoredConfig) (cells' : Cells) (config' : ColoredConfig) : Type 0 where
+  pub stopped : ((last : ColoredConfig)
+      × IsStopped is_undone changes fails out_of_range entities error cells config cells' last)
+      ⊎ ((error ≡ Memory) × ((0 < length entities) × (cells' ≡ cells)))
+  pub kept : config' ≡ config
 
 -- what a failed modification leaves of a table, which then has no sizes stored
-pub record ModifyingFails (changes : CellChange) (fails : TableError → CellChange)
+pub record ModifyingFails (is_undone : Bool) (changes : CellChange) (fails : TableError → CellChange)
     (out_of_range : Cells → ColoredConfig → Entity → Type 0) (entities : List Entity) (error : TableError)
     (old new : Table) : Type 0 where
-  pub parts : IsPutBack changes fails out_of_range entities error old.records old.config new.records new.config
+  pub parts : StopsModifying is_undone changes fails out_of_range entities error old.records old.config new.records new.config
   pub cleared : AreNone new.dimension

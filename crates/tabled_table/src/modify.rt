@@ -3,7 +3,7 @@ ghost use Rattle.std.specs.Prelude.{List, length, ℕ, ◌≡◌};
 ghost use Rattle.tabled_base.specs.Cells.{columns};
 ghost use Rattle.tabled_base.specs.declared.error.TableError.TheVariants.{Range};
 ghost use Rattle.tabled_config.specs.declared.colored.ColoredConfig.{ColoredConfig};
-ghost use Rattle.tabled_table.specs.Applied.{ChangesEach, IsPutBack};
+ghost use Rattle.tabled_table.specs.Applied.{ChangesEach, StopsModifying};
 
 use crate::applying::change_target;
 use tabled_base::{CellOption, Entity, Object, TableError, TableOption, Text, VecRecords};
@@ -49,8 +49,8 @@ pub struct ModifyBy<T, O> {
     pub option: O,
 }
 
-/// Changes each part that the target names, in order. If the option fails at a part, the cells of
-/// the parts before it stay changed; if there are several, the configuration is restored.
+/// Changes each part that the target names, in order. If the option fails at a part, the parts
+/// before it stay changed, and the configuration is as it was.
 impl<
     D,
     T: Object<VecRecords<Text<String>>> + Drop,
@@ -59,13 +59,13 @@ impl<
     ghost changes = { λ s r c d r' c' d'. ChangesEach (O.changes s.option)
         (T.picks s.target (length r) (columns r)) r c r' c' × (d' ≡ d) };
 
-    ghost fails = { λ s e r c d r' c' d'. IsPutBack (O.changes s.option) (O.fails s.option)
-        (O.out_of_range s.option) (T.picks s.target (length r) (columns r)) e r c r' c'
+    ghost fails = { λ s e r c d r' c' d'. StopsModifying (O.is_undone s.option) (O.changes s.option)
+        (O.fails s.option) (O.out_of_range s.option) (T.picks s.target (length r) (columns r)) e r c r' c'
         × (d' ≡ d) };
 
     ghost out_of_range = { λ s r c d. (r' : List (List (List ℕ))) × (c' : ColoredConfig)
-        × IsPutBack (O.changes s.option) (O.fails s.option) (O.out_of_range s.option)
-        (T.picks s.target (length r) (columns r)) Range r c r' c' };
+        × StopsModifying (O.is_undone s.option) (O.changes s.option) (O.fails s.option)
+        (O.out_of_range s.option) (T.picks s.target (length r) (columns r)) Range r c r' c' };
 
     ghost hint = { λ s. O.hint s.option };
 

@@ -94,7 +94,7 @@ modify_spec 𝓤 𝓛 𝓜 𝓡 wired A O L₀ L₁ g₁ d₁ g₂ d₂ d₃ d�
     move ! (1 ∷ 0 ∷ []) $ use2 𝓛 (raw (G.pre z)) (id⊢ 𝓤 _) $
     let parts = g₁.picks x (length (cells_of r.now)) (columns (cells_of r.now)) in
     let Applied = λ (n : R.Denot). IsModified (g₂.changes u) parts (g₂.hint u) r.now n in
-    let Left = λ (e : TableError) (n : R.Denot). ModifyingFails (g₂.changes u) (g₂.fails u) (g₂.out_of_range u) parts e r.now n in
+    let Left = λ (e : TableError) (n : R.Denot). ModifyingFails (g₂.is_undone u) (g₂.changes u) (g₂.fails u) (g₂.out_of_range u) parts e r.now n in
     let Known = λ (e : TableError). ((n : R.Denot) × Left e n) in
     calls_at ! (framed 𝓤 𝓛.H 𝓜 𝓣) G (met 𝓤 𝓛 𝓜 𝓡 (code.calls-tabled_table::table::Table::apply_own 𝓡.env wired) A O L₀
     L₁ g₁ d₁ g₂ d₂ d₃ d₄ m₁ m₂ m₃ m₄) z

@@ -1,5 +1,5 @@
 use Rattle.tabled_table.proofs.Names.{ChangesEach, take}
-use Rattle.tabled_table.proofs.applying.change_each.Given as goal
+use Rattle.tabled_table.proofs.applying.change_parts.Given as goal
 
 abbrev pub invariant-loop-entity : goal.invariant-loop-entity
 invariant-loop-entity g l =

@@ -3,7 +3,7 @@ use Rattle.tabled_base.specs.declared.position.Entity.{Entity}
 use Rattle.tabled_base.specs.declared.position.Entity.TheVariants.{Global}
 use Rattle.tabled_config.specs.declared.colored.ColoredConfig.{ColoredConfig}
 use Rattle.tabled_table.specs.Applied.{CellChange, Cells}
-use Rattle.tabled_table.proofs.applying.change_each.Goals as goal
+use Rattle.tabled_table.proofs.applying.change_parts.Goals as goal
 
 -- one entity more
 each_more : (changes : CellChange) (es : List Entity)
@@ -16,4 +16,4 @@ each_more changes (x ∷ es) e a b c d m n h k = (h.0, h.1, h.2, each_more chang
 pub loop-entity-preserved : goal.loop-entity-preserved
 loop-entity-preserved g c =
     rw (take_more c.args.entities.now c.loop-entity.entity-index Global (omega arith))
-    (each_more _ _ _ _ _ _ _ _ _ c.loop-entity.invariant c.in_ok-change.ensures.ok)
+    (each_more _ _ _ _ _ _ _ _ _ c.loop-entity.invariant c.in_ok-change_part.ensures.ok)
