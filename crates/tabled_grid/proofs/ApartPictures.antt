@@ -1,8 +1,9 @@
 -- Each line of a picture takes the table's columns, whatever texts the cells are.
 use Rattle.tabled_grid.proofs.Names.{EachLineTakes, Holds, HorizontalLine, IsPlainRule, IsRectangular, Sheet, [], arith, cell_at, columns}
 use Rattle.tabled_grid.proofs.Names.{columns_of, filled_width, get_or, length, line_columns, line_total, picture, plain_rule_line, row_line}
-use Rattle.tabled_grid.proofs.Names.{row_of, rule_line, slice_index, total_width, ℕ, ◌<◌, ◌≡◌}
+use Rattle.tabled_grid.proofs.Names.{fill, frame, plain-fill, row_of, rule_line, slice_index, total_width, ℕ, ◌<◌, ◌≡◌}
 use Rattle.std.specs.Str.{IsUtf8}
+use Rattle.tabled_text.specs.Plain.{IsAdditiveColumn}
 use Rattle.tabled_line.specs.Apart.{HoldsTexts, IsApartRow}
 use Rattle.tabled_line.proofs.ApartLines.{row_line_takes}
 use Rattle.tabled_size.specs.TextCells.{AreTexts}
@@ -37,6 +38,10 @@ rule_takes : (t : Sheet) (line : HorizontalLine) → IsApartSheet t → IsPlainR
 unfolding filled_width line_total
 rule_takes t line p q = (plain_rule_line (columns_of t) line p.config.frame.margin_left.additive p.config.frame.margin_right.additive q).columns
 
+fill_takes : (t : Sheet) (c : ℕ) → IsAdditiveColumn c → line_columns (fill c (filled_width t.config (columns t.cells) t.widths))
+    ≡ filled_width t.config (columns t.cells) t.widths
+fill_takes t c h = (plain-fill c (filled_width t.config (columns t.cells) t.widths) h).columns
+
 -- each line of the picture takes the table's columns, whatever texts the cells are
 pub apart_columns : (t : Sheet) → IsApartConfig t.config (length t.cells) (columns t.cells) → AreTexts t.cells → IsRectangular t.cells → Holds t
     → EachLineTakes (total_width t) (picture t)
@@ -45,6 +50,6 @@ apart_columns t config texts rectangular holds =
     picture_takes t (record {
       row = λ row i l m. row_takes t row i p l m;
       rule = λ i line b e. rule_takes t line p (config.rules i b line e);
-      margin_top = config.margin_top;
-      margin_bottom = config.margin_bottom;
+      margin_top = fill_takes t (frame t.config).margin.top.fill config.margin_top;
+      margin_bottom = fill_takes t (frame t.config).margin.bottom.fill config.margin_bottom;
     })

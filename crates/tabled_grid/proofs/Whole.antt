@@ -5,10 +5,9 @@ use Rattle.tabled_grid.proofs.Names.{filled_picture, filled_width, flat_map, fra
 use Rattle.tabled_grid.proofs.Names.{line_columns, map, one_if, picture, plain-fill, range_with_len, refl, replicate, row_line, row_lines}
 use Rattle.tabled_grid.proofs.Names.{row_of, row_part, rule, rule_at, rule_line, slice_index, suc, sum_below, total_width, true, zero, ℕ}
 use Rattle.tabled_grid.proofs.Names.{◌++◌, ◌+◌, ◌<◌, ◌∙◌, ◌≡◌, ◌≤◌}
-use Rattle.std.proofs.Common.{cond, length-append}
+use Rattle.std.proofs.Common.{All, cond, length-append}
 use Rattle.std.proofs.lemmas.List.{length-replicate}
 use Rattle.std.proofs.lemmas.List.Elements.{All-append, All-cons, All-nil, All-push, All-replicate, All-same}
-use Rattle.tabled_text.specs.Plain.{IsAdditiveColumn}
 use Rattle.tabled_size.specs.Totals.{total_height, rules_at, part_height}
 use Rattle.tabled_line.specs.Row.{rule_if}
 use Rattle.tabled_line.proofs.Each.{map-more}
@@ -17,67 +16,68 @@ use Rattle.tabled_grid.proofs.Measuring.{IsPlainSheet, plain-row_line, plain-rul
 abbrev Takes : ℕ → List ℕ → Type 0
 Takes n line = line_columns line ≡ n
 
-abbrev full_width : Sheet → ℕ
+abbrev pub full_width : Sheet → ℕ
 full_width t = filled_width t.config (columns t.cells) t.widths
 
--- the lines of rows, the horizontal lines and those of margins take the table's columns
-pub record EachTakes (t : Sheet) : Type 0 where
-  pub row : (row index : ℕ) → row < length t.cells → index < slice_index t.heights row → Takes (full_width t) (row_line (row_of t row) index)
-  pub rule : (i : ℕ) (line : HorizontalLine) → i ≤ length t.cells → rule_at t.config (length t.cells) i ≡ Some line
-      → Takes (full_width t) (rule_line (columns_of t) line)
-  pub margin_top : IsAdditiveColumn (frame t.config).margin.top.fill
-  pub margin_bottom : IsAdditiveColumn (frame t.config).margin.bottom.fill
+-- what holds of the lines of rows, of the horizontal lines and of the lines of margins
+pub record OfParts (P : List ℕ → Type 0) (t : Sheet) : Type 0 where
+  pub row : (row index : ℕ) → row < length t.cells → index < slice_index t.heights row → P (row_line (row_of t row) index)
+  pub rule : (i : ℕ) (line : HorizontalLine) → i ≤ length t.cells → rule_at t.config (length t.cells) i ≡ Some line → P (rule_line (columns_of t) line)
+  pub margin_top : P (fill (frame t.config).margin.top.fill (full_width t))
+  pub margin_bottom : P (fill (frame t.config).margin.bottom.fill (full_width t))
 
-each-mapped : (n : ℕ) (f : ℕ → List ℕ) (k : ℕ) → ((i : ℕ) → i < k → Takes n (f i)) → EachLineTakes n (map f (range_with_len 0 k))
-each-mapped n f zero h = All-nil (Takes n)
-each-mapped n f (suc k) h =
+each-mapped : (P : List ℕ → Type 0) (f : ℕ → List ℕ) (k : ℕ) → ((i : ℕ) → i < k → P (f i)) → All P (map f (range_with_len 0 k))
+each-mapped P f zero h = All-nil P
+each-mapped P f (suc k) h =
     let e : suc k ≡ k + 1 = omega arith in
-    All-same (Takes n) _ _ (ap (λ m. map f (range_with_len 0 m)) e ∙ map-more f k)
-    (All-push (Takes n) (map f (range_with_len 0 k)) (f k) (each-mapped n f k (λ i l. h i (omega arith))) (h k (omega arith)))
+    All-same P _ _ (ap (λ m. map f (range_with_len 0 m)) e ∙ map-more f k)
+    (All-push P (map f (range_with_len 0 k)) (f k) (each-mapped P f k (λ i l. h i (omega arith))) (h k (omega arith)))
 
-each-flat : (n : ℕ) (f : ℕ → List (List ℕ)) (k : ℕ) → ((i : ℕ) → i < k → EachLineTakes n (f i)) → EachLineTakes n (flat_map f (range_with_len 0 k))
-each-flat n f zero h = All-nil (Takes n)
-each-flat n f (suc k) h =
+each-flat : (P : List ℕ → Type 0) (f : ℕ → List (List ℕ)) (k : ℕ) → ((i : ℕ) → i < k → All P (f i)) → All P (flat_map f (range_with_len 0 k))
+each-flat P f zero h = All-nil P
+each-flat P f (suc k) h =
     let e : suc k ≡ k + 1 = omega arith in
-    All-same (Takes n) _ _ (ap (λ m. flat_map f (range_with_len 0 m)) e ∙ each-more f k)
-    (All-append (Takes n) (flat_map f (range_with_len 0 k)) (f k) (each-flat n f k (λ i l. h i (omega arith))) (h k (omega arith)))
+    All-same P _ _ (ap (λ m. flat_map f (range_with_len 0 m)) e ∙ each-more f k)
+    (All-append P (flat_map f (range_with_len 0 k)) (f k) (each-flat P f k (λ i l. h i (omega arith))) (h k (omega arith)))
 
-each-fill : (n k c : ℕ) → IsAdditiveColumn c → EachLineTakes n (replicate k (fill c n))
-each-fill n k c h = All-replicate (Takes n) k (fill c n) (plain-fill c n h).columns
+module _ (P : List ℕ → Type 0) (t : Sheet) (p : OfParts P t) where
+  each-rule_if : (o : Option HorizontalLine) (i : ℕ) → i ≤ length t.cells → rule_at t.config (length t.cells) i ≡ o → All P (rule_if (columns_of t) o)
+  each-rule_if None i b e = All-nil P
+  each-rule_if (Some l) i b e = All-cons P _ [] (p.rule i l b e) (All-nil P)
 
-each-rule_if : (t : Sheet) (o : Option HorizontalLine) (i : ℕ) → EachTakes t → i ≤ length t.cells → rule_at t.config (length t.cells) i ≡ o
-    → EachLineTakes (full_width t) (rule_if (columns_of t) o)
-each-rule_if t None i p b e = All-nil (Takes (full_width t))
-each-rule_if t (Some l) i p b e = All-cons (Takes (full_width t)) _ [] (p.rule i l b e) (All-nil (Takes (full_width t)))
+  each-rule : (i : ℕ) → i ≤ length t.cells → All P (rule t i)
+  unfolding rule
+  each-rule i b = each-rule_if (rule_at t.config (length t.cells) i) i b refl
 
-each-rule : (t : Sheet) (i : ℕ) → EachTakes t → i ≤ length t.cells → EachLineTakes (full_width t) (rule t i)
-unfolding rule
-each-rule t i p b = each-rule_if t (rule_at t.config (length t.cells) i) i p b refl
+  each-row : (row : ℕ) → row < length t.cells → All P (row_part t row)
+  unfolding row_part row_lines
+  each-row row l =
+      All-append P (rule t row) _ (each-rule row (omega arith))
+      (each-mapped P (row_line (row_of t row)) (slice_index t.heights row) (λ i m. p.row row i l m))
 
-each-row : (t : Sheet) (row : ℕ) → EachTakes t → row < length t.cells → EachLineTakes (full_width t) (row_part t row)
-unfolding row_part row_lines
-each-row t row p l =
-    All-append (Takes (full_width t)) (rule t row) _ (each-rule t row p (omega arith))
-    (each-mapped (full_width t) (row_line (row_of t row)) (slice_index t.heights row) (λ i m. p.row row i l m))
+  each-filled : All P (filled_picture t (full_width t))
+  unfolding filled_picture
+  each-filled =
+      let n = full_width t in
+      let margin = (frame t.config).margin in
+      let rows = length t.cells in
+      All-append P (replicate margin.top.size (fill margin.top.fill n)) _ (All-replicate P margin.top.size (fill margin.top.fill n) p.margin_top)
+      (All-append P (flat_map (row_part t) (range_with_len 0 rows)) _ (each-flat P (row_part t) rows (λ i l. each-row i l))
+      (All-append P (rule t rows) _ (each-rule rows (omega arith)) (All-replicate P margin.bottom.size (fill margin.bottom.fill n) p.margin_bottom)))
 
-each-filled : (t : Sheet) → EachTakes t → EachLineTakes (full_width t) (filled_picture t (full_width t))
-unfolding filled_picture
-each-filled t p =
-    let n = full_width t in
-    let margin = (frame t.config).margin in
-    let rows = length t.cells in
-    All-append (Takes n) (replicate margin.top.size (fill margin.top.fill n)) _ (each-fill n margin.top.size margin.top.fill p.margin_top)
-    (All-append (Takes n) (flat_map (row_part t) (range_with_len 0 rows)) _ (each-flat n (row_part t) rows (λ i l. each-row t i p l))
-    (All-append (Takes n) (rule t rows) _ (each-rule t rows p (omega arith)) (each-fill n margin.bottom.size margin.bottom.fill p.margin_bottom)))
+  -- then it holds of all lines of the picture
+  pub each-line : All P (picture t)
+  unfolding picture
+  each-line = elim (is_empty t.cells) as (λ b. All P (cond b [] (filled_picture t (full_width t)))) [ true ↦ All-nil P | false ↦ each-filled ]
 
 either-takes : (b : Bool) (n : ℕ) (ls : List (List ℕ)) → EachLineTakes n ls → EachLineTakes (cond b 0 n) (cond b [] ls)
 either-takes true n ls h = All-nil (Takes 0)
 either-takes false n ls h = h
 
--- then so do all lines of the picture
-pub picture_takes : (t : Sheet) → EachTakes t → EachLineTakes (total_width t) (picture t)
+-- if the lines of rows, the horizontal lines and those of margins take the table's columns, so do all lines of the picture
+pub picture_takes : (t : Sheet) → OfParts (Takes (full_width t)) t → EachLineTakes (total_width t) (picture t)
 unfolding picture
-picture_takes t p = either-takes (is_empty t.cells) (full_width t) (filled_picture t (full_width t)) (each-filled t p)
+picture_takes t p = either-takes (is_empty t.cells) (full_width t) (filled_picture t (full_width t)) (each-filled (Takes (full_width t)) t p)
 
 -- each line of the picture of a plain table that holds its cells takes the table's columns
 pub picture_columns : (t : Sheet) → IsPlainConfig t.config (length t.cells) (columns t.cells) → AreAdditive t.cells → IsRectangular t.cells → Holds t
@@ -87,8 +87,8 @@ picture_columns t config texts rectangular holds =
     picture_takes t (record {
       row = λ row i l m. (plain-row_line t row i p l m).columns;
       rule = λ i line b e. (plain-rule_line t line p (config.rules i b line e)).columns;
-      margin_top = config.frame.margin_top;
-      margin_bottom = config.frame.margin_bottom;
+      margin_top = (plain-fill (frame t.config).margin.top.fill (full_width t) config.frame.margin_top).columns;
+      margin_bottom = (plain-fill (frame t.config).margin.bottom.fill (full_width t) config.frame.margin_bottom).columns;
     })
 
 -- ---- how many lines

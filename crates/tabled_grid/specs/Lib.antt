@@ -5,3 +5,4 @@ pub mod Narrow
 pub mod Picture
 pub mod PlainSheet
 pub mod Printed
+pub mod Shown

@@ -3,6 +3,7 @@ pub mod PlacementFacts
 pub mod ApartLines
 pub mod Appended
 pub mod Bars
+pub mod Below
 pub mod Blocks
 pub mod Contents
 pub mod Each

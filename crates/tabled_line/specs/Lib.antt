@@ -16,4 +16,5 @@ pub mod RowLines
 pub mod SendsBut
 pub mod Sent
 pub mod Slots
+pub mod StopsBelow
 pub mod WriterSent

@@ -1,5 +1,6 @@
 pub mod Names
 pub mod NewTables
+pub mod PrintedLines
 pub mod Progressions
 pub mod Shown
 pub mod Stream

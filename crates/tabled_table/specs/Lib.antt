@@ -3,6 +3,7 @@ pub mod Batches
 pub mod Lending
 pub mod NewConfig
 pub mod NewTable
+pub mod PrintedLines
 pub mod PrintedWith
 pub mod Stream
 pub mod TableSheet

@@ -1,12 +1,16 @@
 //! Laws of tables and of streamed tables, each the contract of a function.
 ghost use Rattle.std.specs.Prelude.{◌≡◌, ℕ, List, length, ◌<◌, ◌≤◌, ◌-◌, ◌++◌, All, IsUtf8};
-ghost use Rattle.std.specs.Prelude.{Option, encode_utf8, true};
-ghost use Rattle.tabled_base.specs.Cells.{columns, IsRectangular};
+ghost use Rattle.std.specs.Prelude.{None, Option, encode_utf8, false, map, string_bytes, true};
+ghost use Rattle.std.specs.Borrow.{Bor};
+ghost use Rattle.std.specs.declared.alloc.Global.{Global};
+ghost use Rattle.std.specs.declared.string.String.{String};
+ghost use Rattle.tabled_base.specs.Cells.{columns, IsRectangular, lengthened_rows};
 ghost use Rattle.tabled_size.specs.Holds.{Holds};
 ghost use Rattle.tabled_grid.specs.ApartSheet.{IsApartConfig};
 ghost use Rattle.tabled_grid.specs.PlainSheet.{IsPlainConfig};
 ghost use Rattle.tabled_table.specs.NewTable.{IsNew};
-ghost use Rattle.tabled_table.specs.TableSheet.{new_sheet, sheet};
+ghost use Rattle.tabled_table.specs.PrintedLines.{ShowsCells};
+ghost use Rattle.tabled_table.specs.TableSheet.{IsApart, IsPlain, cells_of, new_sheet, sheet};
 ghost use Rattle.tabled_table.specs.declared.table.Table.{Table};
 ghost use Rattle.tabled_text.specs.Cut.{IsCut};
 ghost use Rattle.tabled_text.specs.Fitting.{FitsIn};
@@ -16,7 +20,10 @@ ghost use Rattle.tabled_text.specs.Plain.{IsAdditive};
 ghost use Rattle.tabled_text.specs.Exact.{IsExactLine};
 ghost use Rattle.tabled_config.specs.declared.compact.CompactConfig.{CompactConfig};
 ghost use Rattle.tabled_config.specs.Spanned.{spanned_of_compact};
-ghost use Rattle.tabled_size.specs.Sheet.{Sheet, estimated};
+ghost use Rattle.tabled_size.specs.Sheet.{Sheet, estimated, is_empty};
+ghost use Rattle.tabled_size.specs.Stored.{heights_of};
+ghost use Rattle.tabled_size.specs.Totals.{total_height};
+ghost use Rattle.tabled_grid.specs.Picture.{table_text};
 ghost use Rattle.tabled_size.specs.TextCells.{AreTexts};
 ghost use Rattle.tabled_table.specs.declared.iter_table.settings.StreamSettings.{StreamSettings};
 ghost use Rattle.tabled_table.specs.Stream.GoesOn.{GoesOn};
@@ -38,6 +45,27 @@ pub fn new_tables()
         → IsPlainConfig (sheet table).config (length cells) (columns cells) }
     ensures holds { (cells : List (List (List ℕ))) (table : Table) → IsNew cells table
         → Holds (sheet table) }
+{}
+
+/// The cells of a table that was made of strings, owned or borrowed, are texts.
+pub fn tables_of_strings()
+    ensures owned { (cells : List (List (String Global))) (table : Table)
+        → IsNew (lengthened_rows (map (map string_bytes) cells)) table
+        → AreTexts (cells_of table) }
+    ensures borrowed { (cells : List (List (Bor (String Global)))) (table : Table)
+        → IsNew (lengthened_rows (map (map (λ s. string_bytes s.now)) cells)) table
+        → AreTexts (cells_of table) }
+{}
+
+/// A table with a row and a column has a line, if no heights are stored. Then all lines of each
+/// cell can be read in its text, one below the other, each whole, if settings are additive. They
+/// are if they separate the cells.
+pub fn printed_tables()
+    ensures some { (table : Table) → is_empty (cells_of table) ≡ false
+        → heights_of table.dimension ≡ None → 0 < total_height (sheet table) }
+    ensures cells { (table : Table) → IsPlain table → heights_of table.dimension ≡ None
+        → ShowsCells (cells_of table) (table_text (sheet table)) }
+    ensures apart { (table : Table) → IsApart table → IsPlain table }
 {}
 
 /// A stream prints the same bytes as a `Table` of the same cells if

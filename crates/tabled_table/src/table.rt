@@ -1,6 +1,6 @@
 //! `Table`: cells with settings and sizes, and the settings of a new table.
-ghost use Rattle.std.specs.Prelude.{◌≡◌, ◌↔◌, [], IfErr, IfOk, IsTrue, None, Ok, false, length};
-ghost use Rattle.std.specs.Prelude.{not, string_bytes, true};
+ghost use Rattle.std.specs.Prelude.{◌≡◌, ◌<◌, ◌↔◌, [], IfErr, IfOk, IsTrue, None, Ok, OnOk};
+ghost use Rattle.std.specs.Prelude.{false, length, not, string_bytes, true};
 ghost use Rattle.std.specs.Borrow.{Lends, sem};
 ghost use Rattle.tabled_base.specs.contracts.text.Text.{the_row as text_row};
 ghost use Rattle.tabled_base.specs.contracts.vec_records.VecRecords.{the_row as records_row};
@@ -65,6 +65,7 @@ impl Table {
     ghost use Rattle.tabled_table.specs.contracts.table.Table.{the_row};
     ghost use Rattle.tabled_table.specs.Lending.{LendsConfig, LendsDimension};
     ghost use Rattle.tabled_table.specs.NewTable.{IsNew};
+    ghost use Rattle.tabled_table.specs.PrintedLines.{HasTableLines, IsStraight, ShowsCells};
     ghost use Rattle.tabled_table.specs.TableSheet.{HasNoText, HasText, IsApart, IsPlain, cells_of};
     ghost use Rattle.tabled_table.specs.TableSheet.{sheet};
 
@@ -271,10 +272,19 @@ impl Table {
     ///
     /// If widths or heights aren't stored, printing allocates and can fail with `Memory` before the
     /// first byte. Every later error is the sink's, and then a beginning of the table was written.
+    ///
+    /// If the settings separate the cells and these are text, or if both are additive, each line of
+    /// the text is exactly `total_width` columns wide, and there are `total_height` lines. Only a
+    /// text without lines is excepted.
     pub fn write_to<S: TextSink>(&self, sink: &mut S) -> Result<(), TableError>
-        ensures { Prints (not (is_stored self.now.dimension)) (sheet self.now)
+        ensures printed { Prints (not (is_stored self.now.dimension)) (sheet self.now)
             (S.sent sink.old) result (S.sent sink.new) }
+        ensures lines { OnOk result (IsStraight self.now → 0 < total_height (sheet self.now)
+            → HasTableLines (sheet self.now) (table_text (sheet self.now))) }
     {
+        if is_empty(&self.records) {
+            return Ok(());
+        }
         print_standing(sink, &self.records, self.config.as_ref(), &self.dimension)
     }
 
@@ -287,8 +297,16 @@ impl Table {
     /// ```rust
     /// Table::from_iter(alloc, rows)?.with(Style::modern())?.to_text()
     /// ```
+    ///
+    /// The lines of the text are as wide as `write_to` says. If no heights are stored, all lines of
+    /// each cell can be read in them, one below the other, each whole.
     pub fn to_text(&self) -> Result<String, TableError>
         ensures ok { IfOk result (λ text. string_bytes text ≡ table_text (sheet self.now)) }
+        ensures lines { IfOk result (λ text. IsStraight self.now
+            → 0 < total_height (sheet self.now)
+            → HasTableLines (sheet self.now) (string_bytes text)) }
+        ensures cells { IfOk result (λ text. IsPlain self.now → heights_of self.now.dimension ≡ None
+            → ShowsCells (cells_of self.now) (string_bytes text)) }
         ensures printable { IfOk result (λ _. HasText self.now) }
         ensures err { IfErr result (λ e. HasNoText self.now e) }
     {
@@ -300,6 +318,11 @@ impl Table {
     /// Returns the printed table; see `to_text`.
     pub fn to_string(&self) -> Result<String, TableError>
         ensures ok { IfOk result (λ text. string_bytes text ≡ table_text (sheet self.now)) }
+        ensures lines { IfOk result (λ text. IsStraight self.now
+            → 0 < total_height (sheet self.now)
+            → HasTableLines (sheet self.now) (string_bytes text)) }
+        ensures cells { IfOk result (λ text. IsPlain self.now → heights_of self.now.dimension ≡ None
+            → ShowsCells (cells_of self.now) (string_bytes text)) }
         ensures printable { IfOk result (λ _. HasText self.now) }
         ensures err { IfErr result (λ e. HasNoText self.now e) }
     {

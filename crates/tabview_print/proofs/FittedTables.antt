@@ -5,6 +5,11 @@ use Rattle.tabled_set.proofs.Names.{frame_width, heights_length, heights_of, if_
 use Rattle.tabled_set.proofs.Names.{text_columns, total_width, true, widths_length, widths_of, ℕ, ⊎_elim, ◌+◌, ◌-◌, ◌<◌, ◌∙◌, ◌≡◌, ◌≤◌, []}
 use Rattle.std.proofs.Common.{Bool, MatchBool, le_of_eq}
 use Rattle.std.proofs.lemmas.Bool.{MatchBool-at_false, and_from, le-ltb, lt-ltb}
+use Rattle.tabled_base.specs.Cells.{IsRectangular}
+use Rattle.tabled_grid.proofs.ShownCells.{some_line_shown}
+use Rattle.tabled_grid.specs.ApartSheet.{IsApartConfig}
+use Rattle.tabled_grid.specs.Picture.{table_text}
+use Rattle.tabled_line.specs.Plain.{EachLineTakes}
 use Rattle.tabled_priority.specs.Permitted.{spare_total}
 use Rattle.tabled_set.proofs.ChangingCells.{AreChanged-as, columns-changed}
 use Rattle.tabled_set.proofs.Emptied.{minimums-length}
@@ -12,9 +17,14 @@ use Rattle.tabled_set.proofs.ExactTotals.{IsNarrowed-wider, changed_empty}
 use Rattle.tabled_set.proofs.Totals.{full_total}
 use Rattle.tabled_set.specs.CellChanges.{word_wrapping}
 use Rattle.tabled_set.specs.Narrowed.{IsNarrowed}
+use Rattle.tabled_size.specs.Holds.{Holds}
+use Rattle.tabled_size.specs.TextCells.{AreTexts}
+use Rattle.tabled_size.specs.Totals.{total_height}
 use Rattle.tabled_text.proofs.WordLaws.{kept-words}
+use Rattle.tabled_text.specs.Measure.{lines_of}
 use Rattle.tabview_cells.specs.Fitted.{GivesToFloors}
 use Rattle.tabview_cells.specs.declared.fit.AboveFloors.{AboveFloors}
+use Rattle.tabview_print.proofs.FittedLines.{apart_lines, narrowed-rectangular, narrowed-texts}
 use Rattle.tabview_print.proofs.FloorLemmas.{exact-given, fits-kept, floor-above, floor-below, floors-length, least-given}
 use Rattle.tabview_print.specs.Fitted.{IsCutTo, IsFitted, ShowsWithin, StaysIfFits, narrowing}
 use Rattle.tabview_print.specs.Floors.{floors_of, is_name, keeps_at}
@@ -92,10 +102,27 @@ module _ (laid : List Column) (header : Bool) (by : Narrowing) (n : ℕ) (cells 
       let l = least column in
       fits row column inside plain (omega arith) (omega arith)
 
+  has_line : 0 < total_height (effective new config stored)
+  has_line =
+      let t = effective new config stored in
+      let empty = changed_empty (λ row column. true) (λ row column. narrowing by (at ws column - side_padding config row column)) cells new changed in
+      some_line_shown t (empty ∙ full) (ap (λ o. effective_sizes o (estimated_heights new config) (length new)) cleared)
+
+  lines : IsApartConfig config (length cells) (columns cells) → IsRectangular cells → AreTexts cells → Holds (effective new config stored)
+      → EachLineTakes n (lines_of (table_text (effective new config stored)))
+  lines apart rectangular texts holds =
+      let t = effective new config stored in
+      let size : ℕ → ℕ → ℕ = λ row column. at ws column - side_padding config row column in
+      let own : IsApartConfig config (length new) (columns new) =
+      subst (λ k. IsApartConfig config k (columns new)) (sym changed.rows) (subst (λ k. IsApartConfig config (length cells) k) (sym new_columns) apart) in
+      subst (λ k. EachLineTakes k (lines_of (table_text t))) total
+      (apart_lines t own (narrowed-texts by size cells new changed rectangular texts) (narrowed-rectangular by size cells new changed rectangular) holds has_line)
+
   pub fitted : IsFitted laid header by n (estimated cells config) (effective new config stored)
   fitted = record {
     config = refl;
     total = total;
+    lines = lines;
     least = λ i. subst (λ xs. at (floors_of laid header (estimated cells config)) i ≤ at xs i) (sym new_widths) (least i);
     most = λ i. subst (λ xs. at xs i ≤ at (estimated_widths cells config) i) (sym new_widths) (given.most i);
     cells = subst (λ xs. AreChanged (λ row column. true) (λ row column. narrowing by (at xs column - side_padding config row column)) cells new) (sym new_widths) changed;

@@ -1,4 +1,5 @@
 pub mod FloorLemmas
+pub mod FittedLines
 pub mod FittedTables
 pub mod Printing
 pub mod Sides

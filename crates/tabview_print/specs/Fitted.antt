@@ -1,17 +1,22 @@
 -- Tables that are fitted to a width. A cell is the list of its bytes.
 use Rattle.std.specs.Prelude.{◌≡◌, ℕ, ◌-◌, ◌<◌, ◌≤◌, ⊤, Bool, false, true, List, [], ◌∷◌, MatchBool, None, Some, length, nat_le}
-use Rattle.tabled_base.specs.Cells.{IsInside, cell_at}
+use Rattle.tabled_base.specs.Cells.{IsInside, IsRectangular, cell_at, columns}
 use Rattle.tabled_config.specs.declared.spanned.SpannedConfig.{SpannedConfig}
+use Rattle.tabled_grid.specs.ApartSheet.{IsApartConfig}
+use Rattle.tabled_grid.specs.Picture.{table_text}
+use Rattle.tabled_line.specs.Plain.{EachLineTakes}
 use Rattle.tabled_priority.specs.Permitted.{at, spare_total}
 use Rattle.tabled_set.specs.CellChanges.{AreChanged, if_wider, truncating, word_wrapping}
 use Rattle.tabled_set.specs.Minimums.{side_padding}
 use Rattle.tabled_set.specs.declared.truncate.SuffixLimit.TheVariants.{Cut as CutSuffix}
 use Rattle.tabled_size.specs.Estimates.{estimated_heights, estimated_widths}
+use Rattle.tabled_size.specs.Holds.{Holds}
 use Rattle.tabled_size.specs.Sheet.{Sheet}
 use Rattle.tabled_size.specs.Stored.{heights_of, widths_of}
+use Rattle.tabled_size.specs.TextCells.{AreTexts}
 use Rattle.tabled_size.specs.Totals.{total_width}
 use Rattle.tabled_size.specs.declared.complete_dimension.CompleteDimension.{CompleteDimension}
-use Rattle.tabled_text.specs.Measure.{text_columns}
+use Rattle.tabled_text.specs.Measure.{lines_of, text_columns}
 use Rattle.tabled_text.specs.Plain.{IsAdditive}
 use Rattle.tabview_cells.specs.Fitted.{GivesToFloors}
 use Rattle.tabview_print.specs.Floors.{floors_of, is_name, keeps_at}
@@ -43,6 +48,10 @@ inner t row column = at t.widths column - side_padding t.config row column
 pub record IsFitted (laid : List Column) (header : Bool) (by : Narrowing) (n : ℕ) (old new : Sheet) : Type 0 where
   pub config : new.config ≡ old.config
   pub total : total_width new ≡ n
+  -- each line that is printed takes n columns, if the settings separate the cells and these are
+  -- texts. A table that can be printed holds its cells
+  pub lines : IsApartConfig old.config (length old.cells) (columns old.cells) → IsRectangular old.cells → AreTexts old.cells
+      → Holds new → EachLineTakes n (lines_of (table_text new))
   pub least : (column : ℕ) → at (floors_of laid header old) column ≤ at new.widths column
   pub most : (column : ℕ) → at new.widths column ≤ at old.widths column
   pub cells : AreChanged (λ row column. true) (λ row column. narrowing by (inner new row column)) old.cells new.cells

@@ -37,7 +37,7 @@ impl Template for Numbered {
 /// head cuts nothing.
 ///
 /// Errors: `Memory` before anything is sent, or those of `ExtendedTable::write_to`.
-pub fn print_expanded<S: TextSink>(
+pub(crate) fn print_expanded<S: TextSink>(
     alloc: Global,
     records: &JoinedRecords,
     has_header: bool,

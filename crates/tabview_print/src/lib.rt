@@ -19,7 +19,6 @@ mod rows;
 mod stream;
 mod styles;
 
-pub use expanded::print_expanded;
 pub use fallback::print_or_expand;
 pub use fitting::print_table;
 pub use layout::{Column, Layout, Narrowing};

@@ -17,7 +17,7 @@ returns-then-missing-eq0-clause-printed g c =
     let none = c.is_none.ensures ∙ ap not c.if-is_none.true in
     prints_unchanged c.args.self.now c.args.width c.args.align c.args.fill _ _ c.write_to.result
     (ap (λ n. is_some c.args.align || nat_lt 0 n) (sym c.in_ok-missing.ensures.ok ∙ c.if-missing-eq0.true) ∙ ap (λ b. b || nat_lt 0 0) none)
-    c.write_to.ensures
+    c.write_to.ensures.printed
 
 pub returns-clause-printed : goal.returns-clause-printed
 returns-clause-printed g c =
