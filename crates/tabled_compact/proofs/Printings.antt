@@ -1,15 +1,16 @@
 -- Compact tables that are printed, or refused before the first byte.
 use Rattle.tabled_compact.proofs.Names.{Bool, CompactSheet, Err, IfSome, IsErrAnd, IsFailure, IsSpent, List, Ok, Option, PrintsCompact}
-use Rattle.tabled_compact.proofs.Names.{PutsRows, Result, Sends, Sent, Some, Stops, TableError, Window, Writes, WritesLines, [], ap, arith}
-use Rattle.tabled_compact.proofs.Names.{false, has_rows, if◌then◌else◌, in_window, inl, inr, length, lines-finished, nat_tests, refl}
+use Rattle.tabled_compact.proofs.Names.{PutsRows, Result, Sends, Sent, Some, TableError, Window, WritesLines, [], ap, arith}
+use Rattle.tabled_compact.proofs.Names.{false, has_rows, if◌then◌else◌, in_window, inl, inr, length, nat_tests, refl}
 use Rattle.tabled_compact.proofs.Names.{rows_lines, spanned, subst, sym, tail_lines, true, ℕ, ⊎_elim, ◌++◌, ◌+◌, ◌==◌, ◌∙◌, ◌∷◌, ◌≡◌, ◌≤◌}
 use Rattle.tabled_compact.proofs.Names.{◌⊎◌}
 use Rattle.std.proofs.Common.{MatchResult, OnErr}
-use Rattle.std.proofs.lemmas.Result.{on_err_weaker}
-use Rattle.tabled_line.proofs.Leading.{lines-text}
+use Rattle.tabled_line.specs.StopsBelow.{StopsBelow}
+use Rattle.tabled_line.proofs.Below.{joined-below, lines-below}
+use Rattle.tabled_line.proofs.Leading.{lines-further, lines-text}
 use Rattle.tabled_line.proofs.Sending.{sends-along, sends-none}
 use Rattle.tabled_compact.specs.CompactLines.{compact_lines, compact_text, rows_text}
-use Rattle.tabled_compact.specs.Printed.{IsPrintable, IsPrinted}
+use Rattle.tabled_compact.specs.Printed.{IsPrintable, IsPrinted, StopsInRow}
 use Rattle.tabled_compact.specs.Shown.{AreEnough, AreWanted, shown, wanted}
 use Rattle.tabled_compact.proofs.RowPieces.{begun-rows}
 use Rattle.tabled_compact.proofs.Windows.{window-none, window-one, window-wanted}
@@ -73,39 +74,48 @@ module _ (t : CompactSheet) (w : Window) (comes : List (List (List ℕ)) → Boo
   pub prints-stopped : {T U : Type 0} (r : Result T TableError) (e : TableError) (new : Sent) (b : Bool) → IsPrintable t
       → PutsRows {T = U} t w old (Err e) new b rows whole → IsErrAnd r (λ d. d ≡ e) → PrintsCompact t w comes old r new
   prints-stopped (Ok x) e new b fine put i = absurd i
-  prints-stopped {U = U} (Err d) e new b fine put i =
-      let P : TableError → List (List (List ℕ)) → Type 0 = λ k rs. Stops old k new (rows_text t rs) in
-      let text = lines-text {T = U} old new b (Err e) (rows_lines t (in_window w rows)) put.lines in
+  prints-stopped (Err d) e new b fine put i =
+      let P : Bool → TableError → Type 0 = λ none k. StopsInRow (λ rs. rows_text t (if none then [] else in_window w rs)) rows old k new in
+      let stops = subst (λ none. P none d) (sym (has-columns t.count some)) (subst (P false) (sym i) put.lines) in
       record {
         rows = rows;
         whole = whole;
         came = came;
         taken = are-wanted put.taken;
         filled = ap has_rows all-shown ∙ put.filled;
-        ends = inr (record { printable = fine; stops = inl (subst (P d) (sym all-shown) (subst (λ k. P k (in_window w rows)) (sym i) text)) });
+        ends = inr (record { printable = fine; stops = inl stops });
       }
 
-  ended : {T : Type 0} (r : Result T TableError) (new : Sent) → IsPrintable t → IfSome (spanned w.skip w.limit) (λ most. length rows ≤ most)
-      → (whole ≡ true) ⊎ (spanned w.skip w.limit ≡ Some (length rows)) → OnErr r (has_rows (in_window w rows) ≡ true)
-      → Writes old r new (compact_text t (in_window w rows)) → PrintsCompact t w comes old r new
-  ended (Ok x) new fine taken enough filled text = record {
+  ended : {T U : Type 0} (r : Result T TableError) (x : U) (mid : Sent) (m : Bool) (new : Sent) (n : Bool) → IsPrintable t
+      → PutsRows {T = U} t w old (Ok x) mid m rows whole → WritesLines mid m r new n (if m then tail_lines t else [])
+      → OnErr r (m ≡ true) → m ≡ has_rows (in_window w rows)
+      → compact_lines t (in_window w rows) ≡ rows_lines t (in_window w rows) ++ (if m then tail_lines t else [])
+      → PrintsCompact t w comes old r new
+  ended (Ok y) x mid m new n fine put ends failed any all = record {
     rows = rows;
     whole = whole;
     came = came;
-    taken = are-wanted taken;
-    enough = are-enough enough;
+    taken = are-wanted put.taken;
+    enough = are-enough put.enough;
     printable = inr fine;
-    sends = sends-along old new _ _ text (ap (compact_text t) (sym all-shown));
+    sends = sends-along old new _ _
+        (lines-text {T = Unit {0}} old new n (Ok tt) (compact_lines t (in_window w rows)) (lines-further put.lines ends all))
+        (ap (compact_text t) (sym all-shown));
   }
-  ended (Err d) new fine taken enough filled text =
-      let P : List (List (List ℕ)) → Type 0 = λ rs. Stops old d new (compact_text t rs) in
+  ended (Err d) x mid m new n fine put ends failed any all =
+      let P : List (List (List ℕ)) → Type 0 = λ rs. StopsBelow (rows_text t rs) old d new (compact_text t rs) in
+      let lines = compact_lines t (in_window w rows) in
+      let stops = joined-below (rows_lines t (in_window w rows)) lines (lines-below lines put.lines ends all) in
       record {
         rows = rows;
         whole = whole;
         came = came;
-        taken = are-wanted taken;
-        filled = ap has_rows all-shown ∙ filled;
-        ends = inr (record { printable = fine; stops = inr (are-enough enough, subst P (sym all-shown) text) });
+        taken = are-wanted put.taken;
+        filled = ap has_rows all-shown ∙ sym any ∙ failed;
+        ends = inr (record {
+          printable = fine;
+          stops = inr (record { enough = are-enough put.enough; stops = subst P (sym all-shown) stops });
+        });
       }
 
   -- the rows were put, and then what stands below them
@@ -113,12 +123,9 @@ module _ (t : CompactSheet) (w : Window) (comes : List (List (List ℕ)) → Boo
       → PutsRows {T = U} t w old (Ok x) mid m rows whole → WritesLines mid m r new n (if m then tail_lines t else [])
       → OnErr r (m ≡ true) → PrintsCompact t w comes old r new
   prints-ended r x mid m new n fine put ends failed =
-      let shown = in_window w rows in
-      let any : m ≡ has_rows shown = put.lines.after ∙ begun-rows t shown in
-      ended r new fine put.taken put.enough (on_err_weaker r (λ h. sym any ∙ h) failed)
-      (lines-text old new n r (compact_lines t shown)
-      (lines-finished new n (if m then tail_lines t else []) (compact_lines t shown) r put.lines ends
-      (lines-split t shown ∙ ap (λ b. rows_lines t shown ++ (if b then tail_lines t else [])) (sym any))))
+      let any : m ≡ has_rows (in_window w rows) = put.lines.after ∙ begun-rows t (in_window w rows) in
+      ended r x mid m new n fine put ends failed any
+      (lines-split t (in_window w rows) ∙ ap (λ b. rows_lines t (in_window w rows) ++ (if b then tail_lines t else [])) (sym any))
 
   -- the table can't be printed
   pub prints-refused : {T : Type 0} (error : TableError) (r : Result T TableError)

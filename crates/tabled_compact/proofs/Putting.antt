@@ -1,11 +1,14 @@
 -- The rows that were put so far, and one more.
 use Rattle.tabled_compact.proofs.Names.{Bool, CompactSheet, Err, IfSome, IsErrAnd, IsSpent, List, Ok, PutsRows, Result, Sent, Some}
-use Rattle.tabled_compact.proofs.Names.{TableError, Window, [], ap, append-nil, arith, false, has_rows, if◌then◌else◌, in_window, inl, inr}
+use Rattle.tabled_compact.proofs.Names.{TableError, Window, [], ap, arith, false, has_rows, if◌then◌else◌, in_window, inl, inr}
 use Rattle.tabled_compact.proofs.Names.{length, length-append, refl, row_part, rows_lines, spanned, subst, sym, true, window_after, ℕ, ◌++◌}
 use Rattle.tabled_compact.proofs.Names.{◌+◌, ◌==◌, ◌∙◌, ◌∷◌, ◌≡◌, ◌≤◌}
 use Rattle.std.proofs.lemmas.Option.{IfSome_then}
 use Rattle.tabled_line.specs.Leading.{LineSends, LineStops}
-use Rattle.tabled_line.proofs.Leading.{lines-further, lines-none, lines-stopped}
+use Rattle.tabled_line.specs.StopsBelow.{StopsBelow}
+use Rattle.tabled_line.proofs.Below.{joined-below, lines-below}
+use Rattle.tabled_line.proofs.Leading.{lines-further, lines-none}
+use Rattle.tabled_compact.specs.CompactLines.{rows_text}
 use Rattle.tabled_compact.proofs.RowPieces.{begun-rows, has_rows-more, rows_lines-more}
 use Rattle.tabled_compact.proofs.Windows.{IsOpen, first-more, spent, within, window-none, window-start, window-step}
 
@@ -94,10 +97,18 @@ module _ {t : CompactSheet} {w : Window} {old mid : Sent} {m : Bool} {left : Win
         → LineStops mid m e new (part t left m row) → (left.skip == 0) ≡ true → IsErrAnd r (λ d. d ≡ e)
         → PutsRows t w old r new n (rows ++ row ∷ []) false
     have-stopped (Ok x) e new n row stops shown i = absurd i
-    have-stopped {T = T} (Err d) e new n row stops shown i = record {
-      taken = one-taken row;
-      enough = tt;
-      filled = ap has_rows (shown-more row ∙ ap (λ b. in_window w rows ++ (if b then row ∷ [] else [])) shown) ∙ has_rows-more (in_window w rows) row;
-      lines = lines-stopped {T = T} n [] (rows_lines t (in_window w (rows ++ row ∷ []))) (Err d) e put.lines stops i
-          (lines-more row ∙ ap (λ u. rows_lines t (in_window w rows) ++ u) (sym (append-nil (part t left m row))));
-    }
+    have-stopped (Err d) e new n row stops shown i =
+        let all = rows_lines t (in_window w (rows ++ row ∷ [])) in
+        let P : TableError → Type 0 = λ k. StopsBelow (rows_text t (in_window w rows)) old k new (rows_text t (in_window w (rows ++ row ∷ []))) in
+        record {
+          taken = one-taken row;
+          enough = tt;
+          filled = ap has_rows (shown-more row ∙ ap (λ b. in_window w rows ++ (if b then row ∷ [] else [])) shown) ∙ has_rows-more (in_window w rows) row;
+          lines =
+              record {
+                before = rows;
+                last = row;
+                parts = refl;
+                stops = subst P (sym i) (joined-below (rows_lines t (in_window w rows)) all (lines-below all put.lines stops (lines-more row)));
+              };
+        }

@@ -3,6 +3,7 @@ use Rattle.tabled_compact.proofs.Names.{Bool, CompactSheet, Err, IsFailure, List
 use Rattle.tabled_compact.proofs.Names.{Window, inl, inr, subst, ℕ, ⊎_elim, ◌≡◌}
 use Rattle.tabled_base.specs.declared.error.TableError.TheVariants.{Writer}
 use Rattle.tabled_line.specs.WriterSent.{named_sent}
+use Rattle.tabled_line.proofs.Below.{below-so}
 use Rattle.tabled_line.proofs.Writers.{LeavesSo, byte_of, writer-leaves, writer-sends}
 use Rattle.tabled_compact.specs.Printed.{BuildsCompact, IsEnded, FailsEarly, IsStopped}
 
@@ -18,7 +19,9 @@ ended-so {a} {b} {a'} {b'} {e} t w comes so p =
     let stopped : IsStopped t w p.rows p.whole a e b → IsStopped t w p.rows p.whole a' e b' =
     λ q. record {
       printable = q.printable;
-      stops = ⊎_elim (λ s. inl (so.stops _ s)) (λ s. inr (s.0, so.stops _ s.1)) q.stops;
+      stops =
+          ⊎_elim (λ s. inl (record { before = s.before; last = s.last; parts = s.parts; stops = below-so _ _ so s.stops }))
+          (λ s. inr (record { enough = s.enough; stops = below-so _ _ so s.stops })) q.stops;
     } in
     record {
       rows = p.rows;

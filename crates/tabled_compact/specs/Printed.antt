@@ -1,10 +1,11 @@
 -- Which compact tables can be printed, why others fail, and what a call that prints leaves.
-use Rattle.std.specs.Prelude.{◌≡◌, ◌^◌, ◌<◌, ◌≤◌, ◌+◌, ◌⊎◌, ℕ, Bool, false, true, List, [], length, Option, Some, IfSome, Result, Ok, Err}
-use Rattle.std.specs.Prelude.{OnErr, OnOk}
+use Rattle.std.specs.Prelude.{◌≡◌, ◌^◌, ◌<◌, ◌≤◌, ◌+◌, ◌⊎◌, ℕ, Bool, false, true, List, [], ◌∷◌, ◌++◌, length, Option, Some, IfSome, Result, Ok, Err}
+use Rattle.std.specs.Prelude.{MatchResult, OnErr, OnOk}
 use Rattle.tabled_base.specs.declared.error.TableError.{TableError}
 use Rattle.tabled_base.specs.declared.error.TableError.TheVariants.{Range, ShortWidths}
-use Rattle.tabled_line.specs.Leading.{WritesLines}
-use Rattle.tabled_line.specs.Sent.{Sent, Sends, Stops}
+use Rattle.tabled_line.specs.Leading.{LineSends}
+use Rattle.tabled_line.specs.Sent.{Sent, Sends}
+use Rattle.tabled_line.specs.StopsBelow.{StopsBelow}
 use Rattle.tabled_line.specs.WriterSent.{known_since, writer_after, writer_before}
 use Rattle.tabled_compact.specs.CompactCells.{CompactSheet}
 use Rattle.tabled_compact.specs.CompactLines.{compact_text, compact_width, rows_lines, rows_text}
@@ -41,12 +42,25 @@ pub record FailsEarly (t : CompactSheet) (w : Window) (rows : List (List (List �
   pub cause : IsFailure t error
   pub same : new ≡ old
 
--- the table can be printed, and the sink failed: a beginning was written of the lines of the rows
--- that were read; or of the entire text, if the source has no more rows or no more are wanted
+-- the sink failed in the last row that was read, or in the horizontal line or margin above it. The
+-- lines of the rows before it were written. `text` is the text of some rows
+pub record StopsInRow (text : List (List (List ℕ)) → List ℕ) (rows : List (List (List ℕ))) (old : Sent) (error : TableError) (new : Sent) : Type 0 where
+  pub before : List (List (List ℕ))
+  pub last : List (List ℕ)
+  pub parts : rows ≡ before ++ last ∷ []
+  pub stops : StopsBelow (text before) old error new (text rows)
+
+-- the sink failed below the last row, and the source has no more rows or no more are wanted. The
+-- lines of all rows were written
+pub record StopsAtEnd (t : CompactSheet) (w : Window) (rows : List (List (List ℕ))) (whole : Bool) (old : Sent) (error : TableError) (new : Sent) : Type 0 where
+  pub enough : AreEnough t.count w rows whole
+  pub stops : StopsBelow (rows_text t (shown t.count w rows)) old error new (compact_text t (shown t.count w rows))
+
+-- the table can be printed, and the sink failed. No row was read after the one whose lines it
+-- didn't take
 pub record IsStopped (t : CompactSheet) (w : Window) (rows : List (List (List ℕ))) (whole : Bool) (old : Sent) (error : TableError) (new : Sent) : Type 0 where
   pub printable : IsPrintable t
-  pub stops : Stops old error new (rows_text t (shown t.count w rows))
-      ⊎ (AreEnough t.count w rows whole × Stops old error new (compact_text t (shown t.count w rows)))
+  pub stops : StopsInRow (λ some. rows_text t (shown t.count w some)) rows old error new ⊎ StopsAtEnd t w rows whole old error new
 
 -- on `Err`: a row is shown, and one of these holds
 pub record IsEnded (t : CompactSheet) (w : Window) (comes : List (List (List ℕ)) → Bool → Type 0) (old : Sent) (error : TableError) (new : Sent) : Type 0 where
@@ -68,13 +82,14 @@ abbrev pub BuildsCompact : {T : Type 0} → CompactSheet → Window → (List (L
 BuildsCompact t w comes old result new =
     (byte : ℕ) × PrintsCompact t w comes (writer_before old) result (writer_after result (known_since old new) byte)
 
--- ---- the rows of a source
+-- ---- Of private steps: no public call promises this.
 
--- the rows were read, all of them or as many as the window spans; their lines were written, or the
--- sink failed in them, and then one is shown
+-- the rows were read, all of them or as many as the window spans, and their lines were written; or
+-- the sink failed in the last of them, which is shown
 pub record PutsRows {T : Type 0} (t : CompactSheet) (w : Window) (old : Sent) (result : Result T TableError)
     (new : Sent) (begun : Bool) (rows : List (List (List ℕ))) (whole : Bool) : Type 0 where
   pub taken : IfSome (spanned w.skip w.limit) (λ most. length rows ≤ most)
   pub enough : OnOk result ((whole ≡ true) ⊎ (spanned w.skip w.limit ≡ Some (length rows)))
   pub filled : OnErr result (has_rows (in_window w rows) ≡ true)
-  pub lines : WritesLines old false result new begun (rows_lines t (in_window w rows))
+  pub lines : MatchResult result (λ _. LineSends old false new begun (rows_lines t (in_window w rows)))
+      (λ error. StopsInRow (λ some. rows_text t (in_window w some)) rows old error new)

@@ -1,6 +1,7 @@
 -- Which rows of a source are shown, and how many of them are read.
 use Rattle.std.specs.Prelude.{◌≡◌, ◌==◌, ◌≤◌, ◌+◌, ◌-◌, ◌⊎◌, ℕ, zero, suc, Bool, false, true, if◌then◌else◌, List, [], ◌∷◌, drop, take}
 use Rattle.std.specs.Prelude.{length, map, Option, Some, None, IfSome}
+use Rattle.tabled_records.specs.Reading.{ReadsTo}
 use Rattle.tabled_compact.specs.declared.columns.Window.{Window}
 
 -- the first rows, if their number is limited
@@ -15,15 +16,6 @@ in_window w rows = first_rows w.limit (drop w.skip rows)
 -- the rows that are shown: none if there is no column
 abbrev pub shown : {A : Type 0} → ℕ → Window → List A → List A
 shown columns w rows = if columns == 0 then [] else in_window w rows
-
--- what is left of a limit
-abbrev pub limit_left : Option ℕ → ℕ → Option ℕ
-limit_left None taken = None
-limit_left (Some limit) taken = Some (limit - taken)
-
--- what is left of a window after some rows
-abbrev pub window_after : Window → ℕ → Window
-window_after w rows = record { skip = w.skip - rows; limit = limit_left w.limit (rows - w.skip) }
 
 -- no further row is shown
 abbrev pub IsSpent : Window → Type 0
@@ -55,3 +47,21 @@ AreEnough columns w rows whole = (whole ≡ true) ⊎ (wanted columns w ≡ Some
 -- the cells of the first rows that a source gives, and whether these are all
 abbrev pub Came : {A : Type 0} → (List (List A) → Bool → Type 0) → (A → List ℕ) → List (List (List ℕ)) → Bool → Type 0
 Came {A} begins text rows whole = (cells : List (List A)) × begins cells whole × (rows ≡ map (map text) cells)
+
+-- ---- Of private steps: no public call promises this.
+
+-- what is left of a limit
+abbrev pub limit_left : Option ℕ → ℕ → Option ℕ
+limit_left None taken = None
+limit_left (Some limit) taken = Some (limit - taken)
+
+-- what is left of a window after some rows
+abbrev pub window_after : Window → ℕ → Window
+window_after w rows = record { skip = w.skip - rows; limit = limit_left w.limit (rows - w.skip) }
+
+-- the cells of the rows that an iterator gave from one of its states to another: exactly these rows
+-- were taken, and none after them; and whether it then had no more
+abbrev pub Taken : {S W T A : Type 0} → (S → Option W → S → Type 0) → (W → T → Type 0) → (T → Option A → T → Type 0)
+    → (A → List ℕ) → S → S → List (List (List ℕ)) → Bool → Type 0
+Taken {A = A} row_steps cells_become cell_steps text old new rows whole =
+    (cells : List (List A)) × ReadsTo row_steps cells_become cell_steps old cells whole new × (rows ≡ map (map text) cells)

@@ -15,5 +15,6 @@ mod table;
 
 pub use columns::Window;
 pub use rows::print_compact;
+// Bounds of `CompactTable::{from, width, height}`.
 pub use sizes::{CellRows, SetSizes};
 pub use table::CompactTable;

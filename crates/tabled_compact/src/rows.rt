@@ -9,10 +9,11 @@ ghost use Rattle.tabled_compact.specs.CompactCells.{columns_of, sheet_by};
 ghost use Rattle.tabled_compact.specs.CompactLines.{above, compact_width, part_front, row_part};
 ghost use Rattle.tabled_compact.specs.CompactLines.{separator, tail_lines};
 ghost use Rattle.tabled_compact.specs.Printed.{IsFailure, IsPrintable, PrintsCompact, PutsRows};
-ghost use Rattle.tabled_compact.specs.Shown.{Came, IsSpent, window_after};
+ghost use Rattle.tabled_compact.specs.Shown.{Came, IsSpent, Taken, window_after};
 ghost use Rattle.tabled_line.specs.Leading.{WritesLines};
 ghost use Rattle.tabled_line.specs.LineCache.{IsCacheOf};
 ghost use Rattle.tabled_line.specs.Sent.{Sent, Writes};
+ghost use Rattle.tabled_records.specs.Reading.{MayGive, ReadsTo};
 
 use crate::columns::{CompactColumns, Window};
 use crate::sizes::line_total;
@@ -22,17 +23,20 @@ use tabled_line::{LinePrinter, TableColumns, TextSink, write_left_edge};
 use tabled_size::Dimension;
 
 /// Fails with `error` if there is a row after those that are skipped; no further row is read then.
-fn refuse<I: IntoRecords>(records: I, skip: usize, error: TableError) -> Result<(), TableError>
-where
-    I::Cell: CellText + Drop,
-    requires { I.ends records }
-    ensures { (read : List (List (List ℕ))) × (whole : Bool)
-        × Came (I.begins records) I.Cell.text read whole
-        × MatchResult result (λ _. (length read ≤ skip) × (whole ≡ true))
-        (λ e. (length read ≡ skip + 1) × (e ≡ error)) }
+fn refuse<I: Iterator<Item = W>, W: IntoIterator<Item = C>, C: Drop>(
+    rows: &mut I,
+    skip: usize,
+    error: TableError,
+) -> Result<(), TableError>
+    requires { MayGive I.can_next I.next_gives I.remaining
+        W.into_iter_gives W.IntoIter.can_next W.IntoIter.remaining rows.old }
+    ensures { (cells : List (List C)) × (whole : Bool)
+        × ReadsTo I.next_gives W.into_iter_gives W.IntoIter.next_gives rows.old cells whole rows.new
+        × MatchResult result (λ _. (length cells ≤ skip) × (whole ≡ true))
+        (λ e. (length cells ≡ skip + 1) × (e ≡ error)) }
 {
     let mut left = skip;
-    'rows: for row in records.iter_rows() {
+    'rows: while let Some(row) = rows.next() {
         walk(row);
         if left == 0 {
             return Err(error);
@@ -47,9 +51,9 @@ where
 /// the columns, padding included. A row with fewer cells gets empty ones. Heights and vertical
 /// padding are ignored.
 ///
-/// No row is stored, and only the sink allocates. No row past the window is read, and each row that
-/// is read is read to its end. Prints nothing if no row is shown or there is no column. Fails as
-/// `CompactTable::fmt` does.
+/// No row is stored, and only the sink allocates. No row past the window is read, and none after
+/// the sink failed; each row that is read is read to its end. Prints nothing if no row is shown or
+/// there is no column. Fails as `CompactTable::fmt` does.
 pub fn print_compact<I: IntoRecords, D: Dimension, S: TextSink>(
     sink: &mut S,
     records: I,
@@ -64,14 +68,49 @@ where
     ensures { PrintsCompact (sheet_by config.now (D.width_at dimension.now) columns) window
         (Came (I.begins records) I.Cell.text) (S.sent sink.old) result (S.sent sink.new) }
 {
-    if columns == 0 || window.is_spent() {
-        // Makes the iterator, and reads no row.
-        let _rows = records.iter_rows().into_iter();
-        return Ok(());
-    }
-    match RowPrinter::new(config, dimension, columns) {
-        Ok(mut printer) => printer.print_table(sink, records, window),
-        Err(error) => refuse(records, window.skip, error),
+    let wanted = Wanted {
+        config,
+        dimension,
+        columns,
+        window,
+    };
+    let mut rows = records.iter_rows().into_iter();
+    wanted.print_rows(sink, &mut rows)
+}
+
+/// What is printed of some rows: those in the window, with their first cells.
+#[derive(Drop)]
+struct Wanted<'a, D: Dimension> {
+    config: &'a CompactConfig,
+    dimension: &'a D,
+    columns: usize,
+    window: Window,
+}
+
+impl<'a, D: Dimension> Wanted<'a, D> {
+    /// Prints the next rows of an iterator, as `print_compact` prints those of a source. The
+    /// iterator is left after exactly the rows that the contract names.
+    fn print_rows<
+        I: Iterator<Item = W>,
+        W: IntoIterator<Item = C>,
+        C: CellText + Drop,
+        S: TextSink,
+    >(&self, sink: &mut S, rows: &mut I) -> Result<(), TableError>
+        requires { MayGive I.can_next I.next_gives I.remaining
+            W.into_iter_gives W.IntoIter.can_next W.IntoIter.remaining rows.old }
+        ensures { PrintsCompact
+            (sheet_by self.now.config.now (D.width_at self.now.dimension.now) self.now.columns)
+            self.now.window
+            (Taken I.next_gives W.into_iter_gives W.IntoIter.next_gives C.text rows.old rows.new)
+            (S.sent sink.old) result (S.sent sink.new) }
+    {
+        if self.columns == 0 || self.window.is_spent() {
+            return Ok(());
+        }
+        match RowPrinter::new(self.config, self.dimension, self.columns) {
+            Ok(mut printer) => printer.print_table(sink, rows, self.window),
+            Err(error) => refuse(rows, self.window.skip, error),
+        }
     }
 }
 
@@ -221,26 +260,27 @@ impl<'a, D: Dimension> RowPrinter<'a, D> {
         }
     }
 
-    /// Prints all rows in a window, which shows at least one. No row past it is read.
-    fn print_wanted_rows<I: IntoRecords, S: TextSink>(
-        &mut self,
-        sink: &mut S,
-        records: I,
-        window: Window,
-    ) -> Result<(), TableError>
-    where
-        I::Cell: CellText + Drop,
-        requires ends { I.ends records }
+    /// Prints all rows in a window, which shows at least one. No row past it is read, and none
+    /// after the sink failed.
+    fn print_wanted_rows<
+        I: Iterator<Item = W>,
+        W: IntoIterator<Item = C>,
+        C: CellText + Drop,
+        S: TextSink,
+    >(&mut self, sink: &mut S, rows: &mut I, window: Window) -> Result<(), TableError>
+        requires may { MayGive I.can_next I.next_gives I.remaining
+            W.into_iter_gives W.IntoIter.can_next W.IntoIter.remaining rows.old }
         requires wanted { IsSpent window → ⊥ }
         requires begun { self.old.lines.begun ≡ false }
-        ensures put { (read : List (List (List ℕ))) × (whole : Bool)
-            × Came (I.begins records) I.Cell.text read whole
+        ensures put { (cells : List (List C)) × (whole : Bool)
+            × ReadsTo I.next_gives W.into_iter_gives W.IntoIter.next_gives rows.old cells whole
+            rows.new
             × PutsRows self.old.lines.columns window (S.sent sink.old) result (S.sent sink.new)
-            self.new.lines.begun read whole }
+            self.new.lines.begun (map (map C.text) cells) whole }
         ensures same { self.new.lines.columns ≡ self.old.lines.columns }
     {
         let mut left = window;
-        'rows: for row in records.iter_rows() {
+        'rows: while let Some(row) = rows.next() {
             self.print_next_row(sink, &mut left, row)?;
             if left.is_spent() {
                 return Ok(());
@@ -267,23 +307,23 @@ impl<'a, D: Dimension> RowPrinter<'a, D> {
 
     /// Prints the table of the rows in a window, which shows at least one if there is one. Prints
     /// nothing if there is none.
-    pub fn print_table<I: IntoRecords, S: TextSink>(
-        &mut self,
-        sink: &mut S,
-        records: I,
-        window: Window,
-    ) -> Result<(), TableError>
-    where
-        I::Cell: CellText + Drop,
-        requires ends { I.ends records }
+    pub fn print_table<
+        I: Iterator<Item = W>,
+        W: IntoIterator<Item = C>,
+        C: CellText + Drop,
+        S: TextSink,
+    >(&mut self, sink: &mut S, rows: &mut I, window: Window) -> Result<(), TableError>
+        requires may { MayGive I.can_next I.next_gives I.remaining
+            W.into_iter_gives W.IntoIter.can_next W.IntoIter.remaining rows.old }
         requires wanted { IsSpent window → ⊥ }
         requires begun { self.old.lines.begun ≡ false }
         requires columns { self.old.lines.columns.count ≡ 0 → ⊥ }
         requires printable { IsPrintable self.old.lines.columns }
         ensures { PrintsCompact self.old.lines.columns window
-            (Came (I.begins records) I.Cell.text) (S.sent sink.old) result (S.sent sink.new) }
+            (Taken I.next_gives W.into_iter_gives W.IntoIter.next_gives C.text rows.old rows.new)
+            (S.sent sink.old) result (S.sent sink.new) }
     {
-        self.print_wanted_rows(sink, records, window)?;
+        self.print_wanted_rows(sink, rows, window)?;
         self.write_tail(sink)
     }
 }

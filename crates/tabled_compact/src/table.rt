@@ -229,7 +229,10 @@ where
     I::Cell: CellText + Drop,
 {
     /// Prints the table to a sink, its lines joined by line feeds. Prints nothing if no row is
-    /// shown or there is no column. Only the sink allocates. No row past the limit is read.
+    /// shown or there is no column. Only the sink allocates.
+    ///
+    /// No row past the last one that is shown is read, and none after the sink failed: all lines
+    /// above the last row that was read are written then.
     ///
     /// These errors come before the first byte, and are checked in this order:
     /// - `ShortWidths`: the dimension lacks the width of a column.
