@@ -1,12 +1,12 @@
 //! The plan of `render`, which is how a text becomes a table; its priority, which is chosen at run
 //! time; and the arguments of the program, which make a plan.
 ghost use Rattle.std.specs.Prelude.{IfNone, IfSome, List, MatchOption, Some, [], map, string_bytes};
-ghost use Rattle.std.specs.Prelude.{ℕ, ◌↔◌, ◌∷◌, ◌≡◌};
+ghost use Rattle.std.specs.Prelude.{false, ℕ, ◌↔◌, ◌∷◌, ◌≡◌};
 ghost use Rattle.tabled.specs.Arguments.{Adds, Begins, GoTogether, HasValues, IsNumber, IsOnce};
 ghost use Rattle.tabled.specs.Arguments.{Makes, Notes, NotesName, NotesWords, Spells, SpellsPlan};
 ghost use Rattle.tabled.specs.Arguments.{name_of, order_word};
-ghost use Rattle.tabled.specs.Orders.{Names, Shrinks, Shrinks-done, Shrinks-none, Shrinks-step};
-ghost use Rattle.tabled.specs.Orders.{Shrinks-takes};
+ghost use Rattle.tabled.specs.Orders.{Grows, Grows-done, Grows-nothing, Grows-step, Names, Shrinks};
+ghost use Rattle.tabled.specs.Orders.{Shrinks-done, Shrinks-none, Shrinks-step, Shrinks-takes};
 ghost use Rattle.tabled.specs.declared.arguments.Argument.{Argument};
 ghost use Rattle.tabled.specs.declared.arguments.Order.{Order};
 ghost use Rattle.tabled.specs.declared.arguments.Plan.{Plan};
@@ -51,7 +51,7 @@ pub enum Plan {
     },
 }
 
-/// A priority that shrinks in an order chosen at run time.
+/// A priority whose order is chosen at run time.
 #[derive(Clone, Copy)]
 pub struct OrderPriority {
     order: Order,
@@ -77,8 +77,9 @@ impl Peaker for OrderPriority {
 
     ghost shrinks = { Shrinks };
 
-    // Plans only shrink, so nothing is known about growing.
-    ghost grows = { λ s old by new t. Unit };
+    ghost grows = { Grows };
+
+    ghost one_by_one = { false };
 
     fn peak(&mut self, mins: &[usize], values: &[usize]) -> Option<usize> {
         match self.order {
@@ -106,6 +107,16 @@ impl Peaker for OrderPriority {
         }
     }
 
+    fn grow(&mut self, values: &mut [usize], by: usize, steps: &mut Steps) -> usize {
+        match self.order {
+            Order::Round => self.round.grow(values, by, steps),
+            Order::Least => PriorityMin::right().grow(values, by, steps),
+            Order::Greatest => PriorityMax::right().grow(values, by, steps),
+            Order::Leftmost => PriorityLeft::new().grow(values, by, steps),
+            Order::Rightmost => PriorityRight::new().grow(values, by, steps),
+        }
+    }
+
     ghost nothing = { λ s values mins. Shrinks-none s values mins };
 
     ghost ends = { λ s t values mins by fits named. Shrinks-done s t values mins by named };
@@ -113,11 +124,12 @@ impl Peaker for OrderPriority {
     ghost goes_on = { λ s t u values mins new by i fits above named rest. Shrinks-step s t u values
         mins new by i named rest };
 
-    ghost grows_nothing = { λ s values. tt };
+    ghost grows_nothing = { λ s values. Grows-nothing s values };
 
-    ghost growing_ends = { λ s t values by named. tt };
+    ghost growing_ends = { λ s t values by named. Grows-done s t values by named };
 
-    ghost growing_goes_on = { λ s t u values new by i above named rest. tt };
+    ghost growing_goes_on = { λ s t u values new by i above named rest. Grows-step s t u values new
+        by i named rest };
 }
 
 impl TakesAll for OrderPriority {

@@ -43,12 +43,12 @@ pub use tabled_value::Tabled;
 /// }
 /// ```
 pub mod laws {
-    pub use tabled_grid::laws::pictures;
+    pub use tabled_grid::laws::{pictures, shown_cells};
     pub use tabled_line::laws::rows_of_any_text;
-    pub use tabled_set::laws::truncated_texts;
+    pub use tabled_set::laws::{parts_put_back, truncated_texts};
     pub use tabled_table::laws::{
-        marked_cells, new_tables, streams_go_on, streams_hold, streams_like_tables,
-        texts_can_be_cut,
+        marked_cells, new_tables, printed_tables, streams_go_on, streams_hold, streams_like_tables,
+        tables_of_strings, texts_can_be_cut,
     };
     pub use tabled_text::general_laws::{
         count_is_bound, exact_lines, lines_of_any_text, separators, texts_that_fit,

@@ -1,7 +1,7 @@
 -- Lists that were changed up to a level are those of the priorities.
 use Rattle.tabled_priority.proofs.Names.{CanChange, Depths, Gains, Heights, IsChanged, IsReached, IsScheduled, IsSpan, IsSpanBy, List}
 use Rattle.tabled_priority.proofs.Names.{Rounds, Schedule, arith, at, at-le-sum, cases_lt, first_level, get_or_past, greatest_usize}
-use Rattle.tabled_priority.proofs.Names.{last_level, length, min, place_after, share, start_of, subst, total_amount, ℕ, ⊎_elim, ◌+◌, ◌-◌, ◌<◌}
+use Rattle.tabled_priority.proofs.Names.{last_level, length, min, place_after, share, start_of, subst, total_amount, ℕ, ⊎_elim, ◌+◌, ◌<◌}
 use Rattle.tabled_priority.proofs.Names.{◌≡◌, ◌≤◌}
 use Rattle.tabled_priority.specs.Laws.Grown.{IsMinGrown-still, IsRoundGrown-still}
 use Rattle.tabled_priority.specs.Laws.Round.{IsRoundShrunk-still}

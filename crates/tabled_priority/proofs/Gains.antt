@@ -3,7 +3,7 @@ use Rattle.tabled_priority.proofs.Names.{Bool, Gains, Heights, IsGrownFrom, IsMi
 use Rattle.tabled_priority.proofs.Names.{added-none, added-some, amount, ap, arith, at, at-le-sum, cases_lt, ceiling, cond, false}
 use Rattle.tabled_priority.proofs.Names.{first_level, get_or_past, greatest_usize, if◌then◌else◌, in_range, is_met, is_open, last_level}
 use Rattle.tabled_priority.proofs.Names.{length, max, min, nat_le, nat_lt, nat_tests, one_if, place_after, refl, share, start, subst, suc}
-use Rattle.tabled_priority.proofs.Names.{sum, sum-below, sum_below, sum_below-plus, sum_below-same, sum_below-zero, sym, total_amount, true}
+use Rattle.tabled_priority.proofs.Names.{sum, sum-below, sum_below, sum_below-plus, sum_below-same, sum_below-zero, total_amount, true}
 use Rattle.tabled_priority.proofs.Names.{zero, ℕ, ⊎_elim, ◌&&◌, ◌+◌, ◌-◌, ◌<◌, ◌==◌, ◌∙◌, ◌≡◌, ◌≤◌}
 use Rattle.std.proofs.Common.{◌^◌}
 use Rattle.std.proofs.lemmas.Bool.{ne_eqb}

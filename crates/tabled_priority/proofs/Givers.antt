@@ -1,7 +1,7 @@
 -- What columns give, the least sizes first.
 use Rattle.tabled_priority.proofs.Names.{List, ap, arith, at, if◌then◌else◌, length, nat_le, nat_tests, spare, spare_if_up_to, spare_total}
 use Rattle.tabled_priority.proofs.Names.{spare_up_to, sum, sum-below, sum_below, sum_below-le, sum_below-plus, sum_below-same}
-use Rattle.tabled_priority.proofs.Names.{sum_below-zero, ℕ, ◌+◌, ◌-◌, ◌<◌, ◌∙◌, ◌≡◌, ◌≤◌}
+use Rattle.tabled_priority.proofs.Names.{sum_below-zero, ℕ, ◌+◌, ◌<◌, ◌∙◌, ◌≡◌, ◌≤◌}
 
 -- columns of size 0 give nothing
 pub spare_up_to-zero : (values mins : List ℕ) → spare_up_to values mins 0 ≡ 0

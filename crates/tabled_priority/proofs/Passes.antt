@@ -1,9 +1,9 @@
 -- Taking from columns of some sizes, turn by turn.
 use Rattle.tabled_priority.proofs.Names.{Bool, IsBefore, IsMinShrunk, IsPermitted, IsSideShrunk, IsTakenFrom, List, arith, at, cases_eq}
-use Rattle.tabled_priority.proofs.Names.{cases_lt, false, get_or-set_other, get_or-set_same, get_or_past, if◌then◌else◌, in_range, inl, inr}
-use Rattle.tabled_priority.proofs.Names.{length, length-set, low, min, nat_le, nat_lt, nat_tests, place_at, refl, slice_set, spare}
+use Rattle.tabled_priority.proofs.Names.{cases_lt, false, get_or-set_other, get_or-set_same, get_or_past, in_range, inl, inr}
+use Rattle.tabled_priority.proofs.Names.{length, length-set, low, min, nat_tests, place_at, refl, slice_set, spare}
 use Rattle.tabled_priority.proofs.Names.{spare_if_up_to, spare_up_to, spare_within, subst, sum, sum_below, sum_below-le, sum_below-same}
-use Rattle.tabled_priority.proofs.Names.{sum_by-set, sym, taken, true, ℕ, ⊎_elim, ◌&&◌, ◌+◌, ◌-◌, ◌<◌, ◌∙◌, ◌≡◌, ◌≢◌, ◌≤◌, ◌⊎◌}
+use Rattle.tabled_priority.proofs.Names.{sum_by-set, sym, taken, true, ℕ, ⊎_elim, ◌+◌, ◌-◌, ◌<◌, ◌∙◌, ◌≡◌, ◌≢◌, ◌≤◌, ◌⊎◌}
 use Rattle.tabled_priority.specs.declared.schedule.Bracket.{Bracket}
 use Rattle.tabled_priority.specs.Laws.Shrunk.{before}
 use Rattle.tabled_priority.specs.Spares.{IsTakenInOrder, IsWithin}

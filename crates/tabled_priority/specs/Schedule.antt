@@ -1,3 +1,4 @@
+-- Of private steps: no public call promises this.
 -- How sizes change while a level rises. Each column takes nothing up to a first level, then one a
 -- level up to a last level, and then no more.
 use Rattle.std.specs.Prelude.{◌≡◌, ℕ, ◌+◌, ◌-◌, ◌<◌, ◌≤◌, ◌^◌, ⊤, Bool, true, false, List, length, sum, min, nat_lt, nat_le, if◌then◌else◌, ◌&&◌, ◌==◌, MatchBool}

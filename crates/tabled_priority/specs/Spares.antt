@@ -1,3 +1,4 @@
+-- Of private steps: no public call promises this.
 -- What columns give if the smallest give first.
 use Rattle.std.specs.Prelude.{◌≡◌, ℕ, ◌+◌, ◌<◌, ◌≤◌, ◌⊎◌, ◌&&◌, Bool, List, length, nat_le, nat_lt, if◌then◌else◌, sum}
 use Rattle.tabled_priority.specs.declared.schedule.Bracket.{Bracket}

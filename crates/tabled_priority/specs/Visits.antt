@@ -12,6 +12,11 @@ changed (x ∷ xs) (y ∷ ys) = cond (x == y) 0 1 + changed xs ys
 abbrev pub counted : ℕ → ℕ → ℕ
 counted before visits = before + min visits (greatest_usize - before)
 
+-- how often the order is asked if one is taken or added at a time: for each one, and a last time if
+-- it then names no index
+abbrev pub times_asked : ℕ → ℕ → ℕ
+times_asked by amount = min by (amount + 1)
+
 -- the count of a change: each changed column was read at least once, and c columns at most 8 (c +
 -- 1) (c + 1) times, whatever the amount
 pub record IsBounded (old new : List ℕ) (before after : ℕ) : Type 0 where

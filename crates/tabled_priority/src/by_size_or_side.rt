@@ -37,6 +37,8 @@ impl Peaker for PriorityLeft {
 
     ghost grows = { grows_by (λ (s : Self). Outermost false) };
 
+    ghost one_by_one = { false };
+
     fn peak(&mut self, mins: &[usize], sizes: &[usize]) -> Option<usize> {
         Choice::Outermost(false).chosen(mins, sizes, &mut Steps::new())
     }
@@ -92,6 +94,8 @@ impl Peaker for PriorityRight {
     ghost shrinks = { shrinks_by (λ (s : Self). Outermost true) };
 
     ghost grows = { grows_by (λ (s : Self). Outermost true) };
+
+    ghost one_by_one = { false };
 
     fn peak(&mut self, mins: &[usize], sizes: &[usize]) -> Option<usize> {
         Choice::Outermost(true).chosen(mins, sizes, &mut Steps::new())
@@ -167,6 +171,8 @@ impl Peaker for PriorityMax {
 
     ghost grows = { grows_by (λ (s : Self). Greatest s.right) };
 
+    ghost one_by_one = { false };
+
     fn peak(&mut self, mins: &[usize], sizes: &[usize]) -> Option<usize> {
         Choice::Greatest(self.right).chosen(mins, sizes, &mut Steps::new())
     }
@@ -241,6 +247,8 @@ impl Peaker for PriorityMin {
     ghost shrinks = { shrinks_by (λ (s : Self). Least s.right) };
 
     ghost grows = { grows_by (λ (s : Self). Least s.right) };
+
+    ghost one_by_one = { false };
 
     fn peak(&mut self, mins: &[usize], sizes: &[usize]) -> Option<usize> {
         Choice::Least(self.right).chosen(mins, sizes, &mut Steps::new())

@@ -1,7 +1,7 @@
 //! The traits of priorities, the five priorities by name, and the one that changes sizes in turn.
 ghost use Rattle.std.proofs.Common.{subst, sym};
-ghost use Rattle.std.specs.Prelude.{IfSome, List, MatchOption, None, Option, Some, [], length, sum};
-ghost use Rattle.std.specs.Prelude.{ℕ, ◌+◌, ◌<◌, ◌^◌, ◌≡◌, ◌≤◌};
+ghost use Rattle.std.specs.Prelude.{Bool, IfSome, List, MatchOption, None, Option, Some, [], false};
+ghost use Rattle.std.specs.Prelude.{length, sum, true, ℕ, ◌*◌, ◌+◌, ◌<◌, ◌^◌, ◌≡◌, ◌≤◌};
 ghost use Rattle.tabled_priority.specs.Changes.{Grows, Shrinks};
 ghost use Rattle.tabled_priority.specs.Grown.{IsNoneSmaller, IsRoundGrown};
 ghost use Rattle.tabled_priority.specs.Laws.Grown.{IsRoundGrown-step, IsRoundGrown-still};
@@ -12,7 +12,7 @@ ghost use Rattle.tabled_priority.specs.Peak.{IsNext, NoneAbove};
 ghost use Rattle.tabled_priority.specs.Permitted.{FitsMinimums, HasEvenLosses, IsAbove};
 ghost use Rattle.tabled_priority.specs.Permitted.{IsPermitted, IsTakenFrom, lowered, raised};
 ghost use Rattle.tabled_priority.specs.Shrunk.{IsRoundShrunk, place_after};
-ghost use Rattle.tabled_priority.specs.Visits.{changed, counted};
+ghost use Rattle.tabled_priority.specs.Visits.{changed, counted, times_asked};
 
 use crate::by_size_or_side::{PriorityLeft, PriorityMax, PriorityMin, PriorityRight};
 use crate::column_changes::{Steps, change_columns, place_after, visit};
@@ -31,6 +31,10 @@ pub trait Peaker {
     // What `grow` may leave: the state, the sizes, the amount, the new sizes, the new state.
     ghost grows: { Self → List ℕ → ℕ → List ℕ → Self → Type 0 };
 
+    // Whether `shrink` and `grow` ask `peak` for each one that they take or add, as the bodies
+    // below do. A priority with bodies of its own says `false`, unless they count as many visits.
+    ghost one_by_one: { Bool } = { true };
+
     /// Returns the index of the size to change next, if there is one. That size is above its
     /// minimum. `mins` has a minimum for each size, or is empty: then all minimums are 0.
     fn peak(&mut self, mins: &[usize], sizes: &[usize]) -> Option<usize>
@@ -39,8 +43,8 @@ pub trait Peaker {
         ensures peaks { peaks self.old sizes.now mins.now result self.new };
 
     /// Takes `by` from the sizes, or as much as `peak` allows, and returns how much was taken.
-    /// `mins` is that of `peak`. `steps` counts how often a column is read, at least once for each
-    /// that changes.
+    /// `mins` is that of `peak`. `steps` counts how often a column is read: at least once for each
+    /// that changes, and if one is taken at a time, every column each time that `peak` is asked.
     fn shrink(&mut self, mins: &[usize], sizes: &mut [usize], by: usize, steps: &mut Steps) -> usize
         requires { FitsMinimums sizes.old mins.now }
         ensures shrinks { shrinks self.old sizes.old mins.now by sizes.new self.new }
@@ -48,6 +52,8 @@ pub trait Peaker {
         ensures total { sum sizes.new + result ≡ sum sizes.old }
         ensures at_most { result ≤ by }
         ensures visits { counted steps.old.count (changed sizes.old sizes.new) ≤ steps.new.count }
+        ensures reads { one_by_one ≡ true → steps.new.count
+            ≡ counted steps.old.count (times_asked by result * length sizes.old) }
     {
         for taken in 0..by {
             steps.add(sizes.len());
@@ -60,8 +66,7 @@ pub trait Peaker {
     }
 
     /// Adds `by` to the sizes, or as much as `peak` allows, and returns how much was added. Sizes
-    /// that are 0 stay 0. `steps` counts how often a column is read, at least once for each that
-    /// changes.
+    /// that are 0 stay 0. `steps` counts how often a column is read, as in `shrink`.
     fn grow(&mut self, sizes: &mut [usize], by: usize, steps: &mut Steps) -> usize
         requires { sum sizes.old + by < 2 ^ 64 }
         ensures grows { grows self.old sizes.old by sizes.new self.new }
@@ -69,6 +74,8 @@ pub trait Peaker {
         ensures total { sum sizes.new ≡ sum sizes.old + result }
         ensures at_most { result ≤ by }
         ensures visits { counted steps.old.count (changed sizes.old sizes.new) ≤ steps.new.count }
+        ensures reads { one_by_one ≡ true → steps.new.count
+            ≡ counted steps.old.count (times_asked by result * length sizes.old) }
     {
         for added in 0..by {
             steps.add(sizes.len());
@@ -173,6 +180,8 @@ impl Peaker for PriorityNone {
     ghost shrinks = { λ s old mins by new t. IsRoundShrunk s.kept old mins by new t.kept };
 
     ghost grows = { λ s old by new t. IsRoundGrown s.kept old by new t.kept };
+
+    ghost one_by_one = { false };
 
     fn peak(&mut self, mins: &[usize], sizes: &[usize]) -> Option<usize> {
         let count = sizes.len();

@@ -3,7 +3,7 @@ use Rattle.std.proofs.Common.{Err, IfErr, IsErr, IsErrAnd, List, OnOk, Ok, Optio
 use Rattle.std.specs.Prelude.{⊤}
 use Rattle.std.specs.List.{AllZip}
 use Rattle.serde.specs.Event.{Event, flattens, key_begins, map_begins, map_ends, seq_begins, seq_ends}
-use Rattle.tabled_serde.specs.Errors.{HasCause, IsFieldError, IsNested, IsRecordError, IsValueError, IsWriteError, NoCellFirst, NoItemsFirst, NoKeyFirst, NoNameFirst, NoFieldFirst, NoTextIs, goes_on, inner, of_events, own, row_error, whole}
+use Rattle.tabled_serde.specs.Errors.{HasCause, IsFieldError, IsNested, IsOwn, IsRecordError, IsValueError, IsWriteError, NoCellFirst, NoItemsFirst, NoKeyFirst, NoNameFirst, NoFieldFirst, NoTextIs, goes_on, inner, of_events, of_value, row_error, whole}
 use Rattle.tabled_serde.specs.Reader.{FieldsRead}
 use Rattle.tabled_serde.specs.Records.{IsName, IsText, list, one}
 use Rattle.tabled_serde.specs.declared.error.RowError.{RowError}
@@ -145,16 +145,18 @@ module _ (none : List ℕ) where
       (record { length_hint = n; inside = f.inside; fields = f.fields; events_are = refl })
       (h ∙ ap (λ r. map_begins n ∷ r) (f.read ∙ sym (append_assoc f.inside (map_ends ∷ []) (e ∷ after))))
 
-own-error : (error : EventError) → IsWriteError (row_error error)
-own-error event_error.Memory = tt
-own-error (event_error.Custom field message) = tt
+own_error : (own : List ℕ → List ℕ → Type 0) (error : EventError) → IsOwn own error → IsWriteError own (row_error error)
+own_error own event_error.Memory h = tt
+own_error own (event_error.Custom field message) h = h
 
-module _ {A T : Type 0} (writes : T → Option (List Event) → Option (List Event) → Type 0) (none : List ℕ) (value : T) where
-  pub own-fails : (error : EventError) (r : Result A RowError) → IsErrAnd r (λ e. e ≡ row_error error) → IfErr r (IsValueError writes none value)
-  own-fails error (Ok x) h = absurd h
-  own-fails error (Err e) h = own e (subst IsWriteError (sym h) (own-error error))
+module _ {A T : Type 0} (writes : T → Option (List Event) → Option (List Event) → Type 0) (own : T → List ℕ → List ℕ → Type 0)
+    (none : List ℕ) (value : T) where
+  pub own-fails : (error : EventError) (r : Result A RowError) → IsOwn (own value) error → IsErrAnd r (λ e. e ≡ row_error error)
+      → IfErr r (IsValueError writes own none value)
+  own-fails error (Ok x) is h = absurd h
+  own-fails error (Err e) is h = of_value e (subst (IsWriteError (own value)) (sym h) (own_error (own value) error is))
 
   pub events-fail : (events : List Event) (r : Result A RowError) → writes value (Some []) (Some events) → IfErr r (IsRecordError none events)
-      → IfErr r (IsValueError writes none value)
+      → IfErr r (IsValueError writes own none value)
   events-fail events (Ok x) written h = tt
   events-fail events (Err e) written h = of_events events e written h

@@ -39,7 +39,8 @@ row-texts row it items made h =
     ∙ ap (λ l. map (λ x. x.now) items ++ l) (sym (nil_from_length (iter_rest h.1.0) h.1.2.0))
     ∙ sym (yielded-rest items it h.1.0 h.1.1) ∙ made)
 
-module _ {S T : Type 0} (steps : S → Option T → S → Type 0) (writes : T → Option (List Event) → Option (List Event) → Type 0) (none : List ℕ) where
+module _ {S T : Type 0} (steps : S → Option T → S → Type 0) (writes : T → Option (List Event) → Option (List Event) → Type 0)
+    (own : T → List ℕ → List ℕ → Type 0) (none : List ℕ) where
   -- the rows of the values so far
   abbrev pub RowsGiven : List T → List (List (List ℕ)) → Option (Vec (String Global) Global) → Option (Vec (String Global) Global) → Type 0
   RowsGiven items rows None first = (items ≡ []) × (rows ≡ []) × (first ≡ None)
@@ -148,7 +149,7 @@ module _ {S T : Type 0} (steps : S → Option T → S → Type 0) (writes : T �
 
   taken : (start : S) (s t : ValueRows S) (row : Vec (String Global) Global) (old new : List (List (List ℕ))) (header first : Option (Vec (String Global) Global))
       → (so_far : SoFar start s old) → s.header ≡ header → s.first ≡ first → RowsGiven so_far.items so_far.rows header first
-      → MatchOption first (TakesValue steps writes s (Ok row) t)
+      → MatchOption first (TakesValue steps writes own s (Ok row) t)
       (λ cells. (◌≡◌ {A = Option (Result (Vec (String Global) Global) RowError)} (Some (Ok row)) (Some (Ok cells))) × (t ≡ record s { first = None }))
       → new ≡ with_record old (bytes_of row) → SoFar start t new
   taken start s t row old new None (Some first) so_far known kept g h more = absurd (cc g.2)
@@ -168,7 +169,7 @@ module _ {S T : Type 0} (steps : S → Option T → S → Type 0) (writes : T �
       h.came gives.0 gives.1 more
 
   pub row-given : (start : S) (s t : ValueRows S) (row : Vec (String Global) Global) (old new : List (List (List ℕ))) → SoFar start s old
-      → row_steps steps writes s (Some (Ok row)) t → new ≡ with_record old (bytes_of row) → SoFar start t new
+      → row_steps steps writes own s (Some (Ok row)) t → new ≡ with_record old (bytes_of row) → SoFar start t new
   row-given start s t row old new so_far h more = taken start s t row old new s.header s.first so_far refl refl so_far.given h more
 
   -- all rows are given once the values have ended
@@ -185,25 +186,25 @@ module _ {S T : Type 0} (steps : S → Option T → S → Type 0) (writes : T �
     subst (λ i. AreRows writes none i so_far.rows) (sym g.4) (bytes_of header, g.2, g.3, g.6, g.7, g.5),
   )
 
-  pub all-given : (start : S) (s t : ValueRows S) (built : List (List (List ℕ))) → (so_far : SoFar start s built) → row_steps steps writes s None t
+  pub all-given : (start : S) (s t : ValueRows S) (built : List (List (List ℕ))) → (so_far : SoFar start s built) → row_steps steps writes own s None t
       → Drains steps start so_far.items × AreRows writes none so_far.items so_far.rows
   all-given start s t built so_far h = ended start s t built s.header s.first so_far so_far.given h
 
   -- the value that fails, after those that have rows
   fails-next : (items : List T) (rows : List (List (List ℕ))) (value : T) (e : RowError) (header : Option (Vec (String Global) Global))
       → RowsGiven items rows header None
-      → MatchOption header (IsValueError writes none value e) (λ header. IsRowError writes none (bytes_of header) value e)
-      → FailsAfter writes none items value e
-  fails-next items rows value e None g h = subst (λ i. FailsAfter writes none i value e) (sym g.0) h
+      → MatchOption header (IsValueError writes own none value e) (λ header. IsRowError writes own none (bytes_of header) value e)
+      → FailsAfter writes own none items value e
+  fails-next items rows value e None g h = subst (λ i. FailsAfter writes own none i value e) (sym g.0) h
   fails-next items rows value e (Some header) g h =
-      subst (λ i. FailsAfter writes none i value e) (sym g.4) (bytes_of header, g.2, g.3, g.6, g.7, h)
+      subst (λ i. FailsAfter writes own none i value e) (sym g.4) (bytes_of header, g.2, g.3, g.6, g.7, h)
 
   failed_at : (start : S) (s t : ValueRows S) (e : RowError) (built : List (List (List ℕ))) (first : Option (Vec (String Global) Global))
       → (so_far : SoFar start s built) → RowsGiven so_far.items so_far.rows s.header first
-      → MatchOption first (TakesValue steps writes s (Err e) t)
+      → MatchOption first (TakesValue steps writes own s (Err e) t)
       (λ cells. (◌≡◌ {A = Option (Result (Vec (String Global) Global) RowError)} (Some (Err e)) (Some (Ok cells))) × (t ≡ record s { first = None }))
       → (items : List T) × (value : T) × (rest : S) × Yields steps start items s.values × steps s.values (Some value) rest
-      × FailsAfter writes none items value e
+      × FailsAfter writes own none items value e
   failed_at start s t e built (Some first) so_far g h = absurd (cc h.0)
   failed_at start s t e built None so_far g h = (
     so_far.items,
@@ -212,12 +213,12 @@ module _ {S T : Type 0} (steps : S → Option T → S → Type 0) (writes : T �
     so_far.yielded,
     h.came,
     fails-next so_far.items so_far.rows h.value e s.header g
-        (subst (λ n. MatchOption s.header (IsValueError writes n h.value e) (λ header. IsRowError writes n (bytes_of header) h.value e))
+        (subst (λ n. MatchOption s.header (IsValueError writes own n h.value e) (λ header. IsRowError writes own n (bytes_of header) h.value e))
         so_far.none_is h.gives.1),
   )
 
   pub at-failure : {U : Type 0} (becomes : U → S → Type 0) (source : U) (start : S) (s t : ValueRows S) (e : RowError) (built : List (List (List ℕ)))
-      → becomes source start → SoFar start s built → row_steps steps writes s (Some (Err e)) t → IsSourceError becomes steps writes none source e
+      → becomes source start → SoFar start s built → row_steps steps writes own s (Some (Err e)) t → IsSourceError becomes steps writes own none source e
   at-failure becomes source start s t e built made so_far h =
       let found = failed_at start s t e built s.first so_far so_far.given h in
       at_value e (record {
@@ -234,10 +235,11 @@ module _ {S T : Type 0} (steps : S → Option T → S → Type 0) (writes : T �
 
 -- the same, where the values are those of an iterable
 pub record Started {U S T : Type 0} (becomes : U → S → Type 0) (steps : S → Option T → S → Type 0)
-    (writes : T → Option (List Event) → Option (List Event) → Type 0) (none : List ℕ) (values : U) (s : ValueRows S) (built : List (List (List ℕ))) : Type 0 where
+    (writes : T → Option (List Event) → Option (List Event) → Type 0) (own : T → List ℕ → List ℕ → Type 0)
+    (none : List ℕ) (values : U) (s : ValueRows S) (built : List (List (List ℕ))) : Type 0 where
   pub start : S
   pub made : becomes values start
-  pub so_far : SoFar steps writes none start s built
+  pub so_far : SoFar steps writes own none start s built
   pub texts : All (All IsUtf8) built
 
 -- what holds on success, where it didn't fail

@@ -1,4 +1,4 @@
--- Why a value is no row. Each error but `Memory` and `Custom` has its cause among the events.
+-- Why a value is no row. `Custom` is an error of the value itself; each other one but `Memory` has its cause among the events.
 use Rattle.std.specs.Prelude.{◌≡◌, ◌⊎◌, ℕ, List, [], ◌∷◌, ◌++◌, Option, Some, ⊤, string_bytes}
 use Rattle.std.specs.List.{All, AllZip}
 use Rattle.serde.specs.Event.{Event, field_key, variant_key, key_begins, key_ends, map_begins, map_ends, flattens, nothing, seq_ends}
@@ -11,11 +11,16 @@ use Rattle.tabled_serde.specs.declared.event.EventError.TheVariants as event_err
 use Rattle.tabled_serde.specs.declared.error.RowError.{RowError}
 use Rattle.tabled_serde.specs.declared.error.RowError.TheVariants.{Memory, NoFields, NoName, Nested, Malformed, Custom}
 
--- an error of the value itself
-abbrev pub IsWriteError : RowError → Type 0
-IsWriteError Memory = ⊤
-IsWriteError (Custom field message) = ⊤
-IsWriteError e = ⊥
+-- an allocation failed, or this is an error of the value itself, of which `own` says the field and the message
+abbrev pub IsWriteError : (List ℕ → List ℕ → Type 0) → RowError → Type 0
+IsWriteError own Memory = ⊤
+IsWriteError own (Custom field message) = own (string_bytes field) (string_bytes message)
+IsWriteError own e = ⊥
+
+-- the same, before it is an error of a row
+abbrev pub IsOwn : (List ℕ → List ℕ → Type 0) → EventError → Type 0
+IsOwn own event_error.Memory = ⊤
+IsOwn own (event_error.Custom field message) = own (string_bytes field) (string_bytes message)
 
 -- the same error of a row
 abbrev pub row_error : EventError → RowError
@@ -130,8 +135,9 @@ pub data IsRecordError (none : List ℕ) (events : List Event) : RowError → Ty
   goes_on : (fields after : List Event) (names cells : List (List ℕ)) (e : Event) → AreRecord none fields names cells
       → events ≡ fields ++ e ∷ after → IsRecordError none events Malformed
 
--- an error of a value: that of its events, or its own
-pub data IsValueError {T : Type 0} (writes : T → Option (List Event) → Option (List Event) → Type 0) (none : List ℕ) (value : T) : RowError → Type 0 where
-  own : (e : RowError) → IsWriteError e → IsValueError writes none value e
+-- an error of a value: its own, or that of its events
+pub data IsValueError {T : Type 0} (writes : T → Option (List Event) → Option (List Event) → Type 0) (own : T → List ℕ → List ℕ → Type 0)
+    (none : List ℕ) (value : T) : RowError → Type 0 where
+  of_value : (e : RowError) → IsWriteError (own value) e → IsValueError writes own none value e
   of_events : (events : List Event) (e : RowError) → writes value (Some []) (Some events) → IsRecordError none events e
-      → IsValueError writes none value e
+      → IsValueError writes own none value e

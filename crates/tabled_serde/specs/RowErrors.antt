@@ -34,21 +34,24 @@ IsColumnError header names (Unknown field) = HasNoColumn header names (string_by
 IsColumnError header names e = ⊥
 
 -- an error of a value below this header: its fields can't be read, or one of them has no column
-pub data IsRowError {T : Type 0} (writes : T → Option (List Event) → Option (List Event) → Type 0) (none : List ℕ) (header : List (List ℕ)) (value : T)
+pub data IsRowError {T : Type 0} (writes : T → Option (List Event) → Option (List Event) → Type 0) (own : T → List ℕ → List ℕ → Type 0)
+    (none : List ℕ) (header : List (List ℕ)) (value : T)
     : RowError → Type 0 where
-  of_value : (e : RowError) → IsValueError writes none value e → IsRowError writes none header value e
+  of_fields : (e : RowError) → IsValueError writes own none value e → IsRowError writes own none header value e
   of_columns : (names cells : List (List ℕ)) (e : RowError) → HasFields writes none value names cells → IsColumnError header names e
-      → IsRowError writes none header value e
+      → IsRowError writes own none header value e
 
 -- an error of the value that follows these. They have rows, below the names of the first
-abbrev pub FailsAfter : {T : Type 0} → (T → Option (List Event) → Option (List Event) → Type 0) → List ℕ → List T → T → RowError → Type 0
-FailsAfter writes none [] value e = IsValueError writes none value e
-FailsAfter writes none (first ∷ values) value e = (names cells : List (List ℕ)) × (later : List (List (List ℕ)))
-    × HasFields writes none first names cells × AllZip (IsRowOf writes none names) values later × IsRowError writes none names value e
+abbrev pub FailsAfter : {T : Type 0} → (T → Option (List Event) → Option (List Event) → Type 0) → (T → List ℕ → List ℕ → Type 0)
+    → List ℕ → List T → T → RowError → Type 0
+FailsAfter writes own none [] value e = IsValueError writes own none value e
+FailsAfter writes own none (first ∷ values) value e = (names cells : List (List ℕ)) × (later : List (List (List ℕ)))
+    × HasFields writes none first names cells × AllZip (IsRowOf writes none names) values later × IsRowError writes own none names value e
 
 -- the source yields these values and then one that fails
 pub record FailsAtNext {U S T : Type 0} (becomes : U → S → Type 0) (steps : S → Option T → S → Type 0)
-    (writes : T → Option (List Event) → Option (List Event) → Type 0) (none : List ℕ) (source : U) (e : RowError) : Type 0 where
+    (writes : T → Option (List Event) → Option (List Event) → Type 0) (own : T → List ℕ → List ℕ → Type 0)
+    (none : List ℕ) (source : U) (e : RowError) : Type 0 where
   pub start : S
   pub reached : S
   pub rest : S
@@ -57,10 +60,11 @@ pub record FailsAtNext {U S T : Type 0} (becomes : U → S → Type 0) (steps : 
   pub made : becomes source start
   pub yielded : Yields steps start values reached
   pub next : steps reached (Some value) rest
-  pub fails : FailsAfter writes none values value e
+  pub fails : FailsAfter writes own none values value e
 
 -- an error of the rows of a source: an allocation failed, or one of its values has no row
 pub data IsSourceError {U S T : Type 0} (becomes : U → S → Type 0) (steps : S → Option T → S → Type 0)
-    (writes : T → Option (List Event) → Option (List Event) → Type 0) (none : List ℕ) (source : U) : RowError → Type 0 where
-  no_memory : IsSourceError becomes steps writes none source Memory
-  at_value : (e : RowError) → FailsAtNext becomes steps writes none source e → IsSourceError becomes steps writes none source e
+    (writes : T → Option (List Event) → Option (List Event) → Type 0) (own : T → List ℕ → List ℕ → Type 0)
+    (none : List ℕ) (source : U) : RowError → Type 0 where
+  no_memory : IsSourceError becomes steps writes own none source Memory
+  at_value : (e : RowError) → FailsAtNext becomes steps writes own none source e → IsSourceError becomes steps writes own none source e

@@ -36,22 +36,23 @@ GivesRow writes s value row t =
     MatchOption s.header (GivesHeader writes s value row t) (λ header. IsRowOf writes s.none.now (bytes_of header) value row × (t ≡ s))
 
 -- a value fails: the first as a value without a header, a later one below the header
-abbrev pub FailsAt : {S T : Type 0} → (T → Option (List Event) → Option (List Event) → Type 0) → ValueRows S → T → RowError → Type 0
-FailsAt writes s value e =
-    MatchOption s.header (IsValueError writes s.none.now value e) (λ header. IsRowError writes s.none.now (bytes_of header) value e)
+abbrev pub FailsAt : {S T : Type 0} → (T → Option (List Event) → Option (List Event) → Type 0) → (T → List ℕ → List ℕ → Type 0)
+    → ValueRows S → T → RowError → Type 0
+FailsAt writes own s value e =
+    MatchOption s.header (IsValueError writes own s.none.now value e) (λ header. IsRowError writes own s.none.now (bytes_of header) value e)
 
 -- a value is taken from the source, and gives a row, or fails
 pub record TakesValue {S T : Type 0} (steps : S → Option T → S → Type 0) (writes : T → Option (List Event) → Option (List Event) → Type 0)
-    (s : ValueRows S) (outcome : Result (Vec (String Global) Global) RowError) (t : ValueRows S) : Type 0 where
+    (own : T → List ℕ → List ℕ → Type 0) (s : ValueRows S) (outcome : Result (Vec (String Global) Global) RowError) (t : ValueRows S) : Type 0 where
   pub value : T
   pub rest : S
   pub came : steps s.values (Some value) rest
-  pub gives : MatchResult outcome (λ row. GivesRow writes (record s { values = rest }) value (bytes_of row) t) (λ e. (t ≡ record s { values = rest }) × FailsAt writes s value e)
+  pub gives : MatchResult outcome (λ row. GivesRow writes (record s { values = rest }) value (bytes_of row) t) (λ e. (t ≡ record s { values = rest }) × FailsAt writes own s value e)
 
 -- the cells of the first value follow the header; else a value is taken from the source
 abbrev pub row_steps : {S T : Type 0} → (S → Option T → S → Type 0) → (T → Option (List Event) → Option (List Event) → Type 0)
-    → ValueRows S → Option (Result (Vec (String Global) Global) RowError) → ValueRows S → Type 0
-row_steps steps writes s r t =
+    → (T → List ℕ → List ℕ → Type 0) → ValueRows S → Option (Result (Vec (String Global) Global) RowError) → ValueRows S → Type 0
+row_steps steps writes own s r t =
     MatchOption s.first
-    (MatchOption r (steps s.values None t.values × (t ≡ record s { values = t.values })) (λ outcome. TakesValue steps writes s outcome t))
+    (MatchOption r (steps s.values None t.values × (t ≡ record s { values = t.values })) (λ outcome. TakesValue steps writes own s outcome t))
     (λ cells. (r ≡ Some (Ok cells)) × (t ≡ record s { first = None }))

@@ -14,7 +14,7 @@ use std::string::ToString;
 
 /// One event. A text is a copy.
 #[derive(Debug, Drop)]
-pub(crate) enum Step {
+pub enum Step {
     Bool(bool),
     Signed(i128),
     Unsigned(u128),
@@ -38,7 +38,7 @@ pub(crate) enum Step {
 
 /// Why a value doesn't write its events.
 #[derive(Debug, Drop)]
-pub(crate) enum EventError {
+pub enum EventError {
     /// An allocation failed.
     Memory,
     /// The value itself fails, at a field or after it.
@@ -74,7 +74,7 @@ impl From<EventError> for RowError {
 
 /// A serializer that keeps all events.
 #[derive(Debug, Drop)]
-pub(crate) struct Events {
+pub struct Events {
     pub steps: Vec<Step>,
 }
 

@@ -9,9 +9,9 @@ ghost use Rattle.tabled_serde.specs.RowSteps.{FailsAt, GivesRow, row_steps, rows
 ghost use Rattle.tabled_serde.specs.Rows.{AreRows};
 
 use crate::error::RowError;
+use crate::own_errors::OwnErrors;
 use crate::placed::cells_below;
 use crate::record::read_record;
-use serde::Serialize;
 use std::alloc::Global;
 use tabled_base::Builder;
 
@@ -52,11 +52,11 @@ impl<'a, I> ValueRows<'a, I> {
     }
 
     /// Returns the row of a value. That of the first is the header, and its cells are kept.
-    fn row_of<T: Serialize>(&mut self, value: &T) -> Result<Vec<String>, RowError>
+    fn row_of<T: OwnErrors>(&mut self, value: &T) -> Result<Vec<String>, RowError>
         ensures gives { IfOk result
             (λ row. GivesRow T.writes self.old value.now (bytes_of row) self.new) }
         ensures unchanged { OnErr result (self.new ≡ self.old) }
-        ensures failed { IfErr result (FailsAt T.writes self.old value.now) }
+        ensures failed { IfErr result (FailsAt T.writes T.own_error self.old value.now) }
     {
         let fields = read_record(self.alloc, value, self.none)?;
         if let Some(header) = &self.header {
@@ -69,12 +69,12 @@ impl<'a, I> ValueRows<'a, I> {
     }
 }
 
-impl<I: Iterator<Item = T>, T: Serialize + Drop> Iterator for ValueRows<'_, I> {
+impl<I: Iterator<Item = T>, T: OwnErrors + Drop> Iterator for ValueRows<'_, I> {
     type Item = Result<Vec<String>, RowError>;
 
     ghost can_next = { λ s. I.can_next s.values };
 
-    ghost next_gives = { row_steps I.next_gives T.writes };
+    ghost next_gives = { row_steps I.next_gives T.writes T.own_error };
 
     ghost remaining = { rows_left I.remaining };
 
@@ -93,7 +93,7 @@ impl<I: Iterator<Item = T>, T: Serialize + Drop> Iterator for ValueRows<'_, I> {
 /// ```rust
 /// let table = Table::from(builder(alloc, cities, "")?);
 /// ```
-pub fn builder<I: IntoIterator<Item = T>, T: Serialize + Drop>(
+pub fn builder<I: IntoIterator<Item = T>, T: OwnErrors + Drop>(
     alloc: Global,
     values: I,
     none: &str,
@@ -105,7 +105,8 @@ pub fn builder<I: IntoIterator<Item = T>, T: Serialize + Drop>(
         × AreRows T.writes none.now items rows × (builder ≡ rows)) }
     ensures texts { IfOk result (λ builder. All (All IsUtf8) builder) }
     ensures failed { IfErr result
-        (IsSourceError I.into_iter_gives I.IntoIter.next_gives T.writes none.now values) }
+        (IsSourceError I.into_iter_gives I.IntoIter.next_gives T.writes
+        T.own_error none.now values) }
 {
     let mut builder = Builder::new(alloc);
     'rows: for row in ValueRows::new(alloc, values.into_iter(), none) {

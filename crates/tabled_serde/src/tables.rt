@@ -9,8 +9,8 @@ ghost use Rattle.tabled_table.specs.NewTable.{IsNew};
 ghost use Rattle.tabled_table.specs.TableSheet.{cells_of};
 
 use crate::error::RowError;
+use crate::own_errors::OwnErrors;
 use crate::rows::builder;
-use serde::Serialize;
 use std::alloc::Global;
 use tabled_table::Table;
 
@@ -22,7 +22,7 @@ use tabled_table::Table;
 /// ```rust
 /// let table = tabled_serde::table(alloc, cities)?;
 /// ```
-pub fn table<I: IntoIterator<Item = T>, T: Serialize + Drop>(
+pub fn table<I: IntoIterator<Item = T>, T: OwnErrors + Drop>(
     alloc: Global,
     values: I,
 ) -> Result<Table, RowError>
@@ -32,7 +32,8 @@ pub fn table<I: IntoIterator<Item = T>, T: Serialize + Drop>(
         × AreRows T.writes [] items rows × IsNew rows table) }
     ensures texts { IfOk result (λ table. All (All IsUtf8) (cells_of table)) }
     ensures failed { IfErr result
-        (IsSourceError I.into_iter_gives I.IntoIter.next_gives T.writes [] values) }
+        (IsSourceError I.into_iter_gives I.IntoIter.next_gives T.writes
+        T.own_error [] values) }
 {
     Ok(Table::from(builder(alloc, values, "")?))
 }

@@ -17,6 +17,7 @@ loop-added-preserved g c =
       kept = IsNoneSmaller-raised c.args.sizes.now v p above.1 c.loop-added.invariant.kept;
       total = let s = l.total in omega (arith, c.loop-added.invariant.total);
       visits = let less = changed-le c.args.sizes.now (raised v p) in omega arith;
+      reads = omega arith;
     }
 
 pub loop-added-init : goal.loop-added-init
@@ -25,4 +26,5 @@ loop-added-init g c = record {
   kept = search rules;
   total = omega arith;
   visits = let none = changed-self c.args.sizes.now in omega arith;
+  reads = omega arith;
 }

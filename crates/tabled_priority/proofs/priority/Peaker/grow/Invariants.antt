@@ -1,4 +1,4 @@
-use Rattle.tabled_priority.proofs.Names.{List, changed, counted, sum, ℕ, ◌+◌, ◌-◌, ◌≡◌, ◌≤◌}
+use Rattle.tabled_priority.proofs.Names.{List, changed, counted, length, sum, ℕ, ◌*◌, ◌+◌, ◌-◌, ◌≡◌, ◌≤◌}
 use Rattle.tabled_priority.specs.Grown.{IsNoneSmaller}
 use Rattle.tabled_priority.proofs.priority.Peaker.grow.Given as goal
 
@@ -9,4 +9,5 @@ invariant-loop-added g l = record {
   kept : IsNoneSmaller l.fn.sizes l.sizes;
   total : sum l.sizes ≡ sum l.fn.sizes + l.added;
   visits : counted l.fn.steps.count (changed l.fn.sizes l.sizes) ≤ l.steps.count;
+  reads : l.steps.count ≡ counted l.fn.steps.count (l.added * length l.fn.sizes);
 }

@@ -17,6 +17,7 @@ loop-taken-preserved g c =
       permitted = IsPermitted-lowered c.args.sizes.now c.args.mins.now v p above.1 c.loop-taken.invariant.permitted;
       total = omega (arith, sum-lowered v p (at c.args.mins.now p) above.1, c.loop-taken.invariant.total);
       visits = let less = changed-le c.args.sizes.now (lowered v p) in omega arith;
+      reads = omega arith;
     }
 
 pub loop-taken-init : goal.loop-taken-init
@@ -25,4 +26,5 @@ loop-taken-init g c = record {
   permitted = search rules;
   total = omega arith;
   visits = let none = changed-self c.args.sizes.now in omega arith;
+  reads = omega arith;
 }

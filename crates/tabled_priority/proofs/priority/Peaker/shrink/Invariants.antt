@@ -1,4 +1,4 @@
-use Rattle.tabled_priority.proofs.Names.{IsPermitted, List, changed, counted, sum, ℕ, ◌+◌, ◌-◌, ◌≡◌, ◌≤◌}
+use Rattle.tabled_priority.proofs.Names.{IsPermitted, List, changed, counted, length, sum, ℕ, ◌*◌, ◌+◌, ◌-◌, ◌≡◌, ◌≤◌}
 use Rattle.tabled_priority.proofs.priority.Peaker.shrink.Given as goal
 
 abbrev pub invariant-loop-taken : goal.invariant-loop-taken
@@ -8,4 +8,5 @@ invariant-loop-taken g l = record {
   permitted : IsPermitted l.fn.sizes l.mins l.sizes;
   total : sum l.sizes + l.taken ≡ sum l.fn.sizes;
   visits : counted l.fn.steps.count (changed l.fn.sizes l.sizes) ≤ l.steps.count;
+  reads : l.steps.count ≡ counted l.fn.steps.count (l.taken * length l.fn.sizes);
 }
