@@ -46,7 +46,7 @@ PrintsRecords answers fails fields records old (Err e) new =
     ((e ≡ Range) × IsTooWide fields records × (new ≡ old))
     ⊎ ((IsTooWide fields records → ⊥) × (EndsBefore answers fails fields records old e new ⊎ EndsWithin answers fields records old e new))
 
--- ---- for private functions
+-- ---- Of private steps: no public call promises this.
 
 -- the lines of one record with a label of the template, or nothing if the template failed where it
 -- may

@@ -142,7 +142,8 @@ is_line_kind Leaf = false
 is_line_kind Bar = true
 is_line_kind Rule = true
 
--- ---- pieces as parts, and which rectangles are large enough for a box
+-- ---- Of private steps: no public call promises this.
+-- Pieces as parts, and which rectangles are large enough for a box
 
 abbrev pub shown : Piece → Part
 shown p = part_of p.kind p.place (piece_text p.kind p.value.now)
@@ -153,7 +154,7 @@ pub record Fits (b : Box) (r : Rectangle) : Type 0 where
   pub right : r.x + r.width < 2 ^ 64
   pub low : r.y + r.height < 2 ^ 64
 
--- ---- the boxes that are still to be placed
+-- The boxes that are still to be placed
 
 -- the first of them, of box b, can be split off a rectangle
 pub record CanSplit (d : Direction) (g : BoxSpacing) (b : Box) (left : BoxesLeft) (r : Rectangle) : Type 0 where

@@ -63,29 +63,6 @@ drawn_line t y = flat_map (place_text t y) (range_with_len 0 t.width)
 unfoldable pub drawn : DrawingPlan → List (List ℕ)
 drawn t = map (drawn_line t) (range_with_len 0 t.height)
 
--- `count` columns from x on belong to one part; if it is a border, each has the character c
-pub record IsRun (t : DrawingPlan) (x y count c : ℕ) (p : Part) : Type 0 where
-  pub some : 0 < count
-  pub within : x + count ≤ t.width
-  pub owned : (v : ℕ) → x ≤ v → v < x + count → owner t.parts v y ≡ Some p
-  pub alike : is_line_kind p.kind ≡ true → (v : ℕ) → x ≤ v → v < x + count → border_char t p.kind p.place v y ≡ c
-
--- ---- what is known at a column of a line
-
--- the piece at a column, whether a border is before it, and which are above and below from there on
-pub record IsAt (t : DrawingPlan) (y : ℕ) (at : Cursor) : Type 0 where
-  pub within : at.x ≤ t.width
-  pub piece : option_map (λ p. shown p.now) at.piece ≡ owner t.parts at.x y
-  pub left : at.left ≡ is_border_before t.parts at.x y
-  pub up : (v : ℕ) → at.x ≤ v → v < at.up.end → is_border_above t.parts v y ≡ at.up.border
-  pub down : (v : ℕ) → at.x ≤ v → v < at.down.end → is_border t.parts v (y + 1) ≡ at.down.border
-
--- the run from a column on, and the column after it
-pub record RunsFrom (t : DrawingPlan) (y : ℕ) (at : Cursor) (r : Run) (after : Cursor) : Type 0 where
-  pub run : IsRun t at.x y r.count r.c (shown r.piece.now)
-  pub next : IsAt t y after
-  pub behind : after.x ≡ at.x + r.count
-
 -- ---- drawn lines in which each part is in its rectangle
 
 -- a piece is in a line, after x columns
@@ -104,3 +81,26 @@ pub record Tiled (t : DrawingPlan) : Type 0 where
       → y < p.place.y + p.place.height → StandsAt (drawn_line t y) p.place.x (leaf_line t p (y - p.place.y))
   pub border : (x y : ℕ) (p : Part) → x < t.width → y < t.height → owner t.parts x y ≡ Some p → is_line_kind p.kind
       ≡ true → StandsAt (drawn_line t y) x (encode_utf8 (border_char t p.kind p.place x y))
+
+-- ---- Of private steps: no public call promises this.
+
+-- `count` columns from x on belong to one part; if it is a border, each has the character c
+pub record IsRun (t : DrawingPlan) (x y count c : ℕ) (p : Part) : Type 0 where
+  pub some : 0 < count
+  pub within : x + count ≤ t.width
+  pub owned : (v : ℕ) → x ≤ v → v < x + count → owner t.parts v y ≡ Some p
+  pub alike : is_line_kind p.kind ≡ true → (v : ℕ) → x ≤ v → v < x + count → border_char t p.kind p.place v y ≡ c
+
+-- the piece at a column, whether a border is before it, and which are above and below from there on
+pub record IsAt (t : DrawingPlan) (y : ℕ) (at : Cursor) : Type 0 where
+  pub within : at.x ≤ t.width
+  pub piece : option_map (λ p. shown p.now) at.piece ≡ owner t.parts at.x y
+  pub left : at.left ≡ is_border_before t.parts at.x y
+  pub up : (v : ℕ) → at.x ≤ v → v < at.up.end → is_border_above t.parts v y ≡ at.up.border
+  pub down : (v : ℕ) → at.x ≤ v → v < at.down.end → is_border t.parts v (y + 1) ≡ at.down.border
+
+-- the run from a column on, and the column after it
+pub record RunsFrom (t : DrawingPlan) (y : ℕ) (at : Cursor) (r : Run) (after : Cursor) : Type 0 where
+  pub run : IsRun t at.x y r.count r.c (shown r.piece.now)
+  pub next : IsAt t y after
+  pub behind : after.x ≡ at.x + r.count

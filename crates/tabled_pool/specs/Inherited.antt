@@ -351,6 +351,8 @@ abbrev pub has_zero_width : List Part → Bool
 has_zero_width [] = false
 has_zero_width (p ∷ ps) = is_zero_width p || has_zero_width ps
 
+-- ---- Of private steps: no public call promises this.
+
 -- the sizes of a list that aren't taken
 abbrev pub sizes_left : InheritedSizes → List ℕ
 sizes_left s = drop s.start s.sizes.items

@@ -1,3 +1,4 @@
+-- Of private steps: no public call promises this.
 -- Pieces by their numbers in the list of a drawing.
 use Rattle.std.specs.Prelude.{◌≡◌, ℕ, ◌<◌, ◌≤◌, ◌+◌, false, true, List, map, drop, slice_get, length, Option, Some, None}
 use Rattle.tabled_pool.specs.declared.color_marks.First.{First}

@@ -1,3 +1,4 @@
+-- Of private steps: no public call promises this.
 -- The text that a piece has of a value: a text has its own, a list and a border have none.
 use Rattle.std.specs.Prelude.{ℕ, List, [], string_bytes}
 use Rattle.tabled_pool.specs.declared.kind.Kind.{Kind}

@@ -50,7 +50,7 @@ sizes_within g v = (measured g v).inside
 abbrev pub sizes_of_all : BoxSpacing → List TableValue → List Size
 sizes_of_all g vs = sizes_of (map (measured g) vs)
 
--- ---- lists of sizes
+-- ---- Of private steps: no public call promises this.
 
 -- a list that is complete afterwards was so before, and has these sizes in addition
 pub record AreAdded (old new : SizeList) (sizes : List Size) : Type 0 where

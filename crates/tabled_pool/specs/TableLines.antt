@@ -1,3 +1,4 @@
+-- Of private steps: no public call promises this.
 -- The lines of a table without its margin.
 use Rattle.std.specs.Prelude.{ℕ, List, map}
 use Rattle.tabled_line.specs.Fill.{fill}

@@ -1,3 +1,4 @@
+-- Of private steps: no public call promises this.
 -- Texts of several lines, each with a cursor in a line of the drawing.
 use Rattle.std.specs.Prelude.{◌≡◌, ℕ, ◌+◌, Some, IfSome, List, slice_get}
 use Rattle.std.specs.List.{All}

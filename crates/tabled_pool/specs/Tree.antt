@@ -85,7 +85,8 @@ pub record IsInner (value inner : TableValue) : Type 0 where
   pub sizes : (g : BoxSpacing) → sizes_within g value ≡ sizes_within g inner
   pub fewer : nodes inner ≤ nodes value
 
--- ---- lists that are being copied, the outermost first
+-- ---- Of private steps: no public call promises this.
+-- Lists that are being copied, the outermost first
 
 -- trees side by side, or below each other
 abbrev pub list : Bool → List Tree → Tree

@@ -115,7 +115,7 @@ pub struct Taken<R> {
 
 /// Reads the first `count` rows, or all if there are fewer. Requests no row after these. Error:
 /// `Memory`, only if there is a row.
-pub fn take_rows<I: Iterator<Item = W>, W: IntoIterator<Item = C>, C: Drop>(
+pub(crate) fn take_rows<I: Iterator<Item = W>, W: IntoIterator<Item = C>, C: Drop>(
     alloc: Global,
     rows: &mut I,
     count: usize,

@@ -1,9 +1,9 @@
 -- The cut text as a function of the text, and what is left of letters.
-use Rattle.tabled_text.proofs.Names.{AreLetters, Bool, IsCharBoundary, IsCut, IsLetter, IsLongestReached, IsParted, IsReached, IsUtf8}
+use Rattle.tabled_text.proofs.Names.{AreLetters, IsCut, IsLetter, IsLongestReached, IsParted, IsReached, IsUtf8}
 use Rattle.tabled_text.proofs.Names.{IsUtf8-append, IsUtf8-encode, IsUtf8-past_char, List, [], and_from, ap, append-nil, append_assoc, arith}
-use Rattle.tabled_text.proofs.Names.{cases_Bool, chars-append, get_or, is_no_feed, unicode_width, line_columns, lit<, suc, zero, char_columns, char_count, chars, chars-encodes, cond, count_of, encode_utf8, encode_utf8_all, eq-eqb, eqb-false}
-use Rattle.tabled_text.proofs.Names.{eqb-true, false, is_simple, last_line, last_of, length, lines_of, list_all, list_all-append, missing_columns}
-use Rattle.tabled_text.proofs.Names.{nat_lt, nat_tests, refl, replicate, scalar, scalars, scalars-chars, subst, sum_by_push, sym, take, text_columns, true, ℕ, ⊎_elim}
+use Rattle.tabled_text.proofs.Names.{cases_Bool, chars-append, get_or, is_no_feed, unicode_width, line_columns, lit<, suc, zero, char_columns, char_count, chars, chars-encodes, cond, count_of, encode_utf8, encode_utf8_all, eqb-false}
+use Rattle.tabled_text.proofs.Names.{eqb-true, is_simple, last_line, last_of, length, lines_of, list_all, list_all-append, missing_columns}
+use Rattle.tabled_text.proofs.Names.{nat_lt, nat_tests, refl, replicate, scalar, scalars, scalars-chars, subst, sum_by_push, sym, text_columns, true, ℕ, ⊎_elim}
 use Rattle.tabled_text.proofs.Names.{◌++◌, ◌+◌, ◌-◌, ◌<◌, ◌==◌, ◌∙◌, ◌∷◌, ◌≡◌, ◌≤◌, BeginsBy}
 use Rattle.tabled_text.proofs.Basics.{all-halves, list_all-copies}
 use Rattle.tabled_text.proofs.Bridge.{lines_of-feedless, lines_of-one, list_all-scalars}

@@ -1,6 +1,6 @@
 -- Runs of bytes that pass a test, and blocks of bytes that are tested at once.
 use Rattle.tabled_text.proofs.Names.{Bool, List, [], agree_below_at, and_from, and_le_r, and_parts, ap, arith, bit_and, cases_lt, chunk}
-use Rattle.tabled_text.proofs.Names.{cond, drop, drop-drop, eqb, eqb-true, false, get_or, get_or-drop, get_or-map, get_or-take, inl, inr}
+use Rattle.tabled_text.proofs.Names.{cond, drop, eqb, eqb-true, false, get_or, get_or-drop, get_or-map, get_or-take, inl, inr}
 use Rattle.tabled_text.proofs.Names.{is_in_range, length, length-append, length-chunk, length-drop, length-map, length-take-le, list_all}
 use Rattle.tabled_text.proofs.Names.{list_all-append, ltb, map, map-map, mask_l, mask_l-mod, nat_tests, ne_eqb, not, refl, replicate, subst}
 use Rattle.tabled_text.proofs.Names.{suc, sum_by, sum_by-cons, sum_l, sym, take, take-add, take-append-drop, take-take, true, w8, zero}
@@ -35,14 +35,6 @@ run-some test xs from end o l stop =
     let place : from + (end - from) ≡ end = omega arith in
     list_all_at test (drop from xs) (end - from) 0 (omega (arith, length-drop from xs))
     (ap test (get_or-drop from xs (end - from) 0 ∙ ap (λ i. get_or xs i 0) place) ∙ stop)
-
--- what stands behind a later place passes too
-pub all-later : (test : ℕ → Bool) (xs : List ℕ) (earlier start : ℕ) → earlier ≤ start → list_all test (drop earlier xs) ≡ true
-    → list_all test (drop start xs) ≡ true
-all-later test xs earlier start o h =
-    let place : earlier + (start - earlier) ≡ start = omega arith in
-    ap (list_all test) (sym (drop-drop (start - earlier) earlier xs ∙ ap (λ n. drop n xs) place))
-    ∙ (all-parts test (start - earlier) (drop earlier xs) h).1
 
 -- the bytes before the end of a run pass
 pub run-front : (test : ℕ → Bool) (xs : List ℕ) (end : ℕ) → end ≤ length xs → ((k : ℕ) → 0 ≤ k → k < end → test (get_or xs k 0) ≡ true)

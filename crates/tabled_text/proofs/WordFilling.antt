@@ -5,10 +5,9 @@ use Rattle.tabled_text.proofs.Names.{encodes-append, eq-eqb, eqb-false, eqb-true
 use Rattle.tabled_text.proofs.Names.{lines_of, map, nat_le, ne_eqb, needed, refl, shown, space, subst, sum_by-append, sum_by-cons, sym, text_from}
 use Rattle.tabled_text.proofs.Names.{text_of_groups, text_of_lines, true, used_after, width_of, words_of, ⊎_elim, ℕ, ◌++◌, ◌+◌, ◌<◌, ◌==◌, ◌∙◌}
 use Rattle.tabled_text.proofs.Names.{◌∷◌, ◌≡◌, ◌≤◌, ◌⊎◌, IsUtf8-nil, replicate, encode_ascii, lit<, ◌-◌}
-use Rattle.tabled_text.specs.WordWalk.{first_needed, goes_on, line_of_words, next_used, next_word, next_words, pending_words, word_at, word_lead}
+use Rattle.tabled_text.specs.WordWalk.{goes_on, line_of_words, next_used, next_word, next_words, pending_words, word_at, word_lead}
 use Rattle.tabled_text.specs.WordWrap.{AreFullOfWords, IsFullOfWords, IsWordWrapped, IsWordWrappedText, SpacedUnit, further_units, on_line}
-use Rattle.tabled_text.specs.WordWrap.{spaced_units, spaced_word, with_spaces, word_units}
-use Rattle.tabled_text.proofs.Bridge.{begins-split}
+use Rattle.tabled_text.specs.WordWrap.{spaced_units, spaced_word, word_units}
 use Rattle.tabled_text.proofs.Filling.{append_text-fits, encodes-feed, needed-le-line}
 use Rattle.tabled_text.proofs.WordUnits.{begins-bare, on_line-append, word_units-some}
 use Rattle.tabled_text.proofs.WrapKept.{fits-sum, own_width}

@@ -2,7 +2,7 @@
 -- that fits is kept.
 use Rattle.tabled_text.proofs.Names.{All, All-cons, All-head, All-nil, All-tail, AllZip, EachUnitFits, Fits, IsAdditive, IsUtf8, List, TextUnit}
 use Rattle.tabled_text.proofs.Names.{[], ap, append-nil, append_all, append_assoc, arith, chars, chars-nil, columns_of, cond, count_of}
-use Rattle.tabled_text.proofs.Names.{encode_utf8_all, encodes-chars, flat_map, greatest, inl, inr, is_additive, is_additive_text, is_no_feed}
+use Rattle.tabled_text.proofs.Names.{encode_utf8_all, encodes-chars, flat_map, greatest, inl, inr, is_additive, is_no_feed}
 use Rattle.tabled_text.proofs.Names.{join_with_byte, join_with_byte-slice_split, le-leb, length, length-map, lines_of, list_all, lt-leb, map, min}
 use Rattle.tabled_text.proofs.Names.{needed, refl, space, stays, subst, sum_by, sum_by-append, sum_by-cons, sym, text_columns, text_from, text_of}
 use Rattle.tabled_text.proofs.Names.{text_of_groups, text_of_lines, true, unit_of_char, units, units_of_word, units_of_words, width_of, words_of}
@@ -11,11 +11,11 @@ use Rattle.std.proofs.lemmas.List.Concat.{flat_map-append}
 use Rattle.tabled_text.specs.Fitting.{FitsIn}
 use Rattle.tabled_text.specs.Room.{StaysWithin}
 use Rattle.tabled_text.specs.WordWrap.{AreFullOfWords, ArePartsOf, HasFewestWordLines, HasOldWords, IsFullOfWords, IsLeastWordBreaking}
-use Rattle.tabled_text.specs.WordWrap.{IsWordBreaking, IsWordBroken, IsWordWrapped, IsWordWrappedText, SpacedUnit, further_units, on_line}
-use Rattle.tabled_text.specs.WordWrap.{spaced_units, spaced_word, text_of_word_breaking, with_spaces, word_units}
+use Rattle.tabled_text.specs.WordWrap.{IsWordBreaking, IsWordWrapped, IsWordWrappedText, SpacedUnit, further_units, on_line}
+use Rattle.tabled_text.specs.WordWrap.{spaced_units, spaced_word, with_spaces, word_units}
 use Rattle.tabled_text.proofs.Bridge.{Each, begins-split, lines_of-feed, some_line, text_columns-chars}
 use Rattle.tabled_text.proofs.CutWhole.{IsReached-counted, count_of-bytes}
-use Rattle.tabled_text.proofs.FewestLines.{EndsWithin, GoesPast, count-chars, feedless-lines, needed-le, rows, rows-break, rows-groups}
+use Rattle.tabled_text.proofs.FewestLines.{count-chars, feedless-lines, needed-le, rows, rows-break, rows-groups}
 use Rattle.tabled_text.proofs.FewestLines.{split_append}
 use Rattle.tabled_text.proofs.Filling.{append_all-fits}
 use Rattle.tabled_text.proofs.FitLemmas.{EachUnit, EachUnit-append, EachUnit-parts, Feedless}
@@ -24,7 +24,7 @@ use Rattle.tabled_text.proofs.OwnBreaking.{Narrow, Narrow-from, fits-narrow, tex
 use Rattle.tabled_text.proofs.Within.{Within, Within-append, Within-nothing, text_columns-within}
 use Rattle.tabled_text.proofs.WordFilling.{full_lines, word_wrapped-cases, word_wrapped_text, wrapped-some, written_words}
 use Rattle.tabled_text.proofs.WordUnits.{all_words, begins-bare, each-groups, each-lines, each-units, feedless-words, further_words}
-use Rattle.tabled_text.proofs.WordUnits.{on_line-append, sound-groups, sound-units, text_of-line, width-line, with_spaces-append}
+use Rattle.tabled_text.proofs.WordUnits.{on_line-append, sound-groups, sound-units, text_of-line, width-line}
 use Rattle.tabled_text.proofs.WordUnits.{with_spaces-first, with_spaces-units, word-cases}
 use Rattle.tabled_text.proofs.WrapKept.{own_width, plain-counts}
 use Rattle.tabled_text.proofs.WrapRoom.{EachPlain, EachPlain-lines, Good, good-made, stays-append_all, stays-break, stays-nothing}

@@ -1,8 +1,8 @@
 -- The units of a line that is wrapped between words: their text and their widths, and what holds of each.
-use Rattle.tabled_text.proofs.Names.{List, TextUnit, [], ap, append-nil, append_assoc, arith, char_count, columns_of, cond, count_of, flat_map}
+use Rattle.tabled_text.proofs.Names.{List, TextUnit, [], ap, append-nil, append_assoc, arith, char_count, columns_of, count_of, flat_map}
 use Rattle.tabled_text.proofs.Names.{is_no_feed, join_with_byte, join_with_byte-slice_split, leb-false, length, list_all, map, nat_le, refl, space}
 use Rattle.tabled_text.proofs.Names.{subst, sum_by-append, sum_by-cons, sym, text_of, true, unit_of_char, width_of, words_of, inl, inr, and_from}
-use Rattle.tabled_text.proofs.Names.{ℕ, ◌++◌, ◌+◌, ◌<◌, ◌==◌, ◌∙◌, ◌∷◌, ◌≡◌, ◌≤◌, Bool}
+use Rattle.tabled_text.proofs.Names.{ℕ, ◌++◌, ◌<◌, ◌==◌, ◌∙◌, ◌∷◌, ◌≡◌, ◌≤◌, Bool}
 use Rattle.std.proofs.lemmas.List.Concat.{flat_map-append}
 use Rattle.tabled_text.specs.WordWrap.{SpacedUnit, further_units, on_line, spaced_units, spaced_word, with_spaces, word_units}
 use Rattle.tabled_text.proofs.Basics.{cond-cases}

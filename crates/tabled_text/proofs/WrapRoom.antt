@@ -4,7 +4,7 @@ use Rattle.tabled_text.proofs.Names.{append-nil, append_all, append_assoc, appen
 use Rattle.tabled_text.proofs.Names.{char_count, chars, chars-nil, columns_of, cond, false, greatest, has_plain_width, is_additive}
 use Rattle.tabled_text.proofs.Names.{is_additive_or_feed, is_additive_text, is_listed_or_drawn, le-leb, leb-false, leb-true, lines_of}
 use Rattle.tabled_text.proofs.Names.{list_all, map, min, nat_le, ne_eqb, needed, onto_first, or_left, or_right, refl, replicate, shown}
-use Rattle.tabled_text.proofs.Names.{space, stays, subst, suc, sum_by, sum_by-cons, sym, text_of_groups, text_of_lines, true, unicode_width}
+use Rattle.tabled_text.proofs.Names.{stays, subst, suc, sum_by, sum_by-cons, sym, text_of_groups, text_of_lines, true, unicode_width}
 use Rattle.tabled_text.proofs.Names.{unit_of_char, units, zero, ℕ, ⊎_elim, ⊤, ◌&&◌, ◌++◌, ◌+◌, ◌-◌, ◌<◌, ◌==◌, ◌||◌, ◌∙◌, ◌∷◌, ◌≡◌, ◌≤◌}
 use Rattle.tabled_text.proofs.Basics.{cond-both, list_all-copies}
 use Rattle.tabled_text.proofs.Bridge.{Each}

@@ -1,6 +1,6 @@
 -- Texts that are wrapped, as a function of the text, and what ends the lines of a text that is
 -- wrapped without a copy.
-use Rattle.std.specs.Prelude.{◌≡◌, ℕ, ◌<◌, ◌==◌, Bool, true, false, List, [], ◌∷◌, chars, encode_utf8_all, length, Option, Some, None, IfSome, nat_lt, ◌&&◌, if◌then◌else◌}
+use Rattle.std.specs.Prelude.{◌≡◌, ℕ, ◌==◌, Bool, true, false, List, [], ◌∷◌, chars, encode_utf8_all, length, Option, Some, None, IfSome, nat_lt, ◌&&◌, if◌then◌else◌}
 use Rattle.std.specs.Borrow.{Bor}
 use Rattle.std.specs.Int.{is_in_range}
 use Rattle.std.specs.List.{list_all}

@@ -1,5 +1,6 @@
--- What the private functions that wrap and compare do, unit after unit and without looking ahead,
--- and what is still expected of a text that is compared piece by piece.
+-- Of private steps: no public call promises this, except `pending` as a part of `wrapped_text`.
+-- What the functions that wrap and compare do, unit after unit and without looking ahead, and what
+-- is still expected of a text that is compared piece by piece.
 use Rattle.std.specs.Prelude.{◌≡◌, ℕ, ◌+◌, ◌<◌, ◌≤◌, Bool, true, false, ◌||◌, nat_le, List, [], ◌∷◌, ◌++◌, chars, encode_utf8_all, length, take, drop, Option, Some, None, if◌then◌else◌, ◌↔◌}
 use Rattle.std.specs.Borrow.{Bor}
 use Rattle.std.specs.List.{list_all}

@@ -1,5 +1,6 @@
--- What the private functions that wrap between words do, word after word and without looking ahead.
--- Words and lines are lists of characters.
+-- Of private steps: no public call promises this.
+-- What the functions that wrap between words do, word after word and without looking ahead. Words
+-- and lines are lists of characters.
 use Rattle.std.specs.Prelude.{ℕ, ◌+◌, Bool, true, nat_le, List, [], ◌∷◌, ◌++◌, if◌then◌else◌}
 use Rattle.tabled_text.specs.Breaking.{TextUnit, words_of}
 use Rattle.tabled_text.specs.Walk.{append_all, used_after}

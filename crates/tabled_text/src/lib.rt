@@ -45,10 +45,9 @@ pub use character::{
 pub use cut::{append_cut, cut_length, cut_letters, cut_str, split_str};
 pub use fewest_lines::is_fullest;
 pub use letters::is_letter_text;
-pub use line_ends::{LineEnds, first_line, measures_by_bytes, measures_in_place, wrapped_text_is};
+pub use line_ends::{LineEnds, first_line, measures_by_bytes, measures_in_place};
 pub use measure::{
-    TextLines, columns_between, count_lines, line_width, lines, split_line, tail_measures,
-    text_measures, text_width,
+    TextLines, columns_between, count_lines, line_width, lines, text_measures, text_width,
 };
 pub use runs::run_end;
 pub use sink::{copies, push_copies};

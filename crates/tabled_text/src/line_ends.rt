@@ -1,11 +1,9 @@
 //! What ends the lines of a text: line feeds, or a length at which a text is wrapped in place.
-ghost use Rattle.std.specs.Prelude.{Bool, IfSome, List, false, length, true, ℕ, ◌<◌, ◌≡◌};
+ghost use Rattle.std.specs.Prelude.{IfSome, false, length, true, ◌<◌, ◌≡◌};
 ghost use Rattle.std.specs.List.{list_all};
-ghost use Rattle.std.specs.Str.{IsUtf8};
 ghost use Rattle.tabled_text.specs.Letters.{BeginsBy, IsLetter, is_letter_byte};
 ghost use Rattle.tabled_text.specs.LineEnds.{AreEnds, IsFirstLine, IsWrappedInPlace, wrapped_text};
 ghost use Rattle.tabled_text.specs.Measure.{lines_of, text_columns};
-ghost use Rattle.tabled_text.specs.Wrapping.{IsWrapped};
 ghost use Rattle.tabled_text.specs.declared.line_ends.LineEnds.TheVariants.{Bytes, Columns, Feeds};
 
 use crate::letters::split_letters;
@@ -194,9 +192,3 @@ pub fn measures_in_place(
     let told = measures_by_columns(text, n);
     if told.1 == 1 { None } else { Some(told) }
 }
-
-/// The wrapped text as a function of the text.
-pub fn wrapped_text_is()
-    ensures { (n : ℕ) (words : Bool) (text : List ℕ) → IsUtf8 text
-        → IsWrapped n words text (wrapped_text n words text) }
-{}

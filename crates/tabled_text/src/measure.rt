@@ -61,17 +61,6 @@ pub(crate) fn is_printable(text: &str) -> bool
     is_run(text.as_bytes(), 0, b' ', b'~')
 }
 
-/// Whether the bytes from `start` on are printable ASCII. If they are fewer than a block, they are
-/// first tested together with the bytes before them, in one block.
-#[inline(always)]
-fn is_printable_tail(bytes: &[u8], start: usize) -> bool
-    requires { start ≤ length bytes.now }
-    ensures { result ≡ list_all (is_in_range 0x20 0x7E) (drop start bytes.now) }
-{
-    let earlier = start.min(bytes.len().saturating_sub(BLOCK));
-    is_run(bytes, earlier, b' ', b'~') || is_run(bytes, start, b' ', b'~')
-}
-
 /// Returns the columns of the first line of a text, and the rest after its line feed, if it has
 /// one. `run` is the end of the printable ASCII that the text begins with.
 fn measure_line(text: &str, run: usize) -> (usize, Option<&str>)
@@ -133,24 +122,6 @@ pub fn text_measures(text: &str) -> (usize, usize)
         }
     }
     measures_of_lines(text, run)
-}
-
-/// Returns the columns and the number of lines of a text from byte `start` on. Printable ASCII is
-/// measured fastest.
-#[inline]
-pub fn tail_measures(text: &str, start: usize) -> (usize, usize)
-    requires { IsCharBoundary text.now start }
-    ensures columns { result.0 ≡ text_columns (drop start text.now) }
-    ensures lines { result.1 ≡ length (lines_of (drop start text.now)) }
-{
-    if is_printable_tail(text.as_bytes(), start) {
-        return (text.len() - start, 1);
-    }
-    if let Some(columns) = tail_width(text, start) {
-        return (columns, 1);
-    }
-    let tail = &text[start..];
-    measures_of_lines(tail, run_end(tail.as_bytes(), 0, b' ', b'~'))
 }
 
 /// Returns the columns of the line from byte `start` on if it is letters alone and the text has a
@@ -221,7 +192,7 @@ pub fn lines(text: &str) -> TextLines<'_>
 }
 
 /// Returns the first line of a text, and the rest after its line feed, if it has one.
-pub fn split_line(text: &str) -> (&str, Option<&str>)
+pub(crate) fn split_line(text: &str) -> (&str, Option<&str>)
     ensures { lines_of text.now ≡ result.0.now ∷ lines_in result.1 }
 {
     split_at_byte(text, 0, b'\n')

@@ -373,7 +373,8 @@ impl Tabled for usize {
     }
 }
 
-/// Shown as `Display` shows it. The contract says only that it is one text, in UTF-8.
+/// Shown as `Display` shows it: the shortest digits that are read as this number, without an
+/// exponent. The contract says only that it is one text, in UTF-8; which one is tested.
 impl Tabled for f32 {
     ghost shows = { λ _ row. IsOneText row };
 
@@ -392,7 +393,8 @@ impl Tabled for f32 {
     }
 }
 
-/// Shown as `Display` shows it. The contract says only that it is one text, in UTF-8.
+/// Shown as `Display` shows it: the shortest digits that are read as this number, without an
+/// exponent. The contract says only that it is one text, in UTF-8; which one is tested.
 impl Tabled for f64 {
     ghost shows = { λ _ row. IsOneText row };
 
