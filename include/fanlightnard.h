@@ -35,7 +35,7 @@
  * as they are, and no byte 0 is added. A buffer must not overlap anything else that is passed.
  *
  * Errors: a negative result is one of `fanlightnard_error`. The buffer is unchanged then. No call
- * aborts, prints, or sets errno.
+ * aborts or prints, and each leaves errno as it is. A writer of yours may set it.
  *
  * Ownership: a call reads what it is passed and keeps nothing. It calls malloc, realloc and free,
  * and has freed everything when it returns.
@@ -68,7 +68,8 @@ typedef enum fanlightnard_error {
                                        than `columns`, or there are rows without columns */
     FANLIGHTNARD_NO_ALIGN = -8,     /* an alignment is none of `fanlightnard_align` */
     FANLIGHTNARD_NULL_POINTER = -9, /* a pointer is null, and its length isn't 0 */
-    FANLIGHTNARD_BAD_OPTIONS = -10, /* `size` fits no version of the options, or `header` isn't 0 or 1 */
+    FANLIGHTNARD_BAD_OPTIONS = -10, /* `size` is that of no version of the options that this library
+                                       knows, or `header` isn't 0 or 1 */
     FANLIGHTNARD_STOPPED = -11      /* a writer returned something else than 0 */
 } fanlightnard_error;
 
@@ -127,12 +128,15 @@ typedef struct fanlightnard_cells {
 
 /* How a table looks. Begin with FANLIGHTNARD_OPTIONS, and change what you want. */
 typedef struct fanlightnard_options {
-    size_t size;          /* sizeof(fanlightnard_options): later versions may append fields */
+    size_t size;          /* sizeof(fanlightnard_options). Later versions may append fields. A
+                             library knows the sizes of its own version and of those before it. Any
+                             other size is FANLIGHTNARD_BAD_OPTIONS, and no other field is read */
     uint32_t style;       /* a fanlightnard_style */
     uint32_t fit;         /* a fanlightnard_fit */
     uint32_t order;       /* a fanlightnard_order */
     uint32_t header;      /* 1 if the first row is a header, else 0: then no line follows it alone.
-                             A frame around a header alone has no line below the header, either */
+                             If the header is the only row and the style has a bottom line, that
+                             line follows it, and no other */
     size_t width;         /* the total width to fit into, in columns; unused by FANLIGHTNARD_WHOLE */
     const uint8_t *align; /* a fanlightnard_align for each of the first columns; others are left */
     size_t align_len;

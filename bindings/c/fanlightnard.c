@@ -1,7 +1,8 @@
 /* What C calls. These functions check pointers, lengths and the size of the options, which only C can
- * see, and pass values to the proved functions of crates/tabled_c. They lay out nothing themselves. */
+ * see, and pass values to the proved functions of crates/tabled_c. They decide nothing about a table. */
 #include "fanlightnard.h"
 
+#include <errno.h>
 #include <stdbool.h>
 #include <stdlib.h>
 #include <string.h>
@@ -61,22 +62,16 @@ static int read_options(const fanlightnard_options *given, fanlightnard_options 
     const fanlightnard_options usual = FANLIGHTNARD_OPTIONS;
     *options = usual;
     if (!given) return 0;
-    if (given->size < FIRST_SIZE) return FANLIGHTNARD_BAD_OPTIONS;
-    /* A later version has appended fields. Those that it left at 0 mean what this version does. */
-    for (size_t i = sizeof *options; i < given->size; i++)
-        if (((const unsigned char *)given)[i]) return FANLIGHTNARD_BAD_OPTIONS;
-    memcpy(options, given, given->size < sizeof *options ? given->size : sizeof *options);
+    /* A greater size may be an error of the caller: the bytes behind the known fields aren't read. */
+    const size_t size = given->size;
+    if (size < FIRST_SIZE || size > sizeof *options) return FANLIGHTNARD_BAD_OPTIONS;
+    memcpy(options, given, size);
     if (options->header > 1) return FANLIGHTNARD_BAD_OPTIONS;
     const int error = check(options->align, options->align_len, 1);
     return error ? error : check(options->null, options->null_len, 1);
 }
 
-/* Whether the line below the header would stand in the place of the bottom line. */
-static bool ends_with_header(const fanlightnard_options *options, bool one_row) {
-    return one_row && (options->style == FANLIGHTNARD_SHARP || options->style == FANLIGHTNARD_ROUNDED);
-}
-
-static struct layout layout_of(const fanlightnard_options *options, bool one_row) {
+static struct layout layout_of(const fanlightnard_options *options) {
     const struct layout layout = {
         options->align ? options->align : (const uint8_t *)&nothing,
         options->align_len,
@@ -86,9 +81,15 @@ static struct layout layout_of(const fanlightnard_options *options, bool one_row
         options->style,
         options->fit,
         options->order,
-        options->header && !ends_with_header(options, one_row),
+        options->header == 1,
     };
     return layout;
+}
+
+/* Sets errno back to what it was before a call, which may have used malloc, realloc and free. */
+static ptrdiff_t restore(int old_errno, ptrdiff_t result) {
+    errno = old_errno;
+    return result;
 }
 
 /* ---- tables */
@@ -110,14 +111,9 @@ ptrdiff_t fanlightnard_format(const fanlightnard_cells *cells, const fanlightnar
         cells->rows,
         cells->columns,
     };
-    const struct layout layout = layout_of(&read, cells->rows == 1);
-    return fanlightnard_core_cells(&packed, &layout, buffer_at(buffer), buffer_len);
-}
-
-/* Whether a text has one line. A last line feed ends it. */
-static bool is_line(const char *text, size_t text_len) {
-    const char *feed = text_len ? memchr(text, '\n', text_len) : NULL;
-    return text_len && (!feed || feed == text + text_len - 1);
+    const struct layout layout = layout_of(&read);
+    const int old_errno = errno;
+    return restore(old_errno, fanlightnard_core_cells(&packed, &layout, buffer_at(buffer), buffer_len));
 }
 
 ptrdiff_t fanlightnard_format_text(const char *text, size_t text_len,
@@ -128,8 +124,10 @@ ptrdiff_t fanlightnard_format_text(const char *text, size_t text_len,
     if (!error) error = check(text, text_len, 1);
     if (!error) error = check(buffer, buffer_len, 1);
     if (error) return error;
-    const struct layout layout = layout_of(&read, is_line(text, text_len));
-    return fanlightnard_core_text(text_at(text), text_len, &layout, buffer_at(buffer), buffer_len);
+    const struct layout layout = layout_of(&read);
+    const int old_errno = errno;
+    return restore(old_errno, fanlightnard_core_text(text_at(text), text_len, &layout, buffer_at(buffer),
+                                                     buffer_len));
 }
 
 /* ---- writers */
@@ -159,23 +157,37 @@ static int write_blocks(const char *table, size_t len, fanlightnard_writer write
     return 0;
 }
 
+/* malloc and free that leave errno. */
+static char *allocate(size_t len) {
+    const int old_errno = errno;
+    char *bytes = malloc(len);
+    errno = old_errno;
+    return bytes;
+}
+
+static void release(char *bytes) {
+    const int old_errno = errno;
+    free(bytes);
+    errno = old_errno;
+}
+
 /* Formats once if the first buffer is large enough, which most are, and else twice. */
 static int write_table(const struct source *source, size_t bytes, size_t cells,
                        fanlightnard_writer writer, void *context) {
     if (!writer) return FANLIGHTNARD_NULL_POINTER;
     /* A guess: the text twice, and the borders and padding of each cell. */
     size_t len = bytes < PTRDIFF_MAX / 8 && cells < PTRDIFF_MAX / 64 ? 2 * bytes + 16 * cells + 4096 : 4096;
-    char *table = malloc(len);
+    char *table = allocate(len);
     if (!table) return FANLIGHTNARD_MEMORY;
     ptrdiff_t needed = format(source, table, len);
     if (needed > 0 && (size_t)needed > len) {
-        free(table);
-        table = malloc((size_t)needed);
+        release(table);
+        table = allocate((size_t)needed);
         if (!table) return FANLIGHTNARD_MEMORY;
         needed = format(source, table, (size_t)needed);
     }
     int error = needed < 0 ? (int)needed : write_blocks(table, (size_t)needed, writer, context);
-    free(table);
+    release(table);
     return error;
 }
 
@@ -204,7 +216,9 @@ ptrdiff_t fanlightnard_truncate(const char *text, size_t text_len, size_t column
     int error = check(text, text_len, 1);
     if (!error) error = check(buffer, buffer_len, 1);
     if (error) return error;
-    return fanlightnard_core_truncate(text_at(text), text_len, columns, buffer_at(buffer), buffer_len);
+    const int old_errno = errno;
+    return restore(old_errno, fanlightnard_core_truncate(text_at(text), text_len, columns, buffer_at(buffer),
+                                                         buffer_len));
 }
 
 ptrdiff_t fanlightnard_wrap(const char *text, size_t text_len, size_t columns, int words, char *buffer,
@@ -212,7 +226,9 @@ ptrdiff_t fanlightnard_wrap(const char *text, size_t text_len, size_t columns, i
     int error = check(text, text_len, 1);
     if (!error) error = check(buffer, buffer_len, 1);
     if (error) return error;
-    return fanlightnard_core_wrap(text_at(text), text_len, columns, words != 0, buffer_at(buffer), buffer_len);
+    const int old_errno = errno;
+    return restore(old_errno, fanlightnard_core_wrap(text_at(text), text_len, columns, words != 0,
+                                                     buffer_at(buffer), buffer_len));
 }
 
 /* ---- words */
@@ -228,7 +244,7 @@ const char *fanlightnard_error_text(ptrdiff_t error) {
     case FANLIGHTNARD_BAD_COUNTS: return "the counts of rows, columns, cells and alignments don't go together";
     case FANLIGHTNARD_NO_ALIGN: return "there is no such alignment";
     case FANLIGHTNARD_NULL_POINTER: return "a pointer is null, and its length is not 0";
-    case FANLIGHTNARD_BAD_OPTIONS: return "the options have an unknown size, or an unknown field is set";
+    case FANLIGHTNARD_BAD_OPTIONS: return "the options have an unknown size, or header isn't 0 or 1";
     case FANLIGHTNARD_STOPPED: return "the writer stopped";
     default: return error < 0 ? "unknown error" : "no error";
     }

@@ -253,12 +253,14 @@ static void errors(void) {
     cells.ends = early;
     fails(FANLIGHTNARD_BAD_ENDS, &cells, NULL);
 
-    /* The options of a later version: what it has appended must be 0. */
+    /* The options of a later version are too large, even if it has appended 0. */
     struct { fanlightnard_options options; size_t later; } more = {FANLIGHTNARD_OPTIONS, 0};
     more.options.size = sizeof more;
-    check(fanlightnard_format(&good, &more.options, NULL, 0) > 0, "options of a later version");
-    more.later = 1;
     fails(FANLIGHTNARD_BAD_OPTIONS, &good, &more.options);
+    more.options.size = SIZE_MAX;
+    fails(FANLIGHTNARD_BAD_OPTIONS, &good, &more.options);
+    more.options.size = sizeof more.options;
+    check(fanlightnard_format(&good, &more.options, NULL, 0) > 0, "options of this version");
 
     check(strcmp(fanlightnard_error_text(1), "no error") == 0, "no error");
     check(strcmp(fanlightnard_error_text(-99), "unknown error") == 0, "an unknown error");

@@ -85,6 +85,10 @@ texts_count null start text (e ∷ es) = ap suc (texts_count null (end_of start 
 
 -- ---- all rows
 
+pub rows_count : (rows count : ℕ) (texts : List (List ℕ)) → length (in_rows rows count texts) ≡ rows
+rows_count zero count texts = refl
+rows_count (suc rows) count texts = ap suc (rows_count rows count (drop count texts))
+
 part_utf8 : (n : ℕ) (texts : List (List ℕ)) → All IsUtf8 texts → All IsUtf8 (take n texts)
 part_utf8 zero texts h k d l = absurd (let never : ⊥ = omega arith in never)
 part_utf8 (suc n) [] h k d l = absurd (let never : ⊥ = omega arith in never)

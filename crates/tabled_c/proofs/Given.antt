@@ -1,6 +1,6 @@
 -- What is given of a table that was asked for, by what printing it leaves.
 use Rattle.tabled_c.proofs.Names.{IsTable, Some, Style, new_config, refl, subst, true, with_style, ℕ, ◌≡◌}
-use Rattle.std.proofs.Common.{◌∙◌, List, [], ◌++◌, Err, Ok, Result, ap, ⊎_elim, String, Global, string_bytes}
+use Rattle.std.proofs.Common.{◌∙◌, List, [], ◌++◌, Bool, Err, Ok, Result, ap, length, ⊎_elim, String, Global, string_bytes}
 use Rattle.std.specs.Prelude.{IfErr, IfOk}
 use Rattle.std.specs.Str.{IsUtf8}
 use Rattle.tabled_base.specs.declared.error.TableError.{TableError}
@@ -15,9 +15,9 @@ use Rattle.tabled.specs.declared.arguments.Plan.TheVariants.{Buffered, Streamed,
 use Rattle.tabled.specs.Headline.{IsBestOf}
 use Rattle.tabled.specs.Planned.{Cells, IsPlannedOf, measured}
 use Rattle.tabled.specs.Rendered.{IsRenderedOf, PassesRange, SendsTable}
-use Rattle.tabled_c.specs.Asked.{Asks, with_alignments}
+use Rattle.tabled_c.specs.Asked.{Asks, drawn, settings, with_alignments}
 use Rattle.tabled_c.specs.Cells.{IsTextsCause}
-use Rattle.tabled_c.specs.Printed.{AreCells, IsCellsCause, IsCellsTable, IsLayoutCause, IsRead, IsTableCause, IsTextTable, IsTextTableCause, cells_of, whole_table}
+use Rattle.tabled_c.specs.Printed.{AreCells, IsCellsCause, IsCellsTable, IsLayoutCause, IsRead, IsTableCause, IsTextTable, IsTextTableCause, cells_of, formatted, whole_table}
 use Rattle.tabled_c.specs.Sends.{HasPrinted, IsPrintCause, IsPrintedAs}
 use Rattle.tabled_c.specs.declared.error_code.ErrorCode.{ErrorCode}
 use Rattle.tabled_c.specs.declared.cells.PackedCells.{PackedCells}
@@ -29,6 +29,15 @@ use Rattle.tabled_c.proofs.Styles.{styles_apart}
 -- one table of two
 pub same_table : (old new : Cells) (config changed : SpannedConfig) → old ≡ new → config ≡ changed → estimated old config ≡ estimated new changed
 same_table old new config changed e f = ap (λ k. estimated k config) e ∙ ap (estimated new) f
+
+-- the table of rows whose style was made for as many rows
+pub same_format : (old new : Cells) (config : SpannedConfig) (style : Style) (rows : ℕ) (alignments : List ℕ) (format : Format) → old ≡ new
+    → config ≡ with_style (with_alignments 0 alignments new_config) style → style ≡ drawn format.header rows format.style → rows ≡ length new
+    → estimated old config ≡ formatted new alignments format
+same_format old new config style rows alignments format e f g h =
+    let styled = with_style (with_alignments 0 alignments new_config) in
+    same_table old new config (settings format.style format.header (length new) alignments) e
+    (f ∙ ap styled (g ∙ ap (λ n. drawn format.header n format.style) h))
 
 -- what is asked for is measured before it is printed
 asked_measured : (plan : Plan) (fit order columns : ℕ) → Asks plan fit order columns → measured plan ≡ plan
@@ -105,13 +114,14 @@ unread_lines text layout error h = as_lines text layout error (as_table (text_ro
 
 module _ (cells : Cells) (layout : Layout) (format : Format) (read : IsRead layout format) where
   abbrev printed : Sheet
-  printed = estimated cells (with_style (with_alignments 0 layout.alignments.now new_config) format.style)
+  printed = formatted cells layout.alignments.now format
 
   -- what is told of the table that was printed is told of the one that was asked for
   moved : (Q : Plan → Sheet → Type 0) → Q (measured format.plan) printed → Q format.plan (whole_table cells layout read.name)
   moved Q q =
       subst (λ (p : Plan). Q p (whole_table cells layout read.name)) (asked_measured format.plan layout.fit layout.order layout.width read.is_asked.asks)
-      (subst (λ (s : Style). Q (measured format.plan) (estimated cells (with_style (with_alignments 0 layout.alignments.now new_config) s))) read.style q)
+      (subst (λ (s : Style). Q (measured format.plan) (estimated cells (settings s layout.header (length cells) layout.alignments.now))) read.style
+      (subst (λ (b : Bool). Q (measured format.plan) (estimated cells (settings format.style b (length cells) layout.alignments.now))) read.header q))
 
   given : (text : List ℕ) → HasPrinted format.plan printed text → IsTable cells layout text
   given text h =
@@ -123,7 +133,7 @@ module _ (cells : Cells) (layout : Layout) (format : Format) (read : IsRead layo
         table = t.table;
         is_planned = t.is_planned;
         is_best = t.is_best;
-        edges = t.is_best.edges (styles_apart read.name layout.header layout.alignments.now);
+        edges = t.is_best.edges (styles_apart read.name layout.header (length cells) layout.alignments.now);
         is_text = t.is_text;
       }
 

@@ -26,7 +26,7 @@ use Rattle.unicode_width.proofs.Computing.{unicode_width}
 use Rattle.unicode_width.proofs.Rules.{is_simple}
 use Rattle.tabled.specs.Headline.{KeepsApart}
 use Rattle.tabled_c.specs.Asked.{Ascii, Modern, Sharp, Rounded, ModernRounded, AsciiRounded, Extended, Markdown, Psql, ReStructuredText, Blank, Empty}
-use Rattle.tabled_c.specs.Asked.{alignment_numbered, headed, settings, with_alignments}
+use Rattle.tabled_c.specs.Asked.{alignment_numbered, draws_header, headed, settings, with_alignments}
 
 -- ---- horizontal lines that may be there
 
@@ -252,5 +252,7 @@ named_apart ReStructuredText = re_structured_text_apart
 named_apart Blank = blank_apart
 named_apart Empty = empty_apart
 
-pub styles_apart : (name : StyleName) (header : Bool) (alignments : List ℕ) → KeepsApart (settings name header alignments)
-styles_apart name header alignments = aligned_apart 0 alignments new_config (headed header (style_of name)) (named_apart name header)
+pub styles_apart : (name : StyleName) (header : Bool) (rows : ℕ) (alignments : List ℕ) → KeepsApart (settings (style_of name) header rows alignments)
+styles_apart name header rows alignments =
+    let below = draws_header header rows (style_of name) in
+    aligned_apart 0 alignments new_config (headed below (style_of name)) (named_apart name below)

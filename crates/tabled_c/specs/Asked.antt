@@ -1,5 +1,5 @@
 -- Styles, plans and alignments by number, and the settings that they make.
-use Rattle.std.specs.Prelude.{◌≡◌, ◌==◌, ◌≤◌, ◌*◌, if◌then◌else◌, ℕ, suc, Bool, true, false, List, [], ◌∷◌}
+use Rattle.std.specs.Prelude.{◌≡◌, ◌==◌, ◌≤◌, ◌*◌, ◌&&◌, if◌then◌else◌, ℕ, suc, Bool, true, false, not, is_some, List, [], ◌∷◌}
 use Rattle.tabled_base.specs.declared.position.Entity.TheVariants.{Column}
 use Rattle.tabled_config.specs.Options.{with_style}
 use Rattle.tabled_config.specs.StyleChanges.{without_horizontals}
@@ -65,6 +65,15 @@ abbrev pub headed : Bool → Style → Style
 headed true style = style
 headed false style = without_horizontals style
 
+-- whether that line is drawn in a table of some rows: a header is asked for, and the line isn't in
+-- the place of the style's bottom line, as it would be below a single row
+abbrev pub draws_header : Bool → ℕ → Style → Bool
+draws_header header rows style = header && not (rows == 1 && is_some style.borders.bottom)
+
+-- a style as it is drawn in a table of some rows
+abbrev pub drawn : Bool → ℕ → Style → Style
+drawn header rows style = headed (draws_header header rows style) style
+
 -- ---- plans
 
 -- the number of an order
@@ -107,9 +116,9 @@ with_alignments column (number ∷ numbers) config =
 
 -- ---- the settings of a table
 
--- those of a style, with or without its line below the first row, and alignments
-abbrev pub settings : StyleName → Bool → List ℕ → SpannedConfig
-settings name header alignments = with_style (with_alignments 0 alignments new_config) (headed header (style_of name))
+-- those of a style and alignments, in a table of some rows, with or without a header
+abbrev pub settings : Style → Bool → ℕ → List ℕ → SpannedConfig
+settings style header rows alignments = with_style (with_alignments 0 alignments new_config) (drawn header rows style)
 
 -- the counts go together: there are as many cells as rows and columns make, each row has a cell,
 -- and no column without cells has an alignment

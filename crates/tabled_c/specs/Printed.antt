@@ -21,7 +21,7 @@ use Rattle.tabled_c.specs.declared.error_code.ErrorCode.TheVariants.{Memory, Ran
 use Rattle.tabled_c.specs.declared.layout.Format.{Format}
 use Rattle.tabled_c.specs.declared.layout.Layout.{Layout}
 use Rattle.tabled_c.specs.ReturnsText.{code_of}
-use Rattle.tabled_c.specs.Asked.{Asks, IsAlignment, IsCounted, StyleName, headed, settings, style_number, style_of}
+use Rattle.tabled_c.specs.Asked.{Asks, IsAlignment, IsCounted, StyleName, settings, style_number, style_of}
 use Rattle.tabled_c.specs.Cells.{AreEnds, in_rows, texts_at}
 
 -- ---- what a layout asks for
@@ -32,11 +32,12 @@ pub record IsAsked (layout : Layout) (name : StyleName) (plan : Plan) : Type 0 w
   pub asks : Asks plan layout.fit layout.order layout.width
   pub aligned : All IsAlignment layout.alignments.now
 
--- this style and this plan
+-- this style, this plan, and whether there is a header
 pub record IsRead (layout : Layout) (format : Format) : Type 0 where
   pub name : StyleName
   pub is_asked : IsAsked layout name format.plan
-  pub style : format.style ≡ headed layout.header (style_of name)
+  pub style : format.style ≡ style_of name
+  pub header : format.header ≡ layout.header
 
 -- an error of a layout: no style, no plan, or a number that is no alignment
 abbrev pub IsLayoutCause : Layout → ErrorCode → Type 0
@@ -47,9 +48,13 @@ IsLayoutCause layout _ = ⊥
 
 -- ---- tables
 
--- the table of cells in a style, with estimated sizes
+-- the table of cells in a format, with estimated sizes
+abbrev pub formatted : Cells → List ℕ → Format → Sheet
+formatted cells alignments format = estimated cells (settings format.style format.header (length cells) alignments)
+
+-- the same in the style of a layout
 abbrev pub whole_table : Cells → Layout → StyleName → Sheet
-whole_table cells layout name = estimated cells (settings name layout.header layout.alignments.now)
+whole_table cells layout name = estimated cells (settings (style_of name) layout.header (length cells) layout.alignments.now)
 
 -- the text of the table that the plan makes, with all properties of `IsBestOf`; each line takes the
 -- total width, whatever the cells hold

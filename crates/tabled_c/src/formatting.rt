@@ -2,22 +2,19 @@
 ghost use Rattle.std.specs.List.{All};
 ghost use Rattle.std.specs.Prelude.{◌≡◌, ◌*◌, IfErr, IfOk, length, map, string_bytes};
 ghost use Rattle.std.specs.Str.{IsUtf8};
-ghost use Rattle.tabled_config.specs.Options.{with_style};
-ghost use Rattle.tabled_size.specs.Sheet.{estimated};
-ghost use Rattle.tabled_table.specs.NewConfig.{new_config};
 ghost use Rattle.tabled_records.specs.TextRows.{text_rows};
-ghost use Rattle.tabled_c.specs.Asked.{with_alignments};
 ghost use Rattle.tabled_c.specs.Cells.{in_rows};
 ghost use Rattle.tabled_c.specs.Printed.{IsCellsCause, IsCellsTable, IsTextTable, IsTextTableCause};
+ghost use Rattle.tabled_c.specs.Printed.{formatted};
 ghost use Rattle.tabled_c.specs.Sends.{HasPrinted, IsPrintCause};
 
 use crate::cells::{PackedCells, rows_of};
 use crate::error_code::ErrorCode;
-use crate::layout::{Format, Layout, settings_of};
+use crate::layout::{Format, Layout, drawn, settings_of};
 use crate::printing::{records_text, rows_text};
 use simdutf8::compat::from_utf8;
 use std::alloc::Global;
-use tabled::grid::records::VecRecords;
+use tabled::grid::records::{ExactRecords, VecRecords};
 use tabled_records::text_rows;
 
 /// Returns the text of the table of some cells, in a format.
@@ -31,17 +28,21 @@ fn texts_table(
     requires texts { All IsUtf8 (map (λ t. t.now) texts.now) }
     requires count { length texts.now ≡ cells.now.rows * cells.now.columns }
     ensures ok { IfOk result (λ table. HasPrinted format.plan
-        (estimated (in_rows cells.now.rows cells.now.columns (map (λ t. t.now) texts.now))
-        (with_style (with_alignments 0 alignments.now new_config) format.style))
-        (string_bytes table)) }
+        (formatted (in_rows cells.now.rows cells.now.columns (map (λ t. t.now) texts.now))
+        alignments.now format) (string_bytes table)) }
     ensures err { IfErr result (IsPrintCause format.plan
-        (estimated (in_rows cells.now.rows cells.now.columns (map (λ t. t.now) texts.now))
-        (with_style (with_alignments 0 alignments.now new_config) format.style))) }
+        (formatted (in_rows cells.now.rows cells.now.columns (map (λ t. t.now) texts.now))
+        alignments.now format)) }
 {
-    let Format { style, plan } = format;
+    let Format {
+        style,
+        header,
+        plan,
+    } = format;
     let Ok(rows) = rows_of(alloc, texts, cells.rows, cells.columns) else {
         return Err(ErrorCode::Memory);
     };
+    let style = drawn(style, header, cells.rows);
     let Ok(settings) = settings_of(alloc, style, alignments) else {
         return Err(ErrorCode::Memory);
     };
@@ -72,16 +73,20 @@ fn lines_table(
     alignments: &[u8],
     format: Format,
 ) -> Result<String, ErrorCode>
-    ensures ok { IfOk result (λ table. HasPrinted format.plan (estimated (text_rows text.now)
-        (with_style (with_alignments 0 alignments.now new_config) format.style))
-        (string_bytes table)) }
-    ensures err { IfErr result (IsPrintCause format.plan (estimated (text_rows text.now)
-        (with_style (with_alignments 0 alignments.now new_config) format.style))) }
+    ensures ok { IfOk result (λ table. HasPrinted format.plan
+        (formatted (text_rows text.now) alignments.now format) (string_bytes table)) }
+    ensures err { IfErr result (IsPrintCause format.plan
+        (formatted (text_rows text.now) alignments.now format)) }
 {
-    let Format { style, plan } = format;
+    let Format {
+        style,
+        header,
+        plan,
+    } = format;
     let Ok(rows) = text_rows(alloc, text) else {
         return Err(ErrorCode::Memory);
     };
+    let style = drawn(style, header, rows.count_rows());
     let Ok(settings) = settings_of(alloc, style, alignments) else {
         return Err(ErrorCode::Memory);
     };

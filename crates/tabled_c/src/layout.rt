@@ -4,8 +4,9 @@ ghost use Rattle.std.specs.Prelude.{◌≡◌, ◌↔◌, IfErr, IfOk, MatchOpti
 ghost use Rattle.tabled.specs.declared.arguments.Order.{Order};
 ghost use Rattle.tabled.specs.declared.arguments.Plan.{Plan};
 ghost use Rattle.tabled_base.specs.declared.error.TableError.TheVariants.{Memory};
-ghost use Rattle.tabled_c.specs.Asked.{Asks, IsAlignment, StyleName, alignment_numbered, headed};
-ghost use Rattle.tabled_c.specs.Asked.{order_number, style_number, style_of, with_alignments};
+ghost use Rattle.tabled_c.specs.Asked.{Asks, IsAlignment, StyleName, alignment_numbered, drawn};
+ghost use Rattle.tabled_c.specs.Asked.{draws_header, order_number, style_number, style_of};
+ghost use Rattle.tabled_c.specs.Asked.{with_alignments};
 ghost use Rattle.tabled_c.specs.Printed.{IsLayoutCause, IsRead};
 ghost use Rattle.tabled_config.specs.Options.{with_style};
 ghost use Rattle.tabled_table.specs.NewConfig.{new_config};
@@ -35,24 +36,26 @@ pub struct Layout<'a> {
     /// Which columns shrink first: 0 each in turn, 1 the narrowest, 2 the widest, 3 from the left,
     /// 4 from the right. Must be valid if `fit` is 0, too.
     pub order: u32,
-    /// Whether the style's line below the first row is drawn, if it has one.
+    /// Whether the first row is a header. If it isn't, the style's line below it isn't drawn. A
+    /// table of one row in a style with a bottom line ends with that line, also if it is a header.
     pub header: bool,
 }
 
-/// A style, and a plan.
+/// A style, whether the first row is a header, and a plan.
 #[derive(Drop)]
 pub(crate) struct Format {
     pub style: Style,
+    pub header: bool,
     pub plan: Plan,
 }
 
 impl Layout<'_> {
-    /// Returns the style and the plan that the layout asks for.
+    /// Returns the format that the layout asks for.
     pub(crate) fn read(&self) -> Result<Format, ErrorCode>
         ensures ok { IfOk result (IsRead self.now) }
         ensures err { IfErr result (IsLayoutCause self.now) }
     {
-        let Some(style) = self.style() else {
+        let Some(style) = style_numbered(self.style) else {
             return Err(ErrorCode::NoStyle);
         };
         let Some(plan) = self.plan() else {
@@ -61,21 +64,12 @@ impl Layout<'_> {
         if !are_alignments(self.alignments) {
             return Err(ErrorCode::NoAlignment);
         }
-        Ok(Format { style, plan })
-    }
-
-    /// Returns the style with or without its line below the first row.
-    fn style(&self) -> Option<Style>
-        ensures { MatchOption result ((name : StyleName) → ¬ (self.now.style ≡ style_number name))
-            (λ style. (name : StyleName) × (self.now.style ≡ style_number name)
-            × (style ≡ headed self.now.header (style_of name))) }
-    {
-        let style = style_numbered(self.style)?;
-        if self.header {
-            Some(style)
-        } else {
-            Some(style.remove_horizontals())
-        }
+        let header = self.header;
+        Ok(Format {
+            style,
+            header,
+            plan,
+        })
     }
 
     /// Returns the plan that the layout asks for.
@@ -100,6 +94,26 @@ impl Layout<'_> {
             3 => Some(Plan::Shortened { target, order }),
             _ => None,
         }
+    }
+}
+
+/// Whether the style's line below the first row is drawn in a table of `rows` rows. Below a single
+/// row it would take the place of the bottom line, if the style has one.
+fn draws_header(style: &Style, header: bool, rows: usize) -> bool
+    ensures { result ≡ draws_header header rows style.now }
+{
+    let replaces_bottom = rows == 1 && style.get_borders().bottom.is_some();
+    header && !replaces_bottom
+}
+
+/// Returns the style as it is drawn in a table of `rows` rows.
+pub(crate) fn drawn(style: Style, header: bool, rows: usize) -> Style
+    ensures { result ≡ drawn header rows style }
+{
+    if draws_header(&style, header, rows) {
+        style
+    } else {
+        style.remove_horizontals()
     }
 }
 

@@ -101,6 +101,47 @@ fn fits_without_a_header(rt: HostRuntime) {
     assert_eq!(rt; &other, &buffer);
 }
 
+// A frame with one row ends with its bottom line, and not with the line below the header.
+const LINES: [(u32, bool, usize, &str); 11] = [
+    (1, true, 2, "┌───┐\n│ a │\n├───┤\n│ b │\n└───┘"),
+    (3, true, 2, "╭───╮\n│ a │\n├───┤\n│ b │\n╰───╯"),
+    (3, false, 2, "╭───╮\n│ a │\n│ b │\n╰───╯"),
+    (1, true, 1, "┌───┐\n│ a │\n└───┘"),
+    (2, true, 1, "┌───┐\n│ a │\n└───┘"),
+    (3, true, 1, "╭───╮\n│ a │\n╰───╯"),
+    (7, true, 1, "| a |\n|---|"),
+    (7, false, 1, "| a |"),
+    (8, true, 1, " a \n---"),
+    (9, true, 1, "===\n a \n==="),
+    (3, true, 0, ""),
+];
+
+#[test]
+fn draws_the_line_below_a_header(rt: HostRuntime) {
+    for (style, header, rows, picture) in LINES {
+        let layout = Layout {
+            style,
+            header,
+            ..rounded(&[], b"")
+        };
+        let cells = PackedCells {
+            text: &b"ab"[..rows],
+            ends: &[1, 2][..rows],
+            rows,
+            columns: 1,
+        };
+        let mut buffer = [b'#'; 100];
+        let count = fanlightnard_core_cells(rt.alloc(), &cells, &layout, &mut buffer);
+        assert_eq!(rt; count, picture.len() as isize);
+        assert!(rt; buffer.starts_with(picture.as_bytes()));
+        let text = &b"a\nb\n"[..2 * rows];
+        let mut other = [b'#'; 100];
+        let count = fanlightnard_core_text(rt.alloc(), text, &layout, &mut other);
+        assert_eq!(rt; count, picture.len() as isize);
+        assert_eq!(rt; &other, &buffer);
+    }
+}
+
 #[test]
 fn returns_errors(rt: HostRuntime) {
     let good = rounded(&[], b"");
