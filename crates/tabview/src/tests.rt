@@ -224,7 +224,7 @@ static INPUTS: [Run; 15] = [
         input: "{\"a\":10}\n{\"a\":null}\n{\"a\":\"\"}\n",
         shown: "|  a |\n|----|\n| 10 |\n|  - |\n|    |\n",
     },
-    // progress is silent at first
+    // with progress the table is the same
     Run {
         words: &["tabview", "-s", "empty", "--progress"],
         input: "a\n1\n",

@@ -77,7 +77,7 @@ fn push_escaped(out: &mut String, lines: bool, c: char) -> Result<(), AllocError
 /// U+0000 to U+001F become their pictures `␀` to `␟`, and U+007F becomes `␡`. U+0080 to U+009F
 /// become `␦` and the letter that follows ESC in their other form, as `␦[` for U+009B. A character
 /// from `␀` to `␦` gets a `␦` before it, so that nothing is lost. A line feed stays if `lines`.
-pub fn escape_into(out: &mut String, text: &str, lines: bool) -> Result<(), AllocError>
+pub(crate) fn escape_into(out: &mut String, text: &str, lines: bool) -> Result<(), AllocError>
     ensures ok { OnOk result (string_bytes out.new
         ≡ string_bytes out.old ++ escaped lines text.now) }
 {

@@ -18,6 +18,6 @@ mod numbers;
 mod printable;
 
 pub use choice::{Shown, chosen_cells, join_kinds, push_cell, push_chosen, push_joining};
-pub use escaping::{escape, escape_into, is_control};
+pub use escaping::{escape, is_control};
 pub use fit::{AboveFloors, longest_word};
 pub use kinds::{Kind, is_graphic_row, is_printable_row};

@@ -1,5 +1,6 @@
 //! Checks one case, and writes a report that is empty if the case passes.
 
+use crate::columns::KnownColumns;
 use crate::drawing::{error_name, property, table_of};
 use crate::fault::Fault;
 use crate::pairs::check_pairs;
@@ -12,6 +13,13 @@ use crate::sizing::narrowed;
 use std::alloc::{AllocError, Global};
 use tabled::{Table, TableError};
 use toml::Value;
+
+/// The allocator, and the columns of characters by which lines are measured.
+#[derive(Clone, Copy)]
+pub struct Judge<'a> {
+    pub alloc: Global,
+    pub columns: &'a KnownColumns,
+}
 
 // What the expected results are compared with. A table comes with the error of a failed command.
 #[derive(Clone, Copy)]
@@ -27,23 +35,24 @@ enum Subject<'a> {
 /// - `text`: one string, narrowed
 /// - `shrink`: a list of sizes, shrunk by each named priority
 /// - `pairs`: pairs of characters in tables, of which each line is measured
-pub fn check_case(alloc: Global, kind: &str, case: &toml::Table) -> Result<String, AllocError> {
-    match check(alloc, kind, case) {
+pub fn check_case(judge: Judge<'_>, kind: &str, case: &toml::Table) -> Result<String, AllocError> {
+    match check(judge, kind, case) {
         Ok(report) => Ok(report),
-        Err(fault) => format!(in alloc; "{fault}\n"),
+        Err(fault) => format!(in judge.alloc; "{fault}\n"),
     }
 }
 
-fn check(alloc: Global, kind: &str, case: &toml::Table) -> Result<String, Fault> {
+fn check(judge: Judge<'_>, kind: &str, case: &toml::Table) -> Result<String, Fault> {
+    let alloc = judge.alloc;
     let mut report = String::new(alloc);
     match kind {
-        "case" => check_table(alloc, case, &mut report)?,
+        "case" => check_table(judge, case, &mut report)?,
         "text" => check_text(alloc, case, &mut report)?,
         "shrink" => check_sizes(alloc, case, &mut report)?,
-        "pairs" => check_pairs(alloc, case, &mut report)?,
+        "pairs" => check_pairs(judge, case, &mut report)?,
         _ => {
             let printed = print_case(alloc, kind, case)?;
-            check_results(alloc, Subject::Printed(&printed), case, &mut report)?;
+            check_results(judge, Subject::Printed(&printed), case, &mut report)?;
         }
     }
     Ok(report)
@@ -55,13 +64,13 @@ fn check_text(alloc: Global, case: &toml::Table, report: &mut String) -> Result<
     Ok(())
 }
 
-fn check_table(alloc: Global, case: &toml::Table, report: &mut String) -> Result<(), Fault> {
-    let mut table = table_of(alloc, list_at(case, "rows")?)?;
-    let stopped = set_each(alloc, &mut table, list_at(case, "set")?, report)?;
+fn check_table(judge: Judge<'_>, case: &toml::Table, report: &mut String) -> Result<(), Fault> {
+    let mut table = table_of(judge.alloc, list_at(case, "rows")?)?;
+    let stopped = set_each(judge.alloc, &mut table, list_at(case, "set")?, report)?;
     if stopped.is_some() && !case.contains_key("stopped") {
         return Err(Fault::Unknown("a setting is refused"));
     }
-    check_results(alloc, Subject::Table(&table, stopped), case, report)
+    check_results(judge, Subject::Table(&table, stopped), case, report)
 }
 
 /// Runs the commands up to the first one that fails, and returns its error.
@@ -87,7 +96,7 @@ pub fn set_each(
 
 // A case without expected results checks nothing, so it is an error.
 fn check_results(
-    alloc: Global,
+    judge: Judge<'_>,
     subject: Subject<'_>,
     case: &toml::Table,
     report: &mut String,
@@ -96,7 +105,7 @@ fn check_results(
     for (key, value) in case {
         if !is_input(key.as_str()) {
             has_expected = true;
-            check_result(alloc, subject, key.as_str(), value, report)?;
+            check_result(judge, subject, key.as_str(), value, report)?;
         }
     }
     if has_expected {
@@ -112,15 +121,16 @@ fn is_input(key: &str) -> bool {
 
 // `stopped`, the error of a command, exists only if a command failed.
 fn check_result(
-    alloc: Global,
+    judge: Judge<'_>,
     subject: Subject<'_>,
     key: &str,
     value: &Value,
     report: &mut String,
 ) -> Result<(), Fault> {
+    let alloc = judge.alloc;
     let actual = match subject {
         Subject::Table(_, Some(error)) if key == "stopped" => error_name(alloc, error)?,
-        Subject::Table(table, _) => property(alloc, table, key)?,
+        Subject::Table(table, _) => property(judge, table, key)?,
         Subject::Printed(printed) => printed.property(alloc, key)?,
     };
     let expected = expected_text(alloc, value)?;

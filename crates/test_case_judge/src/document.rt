@@ -1,6 +1,7 @@
 //! Checks all cases of a document.
 
-use crate::checking::check_case;
+use crate::checking::{Judge, check_case};
+use crate::columns::KnownColumns;
 use crate::fault::Fault;
 use crate::reading::{list_of, text_of};
 use std::alloc::{AllocError, Global};
@@ -16,35 +17,45 @@ struct Results {
 
 /// Checks a list of cases for each kind. Returns the report of each case that fails, and then a
 /// line with their numbers.
-pub fn check_document(alloc: Global, document: &Table) -> Result<String, Fault> {
+pub fn check_document(
+    alloc: Global,
+    document: &Table,
+    columns: &KnownColumns,
+) -> Result<String, Fault> {
+    let judge = Judge { alloc, columns };
     let mut results = Results {
         reports: String::new(alloc),
         passed: 0,
         failed: 0,
     };
     for (kind, cases) in document {
-        check_each(alloc, kind.as_str(), list_of(cases)?, &mut results)?;
+        check_each(judge, kind.as_str(), list_of(cases)?, &mut results)?;
     }
     Ok(with_numbers(results)?)
 }
 
 fn check_each(
-    alloc: Global,
+    judge: Judge<'_>,
     kind: &str,
     cases: &[Value],
     results: &mut Results,
 ) -> Result<(), Fault> {
     for case in cases {
         match case.as_table() {
-            Some(case) => add_result(alloc, kind, case, results)?,
+            Some(case) => add_result(judge, kind, case, results)?,
             None => return Err(Fault::Unknown("a case is no table")),
         }
     }
     Ok(())
 }
 
-fn add_result(alloc: Global, kind: &str, case: &Table, results: &mut Results) -> Result<(), Fault> {
-    let report = check_case(alloc, kind, case)?;
+fn add_result(
+    judge: Judge<'_>,
+    kind: &str,
+    case: &Table,
+    results: &mut Results,
+) -> Result<(), Fault> {
+    let report = check_case(judge, kind, case)?;
     if report.is_empty() {
         results.passed = results.passed.saturating_add(1);
         return Ok(());

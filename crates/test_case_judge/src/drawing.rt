@@ -1,6 +1,8 @@
 //! Makes tables of the rows of a case, and writes their properties as text.
 ghost use Rattle.std.specs.Prelude.{◌<◌, length};
 
+use crate::checking::Judge;
+use crate::columns::KnownColumns;
 use crate::fault::Fault;
 use crate::reading::{list_of, text_of};
 use crate::report::shown_numbers;
@@ -31,9 +33,10 @@ pub fn texts_of<'a>(alloc: Global, list: &'a [Value]) -> Result<Vec<&'a str>, Fa
 }
 
 /// A property of a table, as text. A property that fails is the name of its error.
-pub fn property(alloc: Global, table: &Table, key: &str) -> Result<String, Fault> {
+pub fn property(judge: Judge<'_>, table: &Table, key: &str) -> Result<String, Fault> {
+    let alloc = judge.alloc;
     match key {
-        "picture" | "top" | "refused" => printed_property(alloc, table, key),
+        "picture" | "top" | "refused" => printed_property(judge, table, key),
         "width" => shown_number(alloc, table.total_width()),
         "height" => shown_number(alloc, table.total_height()),
         "widths" => shown_sizes(alloc, table.get_dimension().get_widths()),
@@ -47,8 +50,9 @@ pub fn property(alloc: Global, table: &Table, key: &str) -> Result<String, Fault
 }
 
 // The picture, or its first line. `refused` is empty unless printing fails.
-fn printed_property(alloc: Global, table: &Table, key: &str) -> Result<String, Fault> {
-    match (printed(alloc, table)?, key) {
+fn printed_property(judge: Judge<'_>, table: &Table, key: &str) -> Result<String, Fault> {
+    let alloc = judge.alloc;
+    match (printed(judge, table)?, key) {
         (Ok(text), "picture") => Ok(text),
         (Ok(text), "top") => {
             let top = text.split('\n').next().unwrap_or("");
@@ -83,9 +87,9 @@ fn shown_sizes(alloc: Global, sizes: Option<&[usize]>) -> Result<String, Fault> 
 
 // Also checks that a writer gets the same as a string, and nothing if printing fails. If the
 // settings separate cells, each line must have the table's total width.
-fn printed(alloc: Global, table: &Table) -> Result<Result<String, TableError>, Fault> {
+fn printed(judge: Judge<'_>, table: &Table) -> Result<Result<String, TableError>, Fault> {
     let printed = table.to_string();
-    let mut bytes: Vec<u8> = Vec::new(alloc);
+    let mut bytes: Vec<u8> = Vec::new(judge.alloc);
     let outcome = table.write_to(&mut IoSink::new(&mut bytes));
     let same = match &printed {
         Ok(text) => outcome == Ok(()) && bytes.as_slice() == text.as_bytes(),
@@ -95,23 +99,46 @@ fn printed(alloc: Global, table: &Table) -> Result<Result<String, TableError>, F
         return Err(Fault::Unknown("a writer gets another picture"));
     }
     if let Ok(text) = &printed {
-        if table.is_apart() && count_lines_of_width(text.as_str(), table.total_width()?).is_none() {
-            return Err(Fault::Unknown("a line takes other columns"));
+        if table.is_apart() {
+            count_lines(judge.columns, text.as_str(), table.total_width()?)?;
         }
     }
     Ok(printed)
 }
 
-/// The number of lines, or `None` if one of them isn't `columns` wide.
-pub fn count_lines_of_width(text: &str, columns: usize) -> Option<usize> {
-    let mut count: usize = 0;
-    for line in lines(text) {
-        if line_width(line) != columns {
-            return None;
-        }
-        count = count.saturating_add(1);
+/// Lines, and those of them that are measured by a table made outside of the library.
+#[derive(Clone, Copy)]
+pub struct Counts {
+    pub lines: usize,
+    pub by_table: usize,
+}
+
+impl Counts {
+    /// Adds other lines to these.
+    pub fn add(&mut self, others: Counts) {
+        self.lines = self.lines.saturating_add(others.lines);
+        self.by_table = self.by_table.saturating_add(others.by_table);
     }
-    Some(count)
+}
+
+/// Counts the lines. Fails if one of them isn't `columns` wide by the table or, for characters that
+/// aren't in it or may join, by `line_width`.
+pub fn count_lines(known: &KnownColumns, text: &str, columns: usize) -> Result<Counts, Fault> {
+    let mut counts = Counts {
+        lines: 0,
+        by_table: 0,
+    };
+    for line in lines(text) {
+        let found = known.columns_of(line);
+        if found.unwrap_or(line_width(line)) != columns {
+            return Err(Fault::Unknown("a line takes other columns"));
+        }
+        counts.add(Counts {
+            lines: 1,
+            by_table: usize::from(found.is_some()),
+        });
+    }
+    Ok(counts)
 }
 
 // One line per row, with each cell in quotes and followed by a space.

@@ -3,6 +3,7 @@
 #![tactic(auto)]
 
 mod checking;
+mod columns;
 mod document;
 mod drawing;
 mod fault;
@@ -17,6 +18,7 @@ mod shrinking;
 mod sizing;
 mod words;
 
+pub use columns::KnownColumns;
 pub use document::check_document;
 pub use fault::Fault;
 pub use settings::set;

@@ -1,12 +1,16 @@
-//! Checks the cases on standard input and the lines of the file `extremes`, and tests writers that
-//! stop early and calls in which an allocation may fail. With the argument `names` it lists these
-//! calls instead; with a kind and a number it runs one of them.
+//! Checks the cases on standard input and the lines of the files `extremes` and `floats`, and tests
+//! writers that stop early and calls in which an allocation may fail. The file `columns` has the
+//! columns of characters. With the argument `names` it lists these calls instead; with a kind and a
+//! number it runs one of them.
 #![tactic(auto)]
 
+mod floats;
+
+use crate::floats::told_floats;
 use anyhow::Result;
 use std::{env, fs, io};
 use tabled::TableError;
-use test_case_judge::check_document;
+use test_case_judge::{KnownColumns, check_document};
 use test_hostile_uses::{names, stopped_printers, stopped_runs, told, tried, tried_all};
 use test_refused_uses::Found;
 
@@ -28,13 +32,17 @@ fn tell_all(rt: &HostRuntime) -> Result<()> {
 fn tell_cases(rt: &HostRuntime) -> Result<()> {
     let input = io::read_to_string(rt.alloc(), rt.stdin())?;
     let document = toml::table_from_str(rt.alloc(), input.as_str())?;
-    print!(rt; "{}", check_document(rt.alloc(), &document)?)?;
+    let columns = fs::read_to_string(rt, "columns")?;
+    let columns = KnownColumns::read(rt.alloc(), columns.as_str())?;
+    print!(rt; "{}", check_document(rt.alloc(), &document, &columns)?)?;
     Ok(())
 }
 
 fn tell_lines(rt: &HostRuntime) -> Result<()> {
     let lines = fs::read_to_string(rt, "extremes")?;
     print!(rt; "{}", told(rt.alloc(), lines.as_str())?)?;
+    let lines = fs::read_to_string(rt, "floats")?;
+    print!(rt; "{}", told_floats(rt.alloc(), lines.as_str())?)?;
     Ok(())
 }
 

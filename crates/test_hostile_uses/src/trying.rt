@@ -44,24 +44,28 @@ pub fn names(alloc: Global) -> Result<String, AllocError> {
     Ok(report)
 }
 
-// Counts the calls of a kind that succeed. No kind has more than 100.
-fn count_whole(alloc: Global, kind: &str) -> Result<usize, TableError> {
+// Counts the calls of a kind that succeed, and reports each other one. No kind has more than 100.
+fn count_whole(alloc: Global, kind: &str, report: &mut String) -> Result<usize, TableError> {
     let mut count: usize = 0;
     for number in 0..100 {
-        if tried(alloc, kind, number)? == Some(Found::Whole) {
-            count = count.saturating_add(1);
+        match tried(alloc, kind, number)? {
+            Some(Found::Whole) => count = count.saturating_add(1),
+            Some(Found::Refused) => write!(report, "{kind} {number}: refused\n")?,
+            Some(Found::Wrong(what)) => write!(report, "{kind} {number}: {what}\n")?,
+            None => return Ok(count),
         }
     }
     Ok(count)
 }
 
-/// Runs all options and calls. Returns a line for each kind: how many succeeded.
+/// Runs all options and calls. Returns a line for each one that fails, and a line for each kind:
+/// how many succeeded.
 pub fn tried_all(alloc: Global) -> Result<String, TableError> {
     let mut report = String::new(alloc);
     for kind in [
         "columns", "rows", "call", "material", "drawing", "text", "room", "sparing",
     ] {
-        let count = count_whole(alloc, kind)?;
+        let count = count_whole(alloc, kind, &mut report)?;
         write!(report, "{kind}: {count} calls did what they are for\n")?;
     }
     Ok(report)

@@ -3,6 +3,7 @@
 use serde::{Described, Serialize, Serializer};
 use std::alloc::Global;
 use std::test::Fail;
+use tabled_base::TableError;
 use tabled_serde::{RowError, table};
 use tabled_table::Table;
 
@@ -74,6 +75,27 @@ fn fields_are_renamed_skipped_joined_and_flattened(rt: HostRuntime) -> Result<()
 fn a_table_without_values_is_empty(rt: HostRuntime) -> Result<(), Fail> {
     let none: [Place; 0] = [];
     assert_eq!(rt; table(rt.alloc(), none)?.to_text()?.as_str(), "");
+    Ok(())
+}
+
+fn one<T: Drop>(alloc: Global, value: T) -> Result<Vec<T>, TableError> {
+    let mut values = Vec::new(alloc);
+    values.push(value)?;
+    Ok(values)
+}
+
+// A function over any value that serializes asks for no other bound.
+fn picture_of<T: Serialize + Drop>(alloc: Global, value: T) -> Result<String, Fail> {
+    Ok(table(alloc, one(alloc, value)?)?.to_text()?)
+}
+
+#[test]
+fn values_of_any_type_that_serializes_are_shown(rt: HostRuntime) -> Result<(), Fail> {
+    let text = picture_of(rt.alloc(), Place { lat: -12, lon: 7 })?;
+    assert_eq!(rt;
+        text.as_str(),
+        "+-----+-----+\n| lat | lon |\n+-----+-----+\n| -12 | 7   |\n+-----+-----+"
+    );
     Ok(())
 }
 

@@ -4,7 +4,7 @@ ghost use Rattle.std.specs.Prelude.{None, ⊤};
 use crate::sheet::{Sheet, table_of};
 use std::alloc::Global;
 use tabled_base::{
-    Entity, ExactRecords, Position, RecordsMut, TableError, TableOption, Text, VecRecords,
+    Entity, ExactRecords, Position, RecordsMut, Settings, TableError, TableOption, Text, VecRecords,
 };
 use tabled_config::{ColoredConfig, Style};
 use tabled_table::Table;
@@ -64,5 +64,12 @@ pub fn broken_off(
 pub fn picture_of_broken(alloc: Global, sheet: &Sheet) -> Result<String, TableError> {
     let mut table = table_of(alloc, sheet)?;
     let _answer = table.apply(Broken);
+    table.to_text()
+}
+
+/// Prints a table after two options in turn: modern borders, and `Broken`.
+pub fn picture_of_broken_settings(alloc: Global, sheet: &Sheet) -> Result<String, TableError> {
+    let mut table = table_of(alloc, sheet)?;
+    let _answer = table.apply(Settings::new(Style::modern(), Broken));
     table.to_text()
 }

@@ -4,6 +4,7 @@
 
 mod applying;
 mod grids;
+mod half_done;
 mod making;
 mod modifying;
 mod options;
@@ -11,8 +12,9 @@ mod printing;
 mod sheet;
 mod sized;
 
-pub use applying::{Stored, broken_off, picture_of_broken};
+pub use applying::{Stored, broken_off, picture_of_broken, picture_of_broken_settings};
 pub use grids::{answered, drawn, printed};
+pub use half_done::{half_marked, half_marked_cell};
 pub use making::{
     Counts, counts_of, counts_of_none, is_the_empty_table, of_no_pairs, of_no_values, pair_begins,
     there_and_back,

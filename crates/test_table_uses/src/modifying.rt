@@ -41,6 +41,10 @@ impl CellOption<VecRecords<Text<String>>, ColoredConfig> for Joins {
     fn hint_change(&self) -> Option<Entity> {
         Some(Entity::Global)
     }
+
+    fn needs_undo(&self) -> bool {
+        true
+    }
 }
 
 // Adds the prefix and the suffix to a cell.

@@ -59,8 +59,57 @@ fn a_tree_of_two_thousand_levels_is_copied_and_printed(rt: HostRuntime) -> Resul
     Ok(())
 }
 
+// `levels` nested rows and columns, each of a text and the level below it.
+fn nested(alloc: Global, levels: usize) -> Result<TableValue, TableError> {
+    let mut value = TableValue::Cell(String::from_str(alloc, "a")?);
+    for level in 0..levels {
+        let beside = TableValue::Cell(String::from_str(alloc, "b")?);
+        let children = Vec::from_array(alloc, [beside, value])?;
+        value = if level % 2 == 0 {
+            TableValue::Row(children)
+        } else {
+            TableValue::Column(children)
+        };
+    }
+    Ok(value)
+}
+
+const ROW_IN_COLUMN: &str = "\
++-------+
+| b     |
++---+---+
+| b | a |
++---+---+";
+
+// Counts the levels of two boxes, down the second one, up to `most`.
+fn count_levels(value: &TableValue, most: usize) -> usize {
+    let mut inside = value;
+    for level in 0..most {
+        let (TableValue::Row(children) | TableValue::Column(children)) = inside else {
+            return level;
+        };
+        match children.as_slice() {
+            [_, below] => inside = below,
+            _ => return level,
+        }
+    }
+    most
+}
+
+#[test]
+fn a_row_is_below_the_text_beside_it(rt: HostRuntime) -> Result<(), Fail> {
+    let table = PoolTable::from_value(nested(rt.alloc(), 2)?);
+    assert_eq!(rt; table.to_string()?.as_str(), ROW_IN_COLUMN);
+    Ok(())
+}
+
+// Printing takes stack for each level, but any tree can be dropped: alone, in a table, and while
+// another one is there.
 #[test]
 fn a_tree_that_is_too_deep_to_be_printed_is_dropped(rt: HostRuntime) -> Result<(), Fail> {
-    let _deep = wrapped(rt.alloc(), 300_000)?;
+    let kept = nested(rt.alloc(), 300_000)?;
+    drop(nested(rt.alloc(), 300_000)?);
+    drop(PoolTable::from_value(nested(rt.alloc(), 300_000)?));
+    assert_eq!(rt; count_levels(&kept, usize::MAX), 300_000);
     Ok(())
 }

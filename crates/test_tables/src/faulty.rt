@@ -74,7 +74,9 @@ fn a_failed_flush_is_a_failed_write(rt: HostRuntime) -> Result<(), Fail> {
 fn a_failed_write_of_the_word_changes_nothing(rt: HostRuntime) -> Result<(), Fail> {
     let mut err = Faulty { fails_write: true };
     let mut out = Vec::new(rt.alloc());
+    out.extend_from_slice(b"before")?;
     let mut input = b"\xFF".as_slice();
     assert_eq!(rt; run(rt.alloc(), &[], &mut input, &mut out, &mut err), 1);
+    assert_eq!(rt; str::from_utf8(out.as_slice())?, "before");
     Ok(())
 }

@@ -51,4 +51,8 @@ mod texts;
 #[cfg(test)]
 mod try_rows;
 #[cfg(test)]
+mod windows;
+#[cfg(test)]
 mod word_wraps;
+#[cfg(test)]
+mod writers;

@@ -33,6 +33,10 @@ impl<R> CellOption<R, usize> for Counted {
     fn hint_change(&self) -> Option<Entity> {
         Some(Entity::Global)
     }
+
+    fn needs_undo(&self) -> bool {
+        true
+    }
 }
 
 impl<R, D> TableOption<R, usize, D> for Counted {

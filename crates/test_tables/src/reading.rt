@@ -12,8 +12,8 @@ use tabled_table::IterTable;
 
 // Accepts `left` more bytes.
 #[derive(Drop)]
-struct Narrow {
-    left: usize,
+pub struct Narrow {
+    pub left: usize,
 }
 
 impl Write for Narrow {
@@ -30,7 +30,7 @@ impl Write for Narrow {
 
 // A cell without borrowed data, so that the table can borrow the iterator of its rows.
 #[derive(Drop, Clone, Copy)]
-struct Word {}
+pub struct Word {}
 
 impl CellText for Word {
     ghost text = { λ _. 114 ∷ 111 ∷ 119 ∷ [] };
@@ -40,15 +40,15 @@ impl CellText for Word {
     }
 }
 
-type Source = IntoIter<[Word; 2]>;
+pub type Source = IntoIter<[Word; 2]>;
 
-fn hundred(alloc: Global) -> Result<Source, TableError> {
-    Ok(vec![in alloc; [Word {}, Word {}]; 100]?.into_iter())
+pub fn thousand(alloc: Global) -> Result<Source, TableError> {
+    Ok(vec![in alloc; [Word {}, Word {}]; 1000]?.into_iter())
 }
 
 // Returns the number of rows left in the source.
 fn left(alloc: Global, sniffed: usize, shown: usize) -> Result<usize, TableError> {
-    let mut rows = hundred(alloc)?;
+    let mut rows = thousand(alloc)?;
     let mut table = IterTable::new(&mut rows);
     table.sniff(sniffed).rows(shown);
     let mut text = String::new(alloc);
@@ -57,7 +57,7 @@ fn left(alloc: Global, sniffed: usize, shown: usize) -> Result<usize, TableError
 }
 
 // Rows sniffed, rows shown, and rows left in the source.
-const LEFT: [(usize, usize, usize); 3] = [(0, 0, 100), (2, 3, 97), (2, 1, 98)];
+const LEFT: [(usize, usize, usize); 4] = [(0, 0, 1000), (2, 3, 997), (2, 1, 998), (1, 900, 100)];
 
 #[test]
 fn no_row_is_taken_that_is_neither_sniffed_nor_shown(rt: HostRuntime) -> Result<(), Fail> {
@@ -76,14 +76,14 @@ fn left_behind(rows: &mut Source, alloc: Global, bytes: usize) -> (Result<(), Ta
 }
 
 // Bytes that the writer accepts, and rows left in the source.
-const TAKEN: [(usize, usize); 3] = [(0, 99), (54, 98), (55, 97)];
+const TAKEN: [(usize, usize); 3] = [(0, 999), (54, 998), (55, 997)];
 
 // Two rows and the horizontal lines above them take 55 bytes: four lines of 13, and three line
 // feeds.
 #[test]
 fn a_row_is_taken_once_the_lines_above_it_are_out(rt: HostRuntime) -> Result<(), Fail> {
     for (bytes, rows) in TAKEN {
-        let mut source = hundred(rt.alloc())?;
+        let mut source = thousand(rt.alloc())?;
         let found = left_behind(&mut source, rt.alloc(), bytes);
         assert_eq!(rt; found, (Err(TableError::Writer), rows), "at {bytes}");
     }

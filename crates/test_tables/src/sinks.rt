@@ -27,6 +27,8 @@ fn table() -> IterTable<[[&'static str; 2]; 2]> {
 struct LimitedSink {
     taken: String,
     texts: usize,
+    // The bytes taken after each write.
+    ends: Vec<usize>,
 }
 
 impl TextSink for LimitedSink {
@@ -37,32 +39,52 @@ impl TextSink for LimitedSink {
             return Err(TableError::Memory);
         }
         self.texts -= 1;
-        self.taken.write_text(text)
+        self.taken.write_text(text)?;
+        self.ends.push(self.taken.len())?;
+        Ok(())
     }
 }
 
-fn printed(alloc: Global, texts: usize) -> (Result<(), TableError>, String) {
-    let taken = String::new(alloc);
-    let mut sink = LimitedSink { taken, texts };
+fn printed(alloc: Global, texts: usize) -> (Result<(), TableError>, LimitedSink) {
+    let mut sink = LimitedSink {
+        taken: String::new(alloc),
+        texts,
+        ends: Vec::new(alloc),
+    };
     let outcome = table().fmt(alloc, &mut sink);
-    (outcome, sink.taken)
+    (outcome, sink)
 }
 
-fn is_right(outcome: Result<(), TableError>, taken: &str) -> bool {
-    match outcome {
-        Ok(()) => taken == PICTURE,
-        Err(error) => error == TableError::Memory && PICTURE.starts_with(taken),
-    }
+// Whether a print failed that had to, and the sink took the same writes as one without a limit.
+fn is_right(outcome: Result<(), TableError>, found: &LimitedSink, all: &[usize]) -> bool {
+    let ends = found.ends.as_slice();
+    let bytes = ends.last().copied().unwrap_or(0);
+    let failed = outcome == Err(TableError::Memory) && ends.len() < all.len();
+    let printed = outcome.is_ok() && ends.len() == all.len();
+    found.texts == 0
+        && (failed || printed)
+        && all.starts_with(ends)
+        && PICTURE.as_bytes().starts_with(found.taken.as_bytes())
+        && found.taken.len() == bytes
 }
 
 #[test]
 fn a_sink_without_memory_stops_a_table_anywhere(rt: HostRuntime) -> Result<(), Fail> {
-    let mut last = Ok(());
-    for texts in 0..100 {
-        let (outcome, taken) = printed(rt.alloc(), texts);
-        assert!(rt; is_right(outcome, taken.as_str()), "{texts} texts: {taken}");
-        last = outcome;
+    let (outcome, whole) = printed(rt.alloc(), usize::MAX);
+    assert_eq!(rt; outcome, Ok(()));
+    assert_eq!(rt; whole.taken.as_str(), PICTURE);
+    let ends = whole.ends.as_slice();
+    assert!(rt; ends.len() > 1, "one write");
+    for texts in 0..ends.len() {
+        let (outcome, sink) = printed(rt.alloc(), texts);
+        assert!(rt;
+            is_right(outcome, &sink, ends),
+            "{texts} texts: {}",
+            sink.taken
+        );
+        assert_eq!(rt; sink.ends.len(), texts);
     }
-    assert!(rt; last.is_ok(), "100 texts weren't enough");
+    let (outcome, sink) = printed(rt.alloc(), ends.len());
+    assert!(rt; is_right(outcome, &sink, ends));
     Ok(())
 }

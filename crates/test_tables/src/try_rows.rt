@@ -8,7 +8,7 @@ use tabled_base::TableError;
 use tabled_records::TryRows;
 use tabled_table::IterTable;
 
-type Row = Result<[&'static str; 2], u8>;
+pub(crate) type Row = Result<[&'static str; 2], u8>;
 
 fn copied(alloc: Global, rows: &[Row]) -> Result<IntoIter<Row>, TableError> {
     let mut copied = Vec::new(alloc);
@@ -18,7 +18,7 @@ fn copied(alloc: Global, rows: &[Row]) -> Result<IntoIter<Row>, TableError> {
     Ok(copied.into_iter())
 }
 
-fn rows(alloc: Global, rows: &[Row]) -> Result<TryRows<IntoIter<Row>, u8>, TableError> {
+pub(crate) fn rows(alloc: Global, rows: &[Row]) -> Result<TryRows<IntoIter<Row>, u8>, TableError> {
     Ok(TryRows::new(copied(alloc, rows)?))
 }
 
