@@ -7,18 +7,16 @@ signature is what stands there without the clauses, and its sentence is the firs
 comment. Methods that a type has in impls of its own are listed under it, those of a trait under the
 trait. The example of a type is the first picture of the gallery, program or test that uses it; the
 gate runs all of these. The script fails where an item or a method has no doc comment, or a type no
-example. With --check it writes nothing, and fails if the page isn't what would be written. With
---names it prints the public names except those of laws, a line each.
+example. docs/check.py fails if the page isn't what this would write.
 """
 
 import functools
-import pathlib
 import re
 import sys
 
 import gallery
+from pages import TOP, lines_of, text_of
 
-TOP = pathlib.Path(__file__).resolve().parent.parent
 CRATES = TOP / "crates"
 PAGE = TOP / "docs/API.md"
 
@@ -79,12 +77,12 @@ def fail(message):
     sys.exit(f"api.py: {message}")
 
 
-def text_of(crate, path):
+def module_at(crate, path):
     """The lines of a module's file, and the file."""
     base = CRATES / crate / "src"
     for file in (base / f"{path}.rt", base / path / "mod.rt"):
         if file.is_file():
-            return file.read_text().split("\n"), file
+            return lines_of(file), file
     return fail(f"crates/{crate}/src has no file for {path}")
 
 
@@ -99,7 +97,7 @@ def uses(lines):
 
 def declared(crate, module, name):
     """The file and the index of the line that declares a name of a module of a crate."""
-    lines, file = text_of(crate, module)
+    lines, file = module_at(crate, module)
     for at, line in enumerate(lines):
         found = ITEM.match(line)
         if found and found[2] == name:
@@ -155,18 +153,22 @@ def signature(lines, at):
     return re.sub(r" = .*", "", text) if text.startswith("const ") else text
 
 
-def methods(lines, name):
-    """The indexes of the public methods that a file gives a type in impls of its own."""
-    inside = False
-    for at, line in enumerate(lines):
+@functools.cache
+def methods(file):
+    """The public methods that a file gives types in impls of their own: each type, and the index of
+    the method's line."""
+    found = []
+    owner = None
+    for at, line in enumerate(lines_of(file)):
         if line.startswith("impl"):
-            head = " ".join(lines[at : at + 12]).split(" {")[0]
+            head = " ".join(lines_of(file)[at : at + 12]).split(" {")[0]
             own = re.match(r"impl(?:<.*?>(?= \w))? (\w+)", re.sub(r"\s+", " ", head))
-            inside = bool(own) and own[1] == name and " for " not in head
+            owner = own[1] if own and " for " not in head else None
         elif line == "}":
-            inside = False
-        elif inside and re.match(r"    pub (const )?fn ", line):
-            yield at
+            owner = None
+        elif owner and re.match(r"    pub (const )?fn ", line):
+            found.append((owner, at))
+    return found
 
 
 def trait_methods(lines, at):
@@ -180,24 +182,24 @@ def trait_methods(lines, at):
 
 @functools.cache
 def examples():
-    """Texts that the gate runs, each with a link, its name and its file's code: pictures, whose code
-    is None, programs, then tests."""
-    found = [(*it, None) for it in gallery.examples()]
+    """Texts that the gate runs, each with a link, its name and the names that it may show:
+    pictures, programs, then tests. A program or a test shows what it imports."""
+    found = [(*it, set(re.findall(r"\w+", it[0]))) for it in gallery.examples()]
     for crates in ("docs_*", "example_*", "tabview*", "tabprint", "test_*", "tabled_c"):
         for file in sorted(CRATES.glob(f"{crates}/src/**/*.rt")):
-            code = re.sub(r"//.*", "", file.read_text())
-            name = f"{file.parent.parent.name}/{file.name}"
-            found.append((gallery.without_uses(code), f"../{file.relative_to(TOP)}", name, code))
+            code = re.sub(r"//.*", "", text_of(file))
+            text, name = gallery.without_uses(code), f"{file.parent.parent.name}/{file.name}"
+            imported = set(re.findall(r"\w+", " ".join(re.findall(r"\buse ([^;]*)", code))))
+            shown = imported & set(re.findall(r"\w+", text))
+            found.append((text, f"../{file.relative_to(TOP)}", name, shown))
     return found
 
 
 def example_of(name):
     """A link to an example of a type, which its name or a call shows. One without is noted."""
-    named = re.compile(rf"\b{name}\b")
-    imported = re.compile(rf"\buse [^;]*\b{name}\b")
-    for text, link, title, code in examples():
-        is_named = named.search(text) and (code is None or imported.search(code))
-        if is_named or MADE.get(name, "\0") in text:
+    call = MADE.get(name)
+    for text, link, title, shown in examples():
+        if name in shown or call and call in text:
             return f"[{title}]({link})"
     unused.append(name)
     return ""
@@ -225,15 +227,15 @@ def entries(crate, module, path, name):
         while top.parent.name != "src":
             top = top.parent
         others = sorted(it for it in top.parent.rglob("*.rt") if it != file)
-        texts = [(lines, file), *((it.read_text().split("\n"), it) for it in others)]
-        places = [(text, it, below) for text, it in texts for below in methods(text, name)]
+        owned = [(it, owner, below) for it in [file, *others] for owner, below in methods(it)]
+        places = [(lines_of(it), it, below) for it, owner, below in owned if owner == name]
     for text, it, below in places:
         yield f"  - `{signature(text, below)}`: {sentence_at(text, it, below)}"
 
 
 def modules():
     """The public modules of crates/tabled, each with its sentence and what it re-exports."""
-    lines = (CRATES / "tabled/src/lib.rt").read_text().split("\n")
+    lines = lines_of(CRATES / "tabled/src/lib.rt")
     stack = []
     found = {"tabled": ("The names that most programs use.", [])}
     for at, line in enumerate(lines):
@@ -264,23 +266,18 @@ def page():
             seen[name] = module
             told.extend(entries("tabled", "lib", path, name))
         told.append("")
-    return "\n".join(told)
-
-
-def main():
-    if "--names" in sys.argv:
-        shown = [items for module, (_, items) in modules().items() if module != "tabled::laws"]
-        print("\n".join(sorted({name for items in shown for _, name in items})))
-        return
-    made = page()
     if lost:
         fail("no doc comment at " + ", ".join(lost))
     if unused:
         fail("no example that the gate runs has " + ", ".join(unused))
-    if "--check" not in sys.argv:
-        PAGE.write_text(made)
-    elif not PAGE.is_file() or PAGE.read_text() != made:
-        fail("docs/API.md is not what docs/api.py writes: run it")
+    return "\n".join(told)
 
 
-main()
+def public_names():
+    """The public names except those of laws."""
+    shown = [items for module, (_, items) in modules().items() if module != "tabled::laws"]
+    return sorted({name for items in shown for _, name in items})
+
+
+if __name__ == "__main__":
+    PAGE.write_text(page())

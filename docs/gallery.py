@@ -1,27 +1,16 @@
 #!/usr/bin/env python3
 """Writes docs/GALLERY.md from the functions of the crates of PAGES and the recorded output of
-crates/docs_gallery.
-
-With --check it writes nothing, and fails if
-- the page isn't what would be written,
-- an example of a page of SHOWN isn't among the lines of the programs that the gate runs, or imports
-  what none of them imports,
-- a picture that follows an example isn't among what these programs print,
-- a public module of crates/tabled has no example.
+crates/docs_gallery. docs/check.py fails if the page isn't what this would write.
 """
 
-import pathlib
 import re
 import sys
 import textwrap
 
-TOP = pathlib.Path(__file__).resolve().parent.parent
+from pages import TOP, text_of
+
 PAGES = [TOP / "crates/docs_gallery_settings", TOP / "crates/docs_gallery_printers"]
 GALLERY = TOP / "docs/GALLERY.md"
-
-# The pages whose examples are compared with what is run: the programs that have a recorded output, and
-# the libraries below the gallery.
-SHOWN = ["README.md", "docs/GUIDE.md", "docs/FROM_TABLED.md", "crates/tabled/src/lib.rt"]
 
 # The modules of which the page has a part, in its order.
 PARTS = [
@@ -65,7 +54,7 @@ def pictures():
     """What the program prints, by the names of the functions."""
     found = {}
     name = None
-    for line in (TOP / "crates/docs_gallery/stdout").read_text().split("\n")[:-1]:
+    for line in text_of(TOP / "crates/docs_gallery/stdout").split("\n")[:-1]:
         if mark := re.fullmatch(r"== (\w+::\w+)", line):
             name = mark[1]
             if name in found:
@@ -81,7 +70,7 @@ def source(module):
     found = [it for it in (crate / f"src/{module}.rt" for crate in PAGES) if it.is_file()]
     if len(found) != 1:
         fail(f"{module}.rt is in {len(found)} crates of the gallery")
-    return found[0].read_text()
+    return text_of(found[0])
 
 
 def dedented(lines):
@@ -268,112 +257,5 @@ def page():
     return "\n".join(lines).rstrip() + "\n"
 
 
-def blocks(path):
-    """The fenced blocks of a page, or of doc comments: the line, the kind, the lines."""
-    kind = None
-    for number, line in enumerate(path.read_text().splitlines(), 1):
-        if path.suffix == ".rt":
-            if not line.lstrip().startswith(("///", "//!")):
-                continue
-            line = line.lstrip()[3:].removeprefix(" ")
-        if line.startswith("```"):
-            if kind is None:
-                kind, begin, lines = line[3:], number, []
-            else:
-                yield begin, kind, lines
-                kind = None
-        elif kind is not None:
-            lines.append(line)
-
-
-def without_imports(lines):
-    """An example without its first imports: a file has those of all of its examples."""
-    while lines and (not lines[0] or lines[0].startswith("use ")):
-        lines = lines[1:]
-    return lines
-
-
-def unknown_imports(lines, known):
-    """What the imports of an example name that no program imports."""
-    for use in re.findall(r"^use ((?:.|\n)*?);$", "\n".join(lines), re.MULTILINE):
-        yield from (f"{path}::{name}" for path, name in expanded(use) if (path, name) not in known)
-
-
-def stand_in(lines, texts):
-    """Whether lines stand in one of the texts, one below the other, all as far to the right."""
-    wanted = [line.strip() for line in lines]
-    for text in texts:
-        for begin in range(len(text) - len(wanted) + 1):
-            window = text[begin:begin + len(wanted)]
-            if [line.strip() for line in window] == wanted and dedented(window) == dedented(lines):
-                return True
-    return False
-
-
-def spans(path):
-    """What is in backticks in the last column of a page's tables: the line, and the text."""
-    for number, line in enumerate(path.read_text().splitlines(), 1):
-        if line.startswith("| ") and not line.endswith("here |"):
-            for span in re.findall(r"`([^`]+)`", line.strip("| ").rpartition(" | ")[2]):
-                yield number, span
-
-
-def without_example(path):
-    """The public modules of a file whose documentation doesn't end with an example."""
-    before = ""
-    for line in path.read_text().splitlines():
-        if (found := re.match(r" *pub mod (\w+) \{", line)) and before.strip() != "/// ```":
-            yield found[1]
-        before = line
-
-
-def check_examples(name, code, known, printed):
-    """What is wrong with the examples of a page or a module, and how many there are."""
-    missing = []
-    examples = 0
-    for number, kind, lines in blocks(TOP / name):
-        if kind == "rust":
-            examples += 1
-            if not stand_in(without_imports(lines), code):
-                missing.append(f"{name}:{number}: this is not run")
-            for path in unknown_imports(lines, known):
-                missing.append(f"{name}:{number}: no program imports {path}")
-        # A picture before the first example is of none.
-        elif kind == "text" and examples and not stand_in(lines, printed):
-            missing.append(f"{name}:{number}: this is not printed")
-    return missing, examples
-
-
-def check():
-    programs = sorted(path.parent for path in (TOP / "crates").glob("*/stdout"))
-    crates = [*programs, *PAGES]
-    sources = [path.read_text() for crate in crates for path in sorted(crate.glob("src/**/*.rt"))]
-    code = [text.splitlines() for text in sources]
-    known = {(path, name) for text in sources for name, path in imports(text).items()}
-    printed = [(crate / "stdout").read_text().splitlines() for crate in programs]
-    joined = [" ".join(line.strip() for line in lines) for lines in code]
-    missing = []
-    for module in without_example(TOP / "crates/tabled/src/lib.rt"):
-        missing.append(f"crates/tabled/src/lib.rt: the module {module} has no example")
-    for number, span in spans(TOP / "docs/FROM_TABLED.md"):
-        if not any(span in text for text in joined):
-            missing.append(f"docs/FROM_TABLED.md:{number}: {span} is not run")
-    count = 0
-    for name in SHOWN:
-        wrong, examples = check_examples(name, code, known, printed)
-        missing += wrong
-        count += examples
-    if GALLERY.read_text() != page():
-        missing.append("docs/GALLERY.md: docs/gallery.py writes another page")
-    if missing:
-        sys.exit("\n".join(missing))
-    print(f"docs/GALLERY.md is as written, and {count} examples are run")
-
-
 if __name__ == "__main__":
-    if sys.argv[1:] == ["--check"]:
-        check()
-    elif not sys.argv[1:]:
-        GALLERY.write_text(page())
-    else:
-        fail("--check is the only word")
+    GALLERY.write_text(page())

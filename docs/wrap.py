@@ -1,7 +1,8 @@
 #!/usr/bin/env python3
 """Wraps the paragraphs and list items of pages that are wider than 100 columns: docs/wrap.py PAGE..
 
-Headings, tables and fenced blocks stay as they are, and no link is broken.
+Headings, tables and fenced blocks stay as they are, and no link is broken. Not for docs/API.md and
+docs/GALLERY.md, which scripts write.
 """
 
 import pathlib
@@ -48,5 +49,9 @@ def page(lines):
     return done + (wrapped(block) if block else [])
 
 
+WRITTEN = ("API.md", "GALLERY.md")
+
 for path in map(pathlib.Path, sys.argv[1:]):
+    if path.name in WRITTEN:
+        sys.exit(f"wrap.py: a script writes {path}")
     path.write_text("\n".join(page(path.read_text().splitlines())) + "\n")
