@@ -1,37 +1,30 @@
 #!/usr/bin/env python3
 """Measures tables of records and tables of boxes, by their sizes.
 
-usage: boxes.py [FOLDER]
-
-A small program is written into FOLDER (else a temporary folder) beside copies of the crates and built
-with `rt run`. It runs anew for each table:
+A small program runs anew for each table:
 
 - records: of ten fields, shown line by line;
 - boxes: rows of ten texts, drawn as boxes;
-- zero-width: rows of ten texts without padding, one of which is given no columns, so that the boxes are drawn
-  one by one and joined;
-- tall: two texts of so many lines, and a short one between them;
+- zero-width: rows of ten texts without padding, one of which is given no columns, so that the boxes are
+  drawn one by one and joined;
+- tall: two texts of many lines, and a short one between them;
 - zero-tall: the same without padding, beside a text that is given no columns;
 - levels: a text in levels of rows and columns that each have one more text;
 - zero-levels: the same without padding, around a text that is given no columns;
 - nested: a text in levels of rows and columns that have nothing else.
 
-Printing a nested level takes the same few instructions, whatever the number of levels, and one read
-of memory, which takes most of the time: 10 ns a level where all levels are in the caches of the
-processor (10,000), 20 to 50 ns where they aren't. So the bar of linear time compares two counts that both
-exceed the caches: at 144 bytes a level, they take 45 and 430 MB.
+Printing a nested level takes the same few instructions, whatever the number of levels, and one read of
+memory, which takes most of the time. So the bar of linear time compares two counts that both exceed the
+caches: at 144 bytes a level, they take 45 and 430 MB.
 
 A table is printed to a writer that counts bytes and keeps none. The time is that from the first to the
-last byte, without making the table. The rounds of all tables are interleaved, since a host may be slow
-for some seconds. Printed are the shortest time of the rounds, also for each byte, and the greatest peak
-memory; then whether the bars below hold. The exit status is 1 if a bar is missed or a run fails.
+last byte, without making the table. Printed are the shortest time of the rounds, also for each byte, and
+the greatest peak memory; then the bars. With --instructions: the instructions a byte of making and
+printing 3,000 rows of boxes.
 """
 
-import pathlib
-import subprocess
-import sys
-
 import building
+import measuring
 
 ROUNDS = 25
 TABLES = {
@@ -41,39 +34,54 @@ TABLES = {
     "tall": (2_000, 20_000),
     "zero-tall": (2_000, 20_000),
     "levels": (30, 100, 300, 1_000),
-    "zero-levels": (300, 1_000),
+    "zero-levels": (300, 1_000, 2_000),
     "nested": (300_000, 3_000_000),
 }
 
-# Rows of boxes: nanoseconds a byte, and those to the nanoseconds a byte of the fewest rows.
-BOX_COUNTS = (3_000, 30_000)
-BOX_TIME = 15
-BOX_SHARE = 1.3
-# The same for rows with a text that is given no columns: three times as much.
-ZERO_WIDTH_TIME = 45
-# Texts of many lines: nanoseconds a byte, those to the nanoseconds a byte of fewer lines, and the same with a text that is
-# given no columns.
-TALL_TIME = 15
-ZERO_TALL_TIME = 45
-TALL_SHARE = 1.3
-# The most levels: nanoseconds a byte, and the same with a text that is given no columns, where each row copies the lines of
-# the boxes in it. Ten times as many nested levels: their time to that of the fewer.
-LEVEL_TIME = 60
-ZERO_LEVEL_TIME = 180
+# Nanoseconds a byte of the largest tables.
+TIMES = {
+    ("records", 10_000): 1.9,
+    ("boxes", 3_000): 15,
+    ("boxes", 30_000): 15,
+    ("zero-width", 3_000): 45,
+    ("zero-width", 30_000): 45,
+    ("tall", 20_000): 7.1,
+    ("zero-tall", 20_000): 12.8,
+    ("levels", 1_000): 3.9,
+    ("zero-levels", 1_000): 91,
+}
+
+# The nanoseconds a byte of a table, of those of a smaller one. Around a text that is given no columns
+# each row copies the lines of the boxes in it, so that deeper levels take longer.
+GROWTHS = {
+    ("boxes", 3_000, 100): 1.3,
+    ("boxes", 30_000, 100): 1.3,
+    ("tall", 20_000, 2_000): 1.3,
+    ("zero-tall", 20_000, 2_000): 1.3,
+    ("zero-levels", 2_000, 1_000): 2.0,
+}
+
+# The time of ten times as many nested levels.
+NESTED = (300_000, 3_000_000)
 NESTED_SHARE = 13
 
+COUNTED = ("boxes", 3_000)
+INSTRUCTIONS = 155
+
 PROGRAM = """\
-//! Prints a table of so many records, rows of boxes, lines or levels to a writer that counts.
+//! Prints a table of n records, rows of boxes, lines or levels to a writer that counts.
 #![tactic(auto)]
 
+mod counting;
+
+use counting::Counter;
 use std::alloc::Global;
-use std::io::Write;
 use std::time::Instant;
 use std::{env, io};
 use tabled_base::TableError;
 use tabled_extended::ExtendedTable;
-use tabled_pool::{PoolTable, TableValue};
 use tabled_line::IoSink;
+use tabled_pool::{PoolTable, TableValue};
 use tabled_set::Padding;
 
 const FIELDS: [&str; 10] = [
@@ -81,26 +89,22 @@ const FIELDS: [&str; 10] = [
 ];
 
 const TEXTS: [[&str; 10]; 2] = [
-    ["amber", "1815", "a weir", "river", "brown", "7", "Ada", "1906", "first", ""],
-    ["fjord", "190634", "by the sea", "bay", "blue", "22", "Grace", "7", "second", "oasis"],
+    [
+        "amber", "1815", "a weir", "river", "brown", "7", "Ada", "1906", "first", "",
+    ],
+    [
+        "fjord",
+        "190634",
+        "by the sea",
+        "bay",
+        "blue",
+        "22",
+        "Grace",
+        "7",
+        "second",
+        "oasis",
+    ],
 ];
-
-// Counts the bytes that it takes.
-#[derive(Drop)]
-struct Counter {
-    bytes: usize,
-}
-
-impl Write for Counter {
-    fn write(&mut self, buf: &[u8]) -> io::Result<usize> {
-        self.bytes = self.bytes.wrapping_add(buf.len());
-        Ok(buf.len())
-    }
-
-    fn flush(&mut self) -> io::Result<()> {
-        Ok(())
-    }
-}
 
 // So many rows of ten texts.
 fn rows(alloc: Global, count: usize) -> Result<Vec<[&'static str; 10]>, TableError> {
@@ -180,7 +184,12 @@ fn zero_levels(alloc: Global, count: usize) -> Result<PoolTable, TableError> {
 }
 
 // The nanoseconds that printing takes.
-fn timed(rt: &HostRuntime, kind: &str, count: usize, counter: &mut Counter) -> Result<u128, anyhow::Error> {
+fn timed(
+    rt: &HostRuntime,
+    kind: &str,
+    count: usize,
+    counter: &mut Counter,
+) -> Result<u128, anyhow::Error> {
     let alloc = rt.alloc();
     let mut sink = IoSink::new(counter);
     if kind == "records" {
@@ -226,99 +235,62 @@ fn main(rt: HostRuntime) -> Result<(), anyhow::Error> {
 """
 
 
-def peak_of(process):
-    """The peak of a process's memory in bytes."""
-    for line in pathlib.Path(f"/proc/{process.pid}/status").read_text().splitlines():
-        if line.startswith("VmHWM:"):
-            return int(line.split()[1]) * 1024
-    return sys.exit("the peak of the memory isn't told here")
-
-
-def run(program, kind, count):
-    """The nanoseconds, the printed bytes and the peak of one run, or nothing if it fails."""
-    command = [program, kind, str(count)]
-    with subprocess.Popen(command, stdin=subprocess.PIPE, stdout=subprocess.PIPE, text=True) as process:
-        line = process.stdout.readline()
-        if line:
-            peak = peak_of(process)
-        process.stdin.close()
-        if process.wait() != 0 or not line:
-            print(f"{kind:11} {count:>7}  ended with {process.returncode}", flush=True)
-            return None
-    time, size = map(int, line.split())
-    return time, size, peak
-
-
-def measure(program):
-    """Runs all tables in interleaved rounds. Returns the runs of each, or nothing for one that failed."""
+def measure(program, rounds):
+    """The runs of all tables in interleaved rounds."""
     tables = [(kind, count) for kind, counts in TABLES.items() for count in counts]
-    runs = {table: [] for table in tables}
-    for _ in range(ROUNDS):
-        for table in tables:
-            if runs[table] is not None:
-                found = run(program, *table)
-                runs[table] = None if found is None else [*runs[table], found]
-    return runs
+    calls = {table: lambda table=table: measuring.own_clock([program, *table]) for table in tables}
+    return measuring.interleaved(rounds, calls)
 
 
 def show(kind, count, runs):
-    """Prints the shortest time and the greatest peak of the runs. Returns that time and the bytes,
-    or nothing if a run failed."""
-    if runs is None:
-        return None
-    time, size, peak = min(time for time, _, _ in runs), runs[0][1], max(peak for _, _, peak in runs)
+    """Prints the shortest time and the greatest peak of the runs. Returns that time, and the time a
+    byte, or nothing if a run failed."""
+    if None in runs:
+        return None, None
+    times, sizes, peaks = zip(*runs)
+    time, size = min(times), sizes[0]
     print(
         f"{kind:11} {count:>7}  {size:>9} bytes  {time / 1e6:9.2f} ms"
-        f"  {time / size:8.1f} ns a byte  {peak / 1e6:7.2f} MB",
+        f"  {time / size:8.1f} ns a byte  {max(peaks) / 1e6:7.2f} MB",
         flush=True,
     )
-    return time, size
+    return time, time / size
 
 
-def holds(bar, value, most):
-    """Prints whether a bar holds; a value that is missing misses it."""
-    kept = value is not None and value <= most
-    shown = "none" if value is None else f"{value:.2f}"
-    print(f"{bar}: {shown} of {most}: {'yes' if kept else 'NO'}")
-    return kept
+def judge(bars, found):
+    for (kind, count), most in TIMES.items():
+        bars.at_most(f"{kind}, {count}, ns a byte", found[kind, count][1], most)
+    for (kind, more, fewer), most in GROWTHS.items():
+        growth = measuring.share(found[kind, more][1], found[kind, fewer][1])
+        bars.at_most(f"{kind}, a byte of {more}, of one of {fewer}", growth, most)
+    fewer, more = (found["nested", count][0] for count in NESTED)
+    bars.at_most(f"{NESTED[1]} nested levels, of {NESTED[0]}", measuring.share(more, fewer), NESTED_SHARE)
 
 
-def ratio(value, base):
-    return None if value is None or base is None else value / base
-
-
-def judge(found):
-    """Prints which bars hold. Returns whether all do."""
-    times = {table: times[0] if times else None for table, times in found.items()}
-    a_byte = {table: times[0] / times[1] if times else None for table, times in found.items()}
-    held = []
-    for count in BOX_COUNTS:
-        share = ratio(a_byte["boxes", count], a_byte["boxes", TABLES["boxes"][0]])
-        held.append(holds(f"{count} rows of boxes, ns a byte", a_byte["boxes", count], BOX_TIME))
-        held.append(holds(f"{count} rows of boxes, to the fewest rows", share, BOX_SHARE))
-    for count in BOX_COUNTS:
-        held.append(holds(f"{count} rows with a zero-width text, ns a byte", a_byte["zero-width", count], ZERO_WIDTH_TIME))
-    for kind, most in (("tall", TALL_TIME), ("zero-tall", ZERO_TALL_TIME)):
-        fewer, more = TABLES[kind]
-        share = ratio(a_byte[kind, more], a_byte[kind, fewer])
-        held.append(holds(f"{kind}, {more} lines, ns a byte", a_byte[kind, more], most))
-        held.append(holds(f"{kind}, {more} lines, to {fewer}", share, TALL_SHARE))
-    most = TABLES["levels"][-1]
-    held.append(holds(f"{most} levels, ns a byte", a_byte["levels", most], LEVEL_TIME))
-    held.append(holds(f"{most} levels with a zero-width text, ns a byte", a_byte["zero-levels", most], ZERO_LEVEL_TIME))
-    fewer, more = TABLES["nested"]
-    share = ratio(times["nested", more], times["nested", fewer])
-    held.append(holds(f"{more} nested levels, to {fewer}", share, NESTED_SHARE))
-    return all(held)
+def count_instructions(bars, program):
+    """Those of a table, less those of one row."""
+    kind, count = COUNTED
+    size = measuring.own_clock([program, kind, count])[1]
+    more = measuring.instructions([program, kind, count]) - measuring.instructions([program, kind, 1])
+    bars.at_most(f"{kind}, {count}, instructions a byte", more / size, INSTRUCTIONS)
 
 
 def main():
+    arguments = building.parser(__doc__, ROUNDS)
+    arguments.add_argument("--instructions", action="store_true")
+    asked = arguments.parse_args()
+    bars = measuring.Bars()
     crates = building.standing_on("tabled_pool", "tabled_extended", "tabled_set")
     used = ("tabled_base", "tabled_line", "tabled_pool", "tabled_extended", "tabled_set")
-    with building.program(__doc__, "box_times", crates, {"src/main.rt": PROGRAM}, used) as program:
-        runs = measure(program)
-    found = {table: show(*table, runs[table]) for table in runs}
-    sys.exit(0 if judge(found) else 1)
+    files = {"src/main.rt": PROGRAM, "src/counting.rt": measuring.COUNTER}
+    with building.builder(asked) as build:
+        program = build.small("box_times", crates, files, used)
+        if asked.instructions:
+            count_instructions(bars, program)
+        else:
+            runs = measure(program, asked.rounds)
+            judge(bars, {table: show(*table, runs[table]) for table in runs})
+    bars.end()
 
 
 main()

@@ -1,5 +1,7 @@
-"""Small programs of the benchmarks, each built with `rt run` beside copies of the crates that it stands on."""
+"""Builds what the benchmarks measure: programs of this repository and small ones that a script holds,
+both proved by `rt run`, and the baseline, by `cargo`."""
 
+import argparse
 import contextlib
 import pathlib
 import shutil
@@ -8,6 +10,9 @@ import sys
 import tempfile
 
 TOP = pathlib.Path(__file__).resolve().parent.parent
+
+# What each program of the repository is run with once it is built. It ends with status 0 then.
+HARMLESS = {"tabprint": [], "tabview": ["--help"], "test_cases": ["names"]}
 
 
 def standing_on(*crates):
@@ -30,33 +35,92 @@ def standing_on(*crates):
 TABLED = standing_on("tabled")
 
 
-def build(folder, name, crates, files, used):
-    """Builds the program in a folder. It may use some of the crates; the files lie in its crate."""
-    lines = (TOP / "crates.txt").read_text().splitlines()
-    wanted = [line for line in lines if line.split(":")[0] in crates]
-    (folder / "crates.txt").write_text("\n".join([*wanted, f"{name}: {' '.join(used)} anyhow"]) + "\n")
-    shutil.copy(TOP / "HANDLES", folder)
-    for crate in crates:
-        copy = folder / "crates" / crate
-        shutil.copytree(TOP / "crates" / crate, copy, ignore=shutil.ignore_patterns("out"), dirs_exist_ok=True)
-    own = folder / "crates" / name
-    for path, text in files.items():
-        (own / path).parent.mkdir(parents=True, exist_ok=True)
-        (own / path).write_text(text)
-    run = subprocess.run(["rt", "run"], cwd=own, stdin=subprocess.DEVNULL, capture_output=True, text=True)
-    if run.returncode != 0:
-        sys.exit(run.stdout + run.stderr)
-    return own / "out" / name
+def run(command, folder):
+    done = subprocess.run(
+        command, cwd=folder, stdin=subprocess.DEVNULL, capture_output=True, text=True
+    )
+    if done.returncode != 0:
+        sys.exit(done.stdout + done.stderr)
+
+
+class Builder:
+    """Builds in a folder. A program that was given is taken as it is."""
+
+    def __init__(self, folder, given):
+        self.folder = folder
+        self.given = given
+
+    def taken(self, name):
+        """The program that was given, if one was."""
+        path = self.given.get(name)
+        if path and not path.exists():
+            sys.exit(f"{path}: no such program")
+        return path
+
+    def of_repository(self, name):
+        """A program of the repository, in its crate's `out/`."""
+        if found := self.taken(name):
+            return found
+        own = TOP / "crates" / name
+        run(["rt", "run", "--", *HARMLESS[name]], own)
+        return own / "out" / name
+
+    def baseline(self):
+        """The program by hand that shares are shares of."""
+        if found := self.taken("baseline"):
+            return found
+        target = self.folder / "baseline"
+        manifest = TOP / "bench" / "baseline" / "Cargo.toml"
+        cargo = ["cargo", "build", "--release", "--offline"]
+        run([*cargo, "--manifest-path", manifest, "--target-dir", target], TOP)
+        return target / "release" / "baseline"
+
+    def small(self, name, crates, files, used=()):
+        """A small program beside copies of the crates. It uses the last of them, or those named."""
+        if found := self.taken(name):
+            return found
+        self.copy(crates)
+        self.write_list(name, crates, used or crates[-1:])
+        own = self.folder / "crates" / name
+        for path, text in files.items():
+            (own / path).parent.mkdir(parents=True, exist_ok=True)
+            (own / path).write_text(text)
+        run(["rt", "run"], own)
+        return own / "out" / name
+
+    def copy(self, crates):
+        shutil.copy(TOP / "HANDLES", self.folder)
+        for crate in crates:
+            copy = self.folder / "crates" / crate
+            leave = shutil.ignore_patterns("out")
+            shutil.copytree(TOP / "crates" / crate, copy, ignore=leave, dirs_exist_ok=True)
+
+    def write_list(self, name, crates, used):
+        lines = (TOP / "crates.txt").read_text().splitlines()
+        wanted = [line for line in lines if line.split(":")[0] in crates]
+        own = f"{name}: {' '.join(used)} anyhow"
+        (self.folder / "crates.txt").write_text("\n".join([*wanted, own]) + "\n")
+
+
+def parser(usage, rounds=None):
+    """The arguments that all scripts take, behind their own."""
+    arguments = argparse.ArgumentParser(
+        description=usage, formatter_class=argparse.RawDescriptionHelpFormatter
+    )
+    arguments.add_argument("--folder", type=pathlib.Path, help="where to build, else a temporary folder")
+    arguments.add_argument(
+        "--built", action="append", default=[], metavar="NAME=PATH", help="a program to take as it is"
+    )
+    if rounds is not None:
+        arguments.add_argument("--rounds", type=int, default=rounds, help=f"{rounds} if it isn't given")
+    return arguments
 
 
 @contextlib.contextmanager
-def program(usage, name, crates, files, used=()):
-    """The built program, in the folder that the script was given or else in a temporary one. It uses the last of the crates, or
-    those that are named."""
-    given = sys.argv[1:]
-    if given and given[0].startswith("-"):
-        sys.exit(usage)
+def builder(asked):
+    """A builder for the arguments."""
+    given = dict(named.split("=", 1) for named in asked.built)
     with tempfile.TemporaryDirectory() as temporary:
-        folder = pathlib.Path(given[0] if given else temporary)
+        folder = asked.folder or pathlib.Path(temporary)
         folder.mkdir(parents=True, exist_ok=True)
-        yield build(folder, name, crates, files, used or crates[-1:])
+        yield Builder(folder.resolve(), {name: pathlib.Path(path).resolve() for name, path in given.items()})

@@ -1,92 +1,48 @@
 #!/usr/bin/env python3
-"""Times programs that print tab-separated files as tables, in interleaved rounds.
+"""Times `tabprint`, `column -t` and the baseline over tab-separated files, in interleaved rounds.
 
-usage: compare.py [--rounds N] [--baseline PROGRAM] [--plans] [--ahead N] [--with NAME=COMMAND ..]
-                  PROGRAM FOLDER
+The files are those of generate.py. Each program reads a file on standard input; its output goes to the
+null device. Printed are, for each file, the shortest and the median of the processor time (user and
+system) and the median of the peak memory, each as a share of the baseline's. The baseline is
+bench/baseline, a program by hand for this one job. Then the bars, by the medians.
 
-PROGRAM is the built `tabprint`, FOLDER holds the files of generate.py. Each program reads a file on
-standard input; its output goes to the null device. Printed are, for each file, the shortest and the
-median of the processor time (user and system) and the median of the peak memory, each as a multiple of the
-baseline's, a program written by hand for this one job, or of PROGRAM's where none is given; then whether the
-bars hold, by the medians: at least five times as fast as `column`, at most the bytes of the input, 48 bytes a
-cell and 16 MB of memory, and the shares of the baseline below.
-
-With --plans, PROGRAM and the baseline also run under the same arguments: `--wrap W`, `--cut W` and
+With --plans, `tabprint` and the baseline also run under the same arguments: `--wrap W`, `--cut W` and
 `--wrap W --words`, where W is a third and half of the table's width, each with `--priority none` and
-`max`. `--stream` (with --ahead: `--stream N`) is compared with the baseline's plain printing. The
-outputs are compared once for each plan, except those of `--stream N`, which cuts later rows. Then the
-two programs are timed in turn. Printed are the medians, their shares, and whether the bars hold.
+`max`. `--stream` is compared with the baseline's plain printing. Printed are the medians and their
+shares. The bars are for the greatest share of each way.
 
-The exit status is 1 if a bar is missed or two outputs differ.
+The outputs of the two are compared once for each file and plan. The exit status is 1 if two of them
+differ or a bar is missed.
 """
 
-import argparse
-import os
-import pathlib
-import shlex
-import statistics
-import subprocess
-import sys
-import tempfile
+import collections
+
+import building
+import generate
+import measuring
+
+ROUNDS = 15
 
 COLUMN = ["column", "-t", "-s", "\t"]
 
-# The shares of the baseline's processor time that PROGRAM may take by the medians, and that of its peak memory.
-TIMES = {"short": 0.60, "long": 0.75, "mixed": 0.80, "wide": 0.60}
-MEMORY = 0.60
+# How many times as long `column` takes at least.
+COLUMN_TIMES = {"short": 20, "long": 27, "mixed": 12, "wide": 20}
 
-# The same under the plans. What is streamed is compared with the baseline's plain printing.
-PLAN_TIMES = {"--wrap": 0.70, "--cut": 0.60, "--stream": 0.90}
-PLAN_MEMORY = 0.90
+# The shares of the baseline's processor time and peak memory that `tabprint` may take.
+TIMES = {"short": 0.60, "long": 0.59, "mixed": 0.54, "wide": 0.60}
+PEAKS = {"short": 0.46, "long": 0.48, "mixed": 0.46, "wide": 0.44}
 
-# Runs a program as a child of a small process, since a child's peak begins at that of its parent, and
-# writes the processor times in microseconds, the peak in KB, and the wait status.
-LAUNCHER = r"""
-#include <stdio.h>
-#include <sys/resource.h>
-#include <sys/wait.h>
-#include <unistd.h>
+# Its peak: the bytes of the input, so many bytes a cell, and these.
+CELL_BYTES = 12
+OWN_BYTES = 2_200_000
 
-static long micros(struct timeval time) { return time.tv_sec * 1000000L + time.tv_usec; }
-
-int main(int count, char **words) {
-    struct rusage usage;
-    int status;
-    pid_t child = fork();
-    (void)count;
-    if (child == 0) {
-        execvp(words[1], words + 1);
-        _exit(127);
-    }
-    wait4(child, &status, 0, &usage);
-    fprintf(stderr, "\n%ld %ld %d\n", micros(usage.ru_utime) + micros(usage.ru_stime), usage.ru_maxrss, status);
-    return 0;
+# The same shares under the plans, of time and then of memory, for the greatest share of each way.
+PLAN_SHARES = {
+    "--wrap": {"long": (0.32, 0.59), "short": (0.66, 0.61), "mixed": (0.70, 0.66), "wide": (0.55, 0.58)},
+    "--words": {"long": (0.53, 0.90), "short": (0.70, 0.89), "mixed": (0.70, 0.66), "wide": (0.65, 0.84)},
+    "--cut": {"long": (0.52, 0.81), "short": (0.60, 0.61), "mixed": (0.60, 0.90), "wide": (0.58, 0.58)},
+    "--stream": {"long": (0.67, 0.48), "short": (0.74, 0.46), "mixed": (0.57, 0.48), "wide": (0.66, 0.44)},
 }
-"""
-
-
-def launcher(folder):
-    """Builds the small process in a folder."""
-    source, built = folder / "launch.c", folder / "launch"
-    source.write_text(LAUNCHER)
-    subprocess.run(["cc", "-O1", "-o", built, source], check=True)
-    return built
-
-
-def measured(launch, command, path):
-    """The processor time in seconds, and the peak memory in bytes."""
-    with open(path, "rb") as source:
-        run = subprocess.run(
-            [launch, *command],
-            stdin=source,
-            stdout=subprocess.DEVNULL,
-            stderr=subprocess.PIPE,
-            env={**os.environ, "LC_ALL": "C.UTF-8"},
-        )
-    time, peak, status = map(int, run.stderr.split()[-3:])
-    if status != 0:
-        sys.exit(f"{command[0]} ended with {os.waitstatus_to_exitcode(status)} on {path.name}")
-    return time / 1e6, peak * 1024
 
 
 def cells(path):
@@ -94,129 +50,91 @@ def cells(path):
     return data.count(b"\n") + data.count(b"\t")
 
 
-def rounds_of(launch, path, programs, rounds):
-    """For each program the shortest and the median of the times, and the median of the peaks."""
-    runs = {name: [] for name in programs}
-    for _ in range(rounds):
-        for name, command in programs.items():
-            runs[name].append(measured(launch, command, path))
-    return {
-        name: (
-            min(time for time, _ in found),
-            statistics.median(time for time, _ in found),
-            statistics.median(peak for _, peak in found),
-        )
-        for name, found in runs.items()
-    }
-
-
-def holds(path, found):
-    """Whether the bars hold that the given programs allow to judge."""
-    _, median, peak = found["tabprint"]
-    answers = {
-        "five times as fast as column": found["column"][1] >= 5 * median,
-        "memory": peak <= path.stat().st_size + 48 * cells(path) + 16_000_000,
-    }
-    if "baseline" in found:
-        answers["time to the baseline"] = median <= TIMES.get(path.stem, 1) * found["baseline"][1]
-        answers["memory to the baseline"] = peak <= MEMORY * found["baseline"][2]
-    print("  " + "; ".join(f"{bar}: {'yes' if kept else 'NO'}" for bar, kept in answers.items()))
-    return all(answers.values())
-
-
-def output(command, path):
-    with open(path, "rb") as source:
-        return subprocess.run(command, stdin=source, stdout=subprocess.PIPE, check=True).stdout
-
-
 def table_width(program, path):
     """The columns of a file's table: its first line has a character in each column."""
-    return output([program], path).index(b"\n")
+    return measuring.output([program], path).index(b"\n")
 
 
-def plans(width, stream):
-    """The arguments of each plan of PROGRAM and of the baseline."""
-    for way in (["--wrap"], ["--wrap", "--words"], ["--cut"]):
+def plans(width):
+    """The ways to narrow a table, and the arguments of each plan for `tabprint` and the baseline."""
+    for way, more in (("--wrap", []), ("--words", ["--words"]), ("--cut", [])):
+        narrowing = "--cut" if way == "--cut" else "--wrap"
         for narrowed in (width // 3, width // 2):
             for priority in ("none", "max"):
-                arguments = [way[0], str(narrowed), *way[1:], "--priority", priority]
-                yield arguments, arguments
-    yield stream, []
+                arguments = [narrowing, str(narrowed), *more, "--priority", priority]
+                yield way, arguments, arguments
+    yield "--stream", ["--stream"], []
 
 
-def judged(share, bar):
-    return f"x{share:5.2f} of {bar:.2f} {'yes' if share <= bar else 'NO':3}"
+def same(bars, what, first, second, path):
+    bars.true(f"{what}: the same bytes", measuring.output(first, path) == measuring.output(second, path))
 
 
-def compare_plan(launch, path, commands, rounds):
-    """Runs both programs under a plan. Returns whether the outputs are equal and the bars hold."""
-    arguments = commands["tabprint"][1:]
-    cuts_later = arguments[0] == "--stream" and len(arguments) > 1
-    same = cuts_later or output(commands["tabprint"], path) == output(commands["baseline"], path)
-    found = rounds_of(launch, path, commands, rounds)
-    _, time, peak = found["tabprint"]
-    _, base_time, base_peak = found["baseline"]
-    bar = PLAN_TIMES[arguments[0]]
-    times, peaks = time / base_time, peak / base_peak
-    print(
-        f"  {' '.join(arguments):36} {time * 1e3:7.1f} ms {base_time * 1e3:7.1f} ms  {judged(times, bar)}"
-        f"  {peak / 1e6:6.1f} MB {base_peak / 1e6:6.1f} MB  {judged(peaks, PLAN_MEMORY)}"
-        f"{'' if same else '  OTHER BYTES'}",
-        flush=True,
-    )
-    return same and times <= bar and peaks <= PLAN_MEMORY
-
-
-def compare_plans(launch, path, program, baseline, stream, rounds):
-    held = []
-    for arguments, base_arguments in plans(table_width(program, path), stream):
-        commands = {"tabprint": [program, *arguments], "baseline": [*baseline, *base_arguments]}
-        held.append(compare_plan(launch, path, commands, rounds))
-    return all(held)
-
-
-def compare(launch, path, programs, rounds):
-    found = rounds_of(launch, path, programs, rounds)
-    unit = found["baseline" if "baseline" in found else "tabprint"]
+def compare(bars, launch, path, programs, rounds):
+    """All programs over a file, without arguments."""
     print(f"{path.name}: {path.stat().st_size} bytes, {cells(path)} cells")
+    commands = {name: (command, path) for name, command in programs.items()}
+    found = measuring.timed(launch, rounds, commands)
+    unit = found["baseline"]
     for name, (shortest, median, peak) in found.items():
         print(
-            f"  {name:12} {shortest * 1e3:8.1f} ms  x{shortest / unit[0]:6.2f}  median {median * 1e3:8.1f} ms  x{median / unit[1]:6.2f}"
-            f"  {peak / 1e6:8.1f} MB  x{peak / unit[2]:6.2f}"
+            f"  {name:9} {shortest * 1e3:8.1f} ms x{shortest / unit[0]:6.2f}"
+            f"  median {median * 1e3:8.1f} ms x{median / unit[1]:6.2f}"
+            f"  {peak / 1e6:6.1f} MB x{peak / unit[2]:5.2f}"
         )
-    return holds(path, found)
+    same(bars, path.name, programs["tabprint"], programs["baseline"], path)
+    judge(bars, path, found)
+
+
+def judge(bars, path, found):
+    _, time, peak = found["tabprint"]
+    _, base_time, base_peak = found["baseline"]
+    bars.at_most("time, of the baseline's", time / base_time, TIMES[path.stem])
+    bars.at_most("peak, of the baseline's", peak / base_peak, PEAKS[path.stem])
+    most = path.stat().st_size + CELL_BYTES * cells(path) + OWN_BYTES
+    bars.at_most("peak, MB", peak / 1e6, most / 1e6)
+    bars.at_least("the time of column, of its own", found["column"][1] / time, COLUMN_TIMES[path.stem])
+
+
+def compare_plans(bars, launch, path, tabprint, baseline, rounds):
+    greatest = collections.defaultdict(lambda: (0, 0))
+    for way, arguments, base_arguments in plans(table_width(baseline, path)):
+        commands = {"tabprint": [tabprint, *arguments], "baseline": [baseline, *base_arguments]}
+        same(bars, " ".join(arguments), *commands.values(), path)
+        shares = plan_shares(launch, path, commands, rounds)
+        greatest[way] = tuple(map(max, zip(greatest[way], shares)))
+    for way, (time, peak) in greatest.items():
+        most_time, most_peak = PLAN_SHARES[way][path.stem]
+        bars.at_most(f"{way}, time, of the baseline's", time, most_time)
+        bars.at_most(f"{way}, peak, of the baseline's", peak, most_peak)
+
+
+def plan_shares(launch, path, commands, rounds):
+    """Prints what both programs take under a plan. Returns the shares of time and memory."""
+    found = measuring.timed(launch, rounds, {name: (command, path) for name, command in commands.items()})
+    _, time, peak = found["tabprint"]
+    _, base_time, base_peak = found["baseline"]
+    print(
+        f"    {time * 1e3:7.1f} ms of {base_time * 1e3:7.1f} ms, x{time / base_time:5.2f}"
+        f"  {peak / 1e6:6.1f} MB of {base_peak / 1e6:6.1f} MB, x{peak / base_peak:5.2f}",
+        flush=True,
+    )
+    return time / base_time, peak / base_peak
 
 
 def main():
-    parser = argparse.ArgumentParser()
-    parser.add_argument("--rounds", type=int, default=15)
-    parser.add_argument("--baseline")
-    parser.add_argument("--plans", action="store_true")
-    parser.add_argument("--ahead", type=int)
-    parser.add_argument("--with", action="append", default=[], dest="others")
-    parser.add_argument("program")
-    parser.add_argument("folder", type=pathlib.Path)
-    asked = parser.parse_args()
-    if asked.plans and not asked.baseline:
-        parser.error("--plans needs --baseline")
-    programs = {"tabprint": [asked.program], "column": COLUMN}
-    if asked.baseline:
-        programs["baseline"] = shlex.split(asked.baseline)
-    for other in asked.others:
-        name, _, command = other.partition("=")
-        programs[name] = shlex.split(command)
-    stream = ["--stream"] if asked.ahead is None else ["--stream", str(asked.ahead)]
-    with tempfile.TemporaryDirectory() as folder:
-        launch = launcher(pathlib.Path(folder))
-        paths = sorted(asked.folder.glob("*.tsv"))
-        held = []
-        for path in paths:
-            held.append(compare(launch, path, programs, asked.rounds))
+    arguments = building.parser(__doc__, ROUNDS)
+    arguments.add_argument("--plans", action="store_true", help="all plans too")
+    asked = arguments.parse_args()
+    bars = measuring.Bars()
+    with building.builder(asked) as build, measuring.launcher() as launch:
+        tabprint, baseline = build.of_repository("tabprint"), build.baseline()
+        programs = {"tabprint": [tabprint], "column": COLUMN, "baseline": [baseline]}
+        for path in generate.write(build.folder / "inputs"):
+            compare(bars, launch, path, programs, asked.rounds)
             if asked.plans:
-                held.append(
-                    compare_plans(launch, path, asked.program, programs["baseline"], stream, asked.rounds)
-                )
-    sys.exit(0 if held and all(held) else 1)
+                compare_plans(bars, launch, path, tabprint, baseline, asked.rounds)
+    bars.end()
 
 
 main()

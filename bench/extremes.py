@@ -1,17 +1,22 @@
 #!/usr/bin/env python3
-"""Writes what becomes of tables that are set by 0, 1 and the greatest `usize`, alone and in pairs: the lines that the program `test_cases` reads.
+"""Writes what becomes of tables that are set by 0, 1 and the greatest `usize`, alone and in pairs: the
+lines of `crates/test_cases/data/extremes`, which the program `test_cases` checks.
 
-usage: extremes.py [all] >crates/test_cases/data/extremes
+usage: extremes.py [--all | --check]
 
-Each line has the kind of a table, what is set around its cells, its other settings, and what is wanted, between bars. The table always has
-the cells a and bb, and below them ccc and an empty one. What is wanted is worked out here, with numbers of any size, from the
-rules of sizes and refusals, and not from what the library answers: whether an option is refused, the totals, and what is
-answered by a print to a writer with room for 1,000 bytes, with the bytes that are out then. Of two options, one after the other, each
-eleventh pair is written, or with `all` each.
+Each line has the kind of a table, what is set around its cells, its other settings, and what is wanted,
+between bars. The table always has the cells a and bb, and below them ccc and an empty one. What is wanted
+is worked out here, with numbers of any size, from the rules of sizes and errors, and not from what the
+library returns: whether an option fails, the totals, and what a print to a writer of 1,000 bytes returns,
+with the bytes that are out then. Of two options, one after the other, each eleventh pair is written, or
+with --all each. With --check nothing is written, and the exit status is 1 if the file has other lines.
 """
 
 import itertools
+import pathlib
 import sys
+
+FILE = pathlib.Path(__file__).resolve().parent.parent / "crates" / "test_cases" / "data" / "extremes"
 
 MAX = 2**64 - 1
 ROOM = 1000
@@ -354,12 +359,13 @@ def table_line(steps):
     return f"table |  | {'; '.join(name for name, _ in steps)} | {wanted}"
 
 
-def tables():
+def tables(each):
+    """Tables of one option, and of each of so many pairs of options."""
     every = list(options())
     for first in every:
         yield table_line([first])
     pairs = itertools.product(every, repeat=2)
-    for first, second in pairs if sys.argv[1:] == ["all"] else itertools.islice(pairs, 0, None, 11):
+    for first, second in itertools.islice(pairs, 0, None, each):
         yield table_line([first, second])
 
 
@@ -545,10 +551,22 @@ def batches():
         yield f"batches |  | {word(begin)} {word(end)} {word(batch)} | {' '.join(['begins', *map(str, places)])}"
 
 
+def written(each):
+    """All lines, with each of so many pairs."""
+    yield from tables(each)
+    for kind in (sided_tables, looks, capacities, streams, compacts, boxes, records, batches):
+        yield from kind()
+
+
 def main():
-    for kind in (tables, sided_tables, looks, capacities, streams, compacts, boxes, records, batches):
-        for line in kind():
-            print(line)
+    arguments = sys.argv[1:]
+    if arguments not in ([], ["--all"], ["--check"]):
+        sys.exit(__doc__)
+    lines = list(written(1 if arguments == ["--all"] else 11))
+    if arguments != ["--check"]:
+        print(*lines, sep="\n")
+    elif lines != FILE.read_text().splitlines():
+        sys.exit(f"{FILE.name} has other lines")
 
 
 if __name__ == "__main__":

@@ -9,7 +9,9 @@ WORDS = (
     "amber basin cedar delta ember fjord grove haven inlet jetty knoll ledge mesa nook oasis "
     "plain quay ridge shoal tarn upland vale weir yard"
 ).split()
-CYRILLIC = "север ветер гора долина ель заря искра камень луг море небо озеро поле река снег".split()
+CYRILLIC = (
+    "север ветер гора долина ель заря искра камень луг море небо озеро поле река снег"
+).split()
 CHINESE = "山 水 木 火 土 金 天 地 人 风 云 雨 雪 河 海 林 石 田 日 月".split()
 
 
@@ -38,16 +40,18 @@ FILES = {
 }
 
 
-def main():
-    if len(sys.argv) != 2:
-        sys.exit("usage: generate.py FOLDER")
-    folder = pathlib.Path(sys.argv[1])
+def write(folder):
+    """Writes the files to a folder, and returns their paths."""
     folder.mkdir(parents=True, exist_ok=True)
     for name, (rows, columns, cell) in FILES.items():
         rng = random.Random(f"fanlightnard {name}")
         with open(folder / name, "w", encoding="utf-8", newline="\n") as file:
             for _ in range(rows):
                 file.write("\t".join(cell(rng) for _ in range(columns)) + "\n")
+    return [folder / name for name in FILES]
 
 
-main()
+if __name__ == "__main__":
+    if len(sys.argv) != 2:
+        sys.exit("usage: generate.py FOLDER")
+    write(pathlib.Path(sys.argv[1]))

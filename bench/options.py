@@ -1,44 +1,43 @@
 #!/usr/bin/env python3
-"""Times the options of whole tables, over the files that `generate.py` writes and parts of them.
+"""Times the options of whole tables, over the files of generate.py and parts of them.
 
-usage: options.py [--narrowing | --plans TABPRINT] [FOLDER]
+A small program runs on the first tenth and third of the rows of each file, and on all of them, in
+interleaved rounds; it makes three of each option. Each table is narrowed to half of its total width and
+widened to twice of it, made half and twice as high, its texts are made 8 columns wide, lists of sizes are
+stored, and padding and a margin are set. The greatest columns shrink first, and the least grow first; rows
+change one after the other, and by their heights too. The copies that are changed are made beforehand, and
+dropped after a call's time.
 
-A small program is written into FOLDER (else a temporary folder) beside copies of the crates, built with `rt run`, and
-run on the first tenth and third of the rows of each file, and on all of them, in interleaved rounds. Each table is narrowed to
-half of its total width and widened to twice of it, made half and twice as high, its texts are made 8 columns wide, lists of sizes
-are stored, and padding and a margin are set. The greatest columns shrink first, and the least grow first; rows change one
-after the other, and by their heights too. The copies that are changed are made beforehand, and let go behind a call's time.
-Printed are the processor times of the thread (user and system), as Linux keeps them: the shortest in milliseconds, and the median in
-nanoseconds a byte of the texts, which stays the same where a call is linear in them; and whether the bar holds: narrowing all rows of
-short cells takes at most a third more time a byte than the first tenth of them, by the median over the rounds of the shares of the shortest times.
-With --narrowing the tables of short cells are narrowed, in more rounds, and nothing else is done. With --plans all tables are, and
-TABPRINT, the built program, does the same to each file from its first byte to its last. Printed are the shortest times of the call and
-of the program, and whether the call takes at most 1.3 times as long.
+Printed are the processor times of the thread (user and system), as Linux keeps them: the shortest in
+milliseconds, and the shortest and the median in nanoseconds a byte of the texts, which stay the same where
+a call is linear in them. The bar: narrowing all rows of short cells takes at most a third more time a byte
+than the first tenth of them, by the median over the rounds of the shares of the shortest times.
+
+With --narrowing the tables of short cells are narrowed, in 25 rounds, and nothing else is done. With
+--plans all tables are narrowed, in 5 rounds, and `tabprint` does the same to each file from its first byte
+to its last. Printed are the shortest times of the call and of the program, and the share; the bar is for
+the greatest share.
 """
 
 import collections
-import os
-import pathlib
-import resource
 import statistics
 import subprocess
-import sys
-import tempfile
 
 import building
+import generate
+import measuring
 
-FILES = ("long.tsv", "short.tsv", "wide.tsv", "mixed.tsv")
 PARTS = (10, 3, 1)
-ROUNDS = 5
-NARROWING_ROUNDS = 25
+ROUNDS, NARROWING_ROUNDS, PLAN_ROUNDS = 15, 25, 5
 
-# The calls for which a bar is set.
+# The calls for which a bar is set, and the most time a byte of all rows, of a byte of the first tenth.
 NARROWING = ("wrap", "truncate", "truncate,ended")
+SHORT = "short"
+GROWTH = 4 / 3
 
-# The arguments that have the program do what a call does, and how long the call may take, as a multiple of its time.
+# The arguments with which the program does what a call does, and the greatest share of its time.
 PLANS = {"wrap": ["--wrap"], "wrap,words": ["--words", "--wrap"], "truncate": ["--cut"]}
-PLAN_ROUNDS = 15
-PLAN_SHARE = 1.3
+PLAN_SHARE = 1.2
 
 PROGRAM = """\
 //! Times options on the table of tab-separated rows on standard input.
@@ -169,7 +168,7 @@ def part(data, divisor):
     return b"".join(rows[: len(rows) // divisor])
 
 
-def measure(program, data, words):
+def times_of(program, data, words):
     """The times of each call in one run, in nanoseconds."""
     run = subprocess.run([program, *words], input=data, capture_output=True, check=True)
     found = collections.defaultdict(list)
@@ -179,83 +178,88 @@ def measure(program, data, words):
     return found
 
 
-def measured(program, data, words, rounds):
-    """The rows of each part, and the times of each call over them, for each round."""
-    parts = {divisor: (part(data, divisor), []) for divisor in PARTS}
-    for _ in range(rounds):
-        for rows, found in parts.values():
-            found.append(measure(program, rows, words))
-    return parts
+def measure(program, data, words, rounds):
+    """The bytes of each part, and the times of each call over it, for each round."""
+    parts = {divisor: part(data, divisor) for divisor in PARTS}
+    calls = {it: lambda it=it: times_of(program, parts[it], words) for it in PARTS}
+    found = measuring.interleaved(rounds, calls)
+    return {divisor: (len(parts[divisor]), found[divisor]) for divisor in PARTS}
 
 
-def tell(file, parts):
-    for rows, found in parts.values():
+def show(file, parts):
+    for size, found in parts.values():
         for name in found[0]:
             times = [time for of_round in found for time in of_round[name]]
-            median = statistics.median(times) / len(rows)
-            print(f"{file:10} {len(rows):10,} {name:14} {min(times) / 1e6:8.2f} {median:9.2f}")
+            least, median = min(times), statistics.median(times)
+            print(
+                f"{file:6} {size:10,} {name:14} {least / 1e6:8.2f} ms"
+                f" {least / size:8.2f} ns a byte, median {median / size:8.2f}",
+                flush=True,
+            )
 
 
-def judge(parts):
+def judge(bars, parts):
     """Whether all rows of short cells are narrowed in hardly more time a byte than some of them."""
-    few_rows, few = parts[PARTS[0]]
-    all_rows, everything = parts[PARTS[-1]]
+    few_bytes, few = parts[PARTS[0]]
+    all_bytes, everything = parts[PARTS[-1]]
     for call in NARROWING:
-        share = statistics.median(min(many[call]) / min(some[call]) for some, many in zip(few, everything))
-        share *= len(few_rows) / len(all_rows)
-        print(f"{call} takes at most a third more time a byte: {'yes' if share <= 4 / 3 else 'NO'} ({share:.2f})")
+        shares = [min(many[call]) / min(some[call]) for some, many in zip(few, everything)]
+        bars.at_most(f"{call}, a byte of all", statistics.median(shares) * few_bytes / all_bytes, GROWTH)
 
 
-def time_of(command, data):
-    """The processor time of a program, in nanoseconds."""
-    before = resource.getrusage(resource.RUSAGE_CHILDREN)
-    subprocess.run(command, input=data, stdout=subprocess.DEVNULL, check=True)
-    after = resource.getrusage(resource.RUSAGE_CHILDREN)
-    return ((after.ru_utime - before.ru_utime) + (after.ru_stime - before.ru_stime)) * 1e9
+def measure_options(bars, program, paths, alone, rounds):
+    for path in paths:
+        if alone and path.stem != SHORT:
+            continue
+        parts = measure(program, path.read_bytes(), ["narrowing"] if alone else [], rounds)
+        show(path.stem, parts)
+        if path.stem == SHORT:
+            judge(bars, parts)
 
 
-def compare_plans(program, tabprint, folder):
-    """Prints for each file and call its time and that of the program. Returns whether the bar holds for all."""
-    held = []
-    for file in FILES:
-        data = (folder / file).read_bytes()
-        width = subprocess.run([tabprint], input=data, capture_output=True, check=True).stdout.index(b"\n")
-        calls, plans = collections.defaultdict(list), collections.defaultdict(list)
-        for _ in range(PLAN_ROUNDS):
-            for name, times in measure(program, data, ("narrowing",)).items():
-                calls[name] += times
-            for name, words in PLANS.items():
-                plan = [tabprint, *words, str(width // 2), "--priority", "max"]
-                plans[name].append(time_of(plan, data))
+def plan_calls(launch, program, tabprint, path):
+    """One run of the small program, and one of `tabprint` for each plan, which returns its nanoseconds."""
+    data = path.read_bytes()
+    width = str(measuring.output([tabprint], path).index(b"\n") // 2)
+
+    def plan(words):
+        return launch.run([tabprint, *words, width, "--priority", "max"], path)[0] * 1e9
+
+    calls = {name: lambda words=words: plan(words) for name, words in PLANS.items()}
+    return {"calls": lambda: times_of(program, data, ["narrowing"]), **calls}
+
+
+def compare_plans(bars, launch, program, tabprint, paths, rounds):
+    shares = []
+    for path in paths:
+        found = measuring.interleaved(rounds, plan_calls(launch, program, tabprint, path))
         for name in PLANS:
-            call, plan = min(calls[name]), min(plans[name])
-            held.append(call <= PLAN_SHARE * plan)
-            kept = "yes" if held[-1] else "NO"
-            print(f"{file:10} {name:11} {call / 1e6:7.1f} {plan / 1e6:7.1f}   {call / plan:.2f} of {PLAN_SHARE} {kept}", flush=True)
-    return all(held)
+            call = min(time for times in found["calls"] for time in times[name])
+            plan = min(found[name])
+            shares.append(call / plan)
+            times = f"{call / 1e6:7.1f} ms of {plan / 1e6:7.1f} ms"
+            print(f"{path.stem:6} {name:11} {times}, x{shares[-1]:.2f}", flush=True)
+    bars.at_most("the greatest share of the program's time", max(shares), PLAN_SHARE)
 
 
 def main():
-    here = pathlib.Path(__file__).resolve().parent
-    tabprint = None
-    if "--plans" in sys.argv:
-        at = sys.argv.index("--plans")
-        tabprint = os.path.abspath(sys.argv[at + 1])
-        del sys.argv[at : at + 2]
-    alone = "--narrowing" in sys.argv
-    sys.argv = [word for word in sys.argv if word != "--narrowing"]
-    files, words, rounds = (("short.tsv",), ("narrowing",), NARROWING_ROUNDS) if alone else (FILES, (), ROUNDS)
-    with tempfile.TemporaryDirectory() as data_folder:
-        subprocess.run([sys.executable, here / "generate.py", data_folder], check=True)
-        with building.program(__doc__, "option_times", building.TABLED, {"src/main.rt": PROGRAM}) as program:
-            if tabprint:
-                sys.exit(0 if compare_plans(program, tabprint, pathlib.Path(data_folder)) else 1)
-            print(f"{'file':10} {'bytes':>10} {'call':14} {'ms':>8} {'ns a byte':>9}")
-            for file in files:
-                parts = measured(program, (pathlib.Path(data_folder) / file).read_bytes(), words, rounds)
-                tell(file, parts)
-                if file == "short.tsv":
-                    judge(parts)
+    arguments = building.parser(__doc__)
+    arguments.add_argument("--rounds", type=int, help="else 15, 25 or 5, as above")
+    way = arguments.add_mutually_exclusive_group()
+    way.add_argument("--narrowing", action="store_true")
+    way.add_argument("--plans", action="store_true")
+    asked = arguments.parse_args()
+    usual = PLAN_ROUNDS if asked.plans else NARROWING_ROUNDS if asked.narrowing else ROUNDS
+    rounds = asked.rounds or usual
+    bars = measuring.Bars()
+    with building.builder(asked) as build, measuring.launcher() as launch:
+        program = build.small("option_times", building.TABLED, {"src/main.rt": PROGRAM})
+        paths = generate.write(build.folder / "inputs")
+        if asked.plans:
+            compare_plans(bars, launch, program, build.of_repository("tabprint"), paths, rounds)
+        else:
+            measure_options(bars, program, paths, asked.narrowing, rounds)
+    bars.end()
 
 
 main()

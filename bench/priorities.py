@@ -1,20 +1,27 @@
 #!/usr/bin/env python3
 """Counts the steps and times the calls of the five priorities over 10 to 10,000 columns.
 
-usage: priorities.py [FOLDER]
-
-A small program is written into FOLDER (else a temporary folder) beside copies of the crates, built with
-`rt run`, and its rows are printed: steps and median microseconds of shrinking and growing by 1, a million,
-10^12 and 10^15. A step is one visit of one column.
+A small program prints the steps and the nanoseconds of shrinking and growing by 1, a million, 10^12 and
+10^15, and here each has a row with the median. A step is one visit of one column. Then the bars: the most
+visits of a column, by any call, and the most milliseconds over 10,000 columns.
 
 Sizes are random numbers of all magnitudes up to 10^15, hardly two of them equal; minimums are 1.
 """
 
 import collections
 import statistics
-import subprocess
 
 import building
+import measuring
+
+ROUNDS = 5
+
+# The most visits of a column. They are the same in each run.
+VISITS = {"shrink": 35, "grow": 29}
+
+# The most milliseconds over the most columns.
+MOST_COLUMNS = 10_000
+MILLISECONDS = 1.4
 
 CRATES = building.standing_on("tabled_priority")
 
@@ -27,7 +34,7 @@ use std::alloc::{AllocError, Global};
 use std::time::Instant;
 use tabled_priority::{Peaker, Priority, Steps};
 
-const ROUNDS: usize = 5;
+const ROUNDS: usize = @ROUNDS@;
 
 fn fits(values: &[usize], by: usize) -> bool
     ensures { IsTrue result → sum values.now + by < 2 ^ 64 }
@@ -126,25 +133,50 @@ returns c =
 """
 
 
+def found_by(program):
+    """The visits and the nanoseconds of each round of each call."""
+    found = collections.defaultdict(list)
+    for row in measuring.output([program]).decode().splitlines():
+        name, call, count, by, visits, time, _moved = row.split()
+        found[name, call, int(count), int(by)].append((int(visits), int(time)))
+    return found
+
+
+def show(found):
+    head = f"{'priority':14} {'columns':>7} {'amount':>21} {'steps':>9} {'a column':>8}"
+    print(f"{head} {'of 8(c+1)(c+1)':>15} {'us':>9}")
+    for (name, call, count, by), rounds in sorted(found.items()):
+        visits = rounds[0][0]
+        time = statistics.median(time for _visits, time in rounds)
+        row = f"{name + ' ' + call:14} {count:7} {by:21,} {visits:9,} {visits / count:8.1f}"
+        print(f"{row} {visits / (8 * (count + 1) * (count + 1)):15.2f} {time / 1000:9.1f}")
+
+
+def judge(bars, found):
+    for call, most in VISITS.items():
+        visits = [rounds[0][0] / count for (_, named, count, _), rounds in found.items() if named == call]
+        bars.at_most(f"{call}, visits of a column", max(visits), most)
+    times = [
+        statistics.median(time for _visits, time in rounds)
+        for (_, _, count, _), rounds in found.items()
+        if count == MOST_COLUMNS
+    ]
+    bars.at_most(f"{MOST_COLUMNS} columns, ms", max(times) / 1e6, MILLISECONDS)
+
+
 def main():
+    asked = building.parser(__doc__, ROUNDS).parse_args()
+    bars = measuring.Bars()
     files = {
-        "src/main.rt": PROGRAM,
+        "src/main.rt": PROGRAM.replace("@ROUNDS@", str(asked.rounds)),
         "proofs/fits/Invariants.antt": INVARIANTS,
         "proofs/fits/Answers.antt": ANSWERS,
     }
-    with building.program(__doc__, "size_times", CRATES, files) as program:
-        run = subprocess.run([program], stdin=subprocess.DEVNULL, capture_output=True, check=True)
-    found = collections.defaultdict(list)
-    for row in run.stdout.decode().splitlines():
-        name, call, count, by, visits, time, _moved = row.split()
-        found[name, call, int(count), int(by)].append((int(visits), int(time)))
-    print(f"{'priority':14} {'columns':>7} {'amount':>18} {'steps':>9} {'a column':>8} {'of 8(c+1)(c+1)':>15} {'us':>9}")
-    for (name, call, count, by), rounds in sorted(found.items()):
-        visits = rounds[0][0]
-        bound = 8 * (count + 1) * (count + 1)
-        time = statistics.median(time for _visits, time in rounds)
-        row = f"{name + ' ' + call:14} {count:7} {by:18,} {visits:9,} {visits / count:8.1f}"
-        print(f"{row} {visits / bound:15.2f} {time / 1000:9.1f}")
+    with building.builder(asked) as build:
+        found = found_by(build.small("size_times", CRATES, files))
+    show(found)
+    judge(bars, found)
+    bars.end()
 
 
 main()

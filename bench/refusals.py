@@ -1,23 +1,28 @@
 #!/usr/bin/env python3
-"""Has each growth of a call refused in turn, and judges what the call answers and leaves.
+"""Makes each allocation of each call fail in turn, and checks what the call returns and leaves.
 
-usage: refusals.py TEST_CASES TABPRINT
+A small library before the C library's allocator counts the allocations, and has the one with a given
+number fail: this script builds it with `cc`. Each call that `test_cases names` lists is made anew with its
+first allocation failing, its second, and so on, until a run needs fewer. `test_cases` itself compares what
+is left with what has to be left; here its outcomes are counted: `refused` (with Memory, and the state that
+is wanted), `whole` (it does without that allocation), and `elsewhere` (the allocation was one of the setup
+or of the check, before or after the call). `tabprint` is run so over two inputs for each list of arguments:
+it has to end with Memory after a beginning of its output, or with all of it.
 
-The two programs are built ones. A small library before the C library's allocator counts the calls that ask for memory, and refuses the
-one with a given number: this script builds it with `cc`. Each call that `TEST_CASES names` lists is made anew with its first growth refused,
-its second, and so on, until a run needs fewer growths than that. TEST_CASES itself compares what is left with what has to be left; here its
-answers are counted: `refused` (with Memory, and the state that is wanted), `whole` (it does what it is for without that growth), and
-`elsewhere` (the growth was refused while the call was prepared or its answer was judged). TABPRINT is run so over an input for each list of
-words: it has to answer Memory with a beginning of its output, or all of it. Whatever else is found is told, and the status is 1.
+Printed are the counts of each call and run, those of each kind of call, and the calls of which no
+allocation was one of their own. The exit status is 1 if anything else is found.
 """
 
-import pathlib
+import collections
 import subprocess
-import sys
-import tempfile
 
-# More growths than any of the calls takes.
+import building
+import measuring
+
+# More allocations than any of the calls makes.
 MOST = 10_000
+
+OUTCOMES = ("refused", "whole", "elsewhere")
 
 ALLOCATOR = r"""
 #include <errno.h>
@@ -29,21 +34,21 @@ void *__libc_calloc(size_t, size_t);
 void *__libc_realloc(void *, size_t);
 void *__libc_memalign(size_t, size_t);
 
-static unsigned long growths;
-static unsigned long refused;
+static unsigned long allocations;
+static unsigned long failing;
 
 __attribute__((constructor)) static void begin(void) {
-    const char *number = getenv("REFUSED_GROWTH");
-    refused = number ? strtoul(number, 0, 10) : 0;
-    growths = 0;
+    const char *number = getenv("FAILING_ALLOCATION");
+    failing = number ? strtoul(number, 0, 10) : 0;
+    allocations = 0;
 }
 
-/* The number of growths goes into a file, of which none is refused. */
+/* The number of allocations goes into a file, and none of its own fails. */
 __attribute__((destructor)) static void end(void) {
     char line[32];
-    refused = 0;
-    int length = snprintf(line, sizeof line, "growths %lu\n", growths);
-    const char *name = getenv("GROWTHS");
+    failing = 0;
+    int length = snprintf(line, sizeof line, "allocations %lu\n", allocations);
+    const char *name = getenv("ALLOCATIONS");
     FILE *file = name ? fopen(name, "w") : 0;
     if (file && length > 0) {
         fwrite(line, 1, length, file);
@@ -51,29 +56,29 @@ __attribute__((destructor)) static void end(void) {
     }
 }
 
-static int refuses(void) {
-    growths++;
-    if (growths == refused)
+static int fails(void) {
+    allocations++;
+    if (allocations == failing)
         errno = ENOMEM;
-    return growths == refused;
+    return allocations == failing;
 }
 
-void *malloc(size_t size) { return refuses() ? 0 : __libc_malloc(size); }
-void *calloc(size_t count, size_t size) { return refuses() ? 0 : __libc_calloc(count, size); }
-void *realloc(void *old, size_t size) { return refuses() ? 0 : __libc_realloc(old, size); }
-void *memalign(size_t align, size_t size) { return refuses() ? 0 : __libc_memalign(align, size); }
-void *aligned_alloc(size_t align, size_t size) { return refuses() ? 0 : __libc_memalign(align, size); }
+void *malloc(size_t size) { return fails() ? 0 : __libc_malloc(size); }
+void *calloc(size_t count, size_t size) { return fails() ? 0 : __libc_calloc(count, size); }
+void *realloc(void *old, size_t size) { return fails() ? 0 : __libc_realloc(old, size); }
+void *memalign(size_t align, size_t size) { return fails() ? 0 : __libc_memalign(align, size); }
+void *aligned_alloc(size_t align, size_t size) { return fails() ? 0 : __libc_memalign(align, size); }
 
 int posix_memalign(void **place, size_t align, size_t size) {
-    if (refuses())
+    if (fails())
         return ENOMEM;
     *place = __libc_memalign(align, size);
     return *place ? 0 : ENOMEM;
 }
 """
 
-# What is printed of each list of words.
-LINES = [
+# The lists of arguments of `tabprint`.
+PLANS = [
     "",
     "--stream",
     *(f"--wrap {columns}{words}" for columns in (9, 40) for words in ("", " --words")),
@@ -86,100 +91,126 @@ LINES = [
 
 INPUTS = {
     "two rows": "a\tbb\nccc\t\n",
-    "texts": "city\tpeople\tstands on\nЧелябинск\t1 100 000\tMiass, behind the Ural\n北京\t21 893 095\nHamburg\t1 787 000\tElbe\n" * 3,
+    "texts": (
+        "city\tpeople\tstands on\nЧелябинск\t1 100 000\tMiass, behind the Ural\n"
+        "北京\t21 893 095\nHamburg\t1 787 000\tElbe\n"
+    )
+    * 3,
 }
 
 
-class Refuser:
-    """Runs programs before the allocator that refuses."""
+class Failing:
+    """Runs programs before the allocator that fails."""
 
     def __init__(self, folder):
-        self.library = folder / "refusing.so"
-        self.counted = folder / "growths"
-        source = folder / "refusing.c"
+        self.library = folder / "failing.so"
+        self.counted = folder / "allocations"
+        source = folder / "failing.c"
         source.write_text(ALLOCATOR)
-        subprocess.run(["cc", "-O1", "-shared", "-fPIC", "-o", self.library, source], check=True)
+        compiler = ["cc", "-O1", "-Werror", "-shared", "-fPIC"]
+        subprocess.run([*compiler, "-o", self.library, source], check=True)
 
-    def run(self, words, number, text=""):
-        """The finished process, and how many growths it asked for."""
-        environment = {"LD_PRELOAD": str(self.library), "REFUSED_GROWTH": str(number), "GROWTHS": str(self.counted)}
+    def run(self, command, number, text=""):
+        """The finished process, and how many allocations it made, or the number if it didn't end by itself."""
+        environment = {
+            "LD_PRELOAD": str(self.library),
+            "FAILING_ALLOCATION": str(number),
+            "ALLOCATIONS": str(self.counted),
+        }
         self.counted.unlink(missing_ok=True)
-        done = subprocess.run(words, input=text.encode(), capture_output=True, env=environment, timeout=60)
-        return done, int(self.counted.read_text().split()[1])
+        done = subprocess.run(command, input=text.encode(), capture_output=True, env=environment, timeout=60)
+        made = int(self.counted.read_text().split()[1]) if self.counted.exists() else number
+        return done, made
+
+    def sweep(self, command, text, outcome):
+        """The outcomes with each allocation failing in turn, counted, the number of allocations if none
+        fails, and the outcome of the last run, which made fewer than the number that was to fail."""
+        counts = collections.Counter()
+        whole, allocations = self.run(command, 0, text)
+        for number in range(1, MOST):
+            done, made = self.run(command, number, text)
+            if made < number:
+                return counts, allocations, outcome(whole, done)
+            counts[outcome(whole, done)] += 1
+        return counts, allocations, "no end"
 
 
-def call_answer(done):
-    """What the program says of a call. A growth that its own words or lines need ends it with the status 1."""
+def call_outcome(_whole, done):
+    """What the program says of a call. An allocation that its own arguments or lines need ends it with 1."""
     said = done.stdout.decode().strip()
     if done.returncode == 0:
         return said
-    return "elsewhere" if done.returncode == 1 and not said and done.stderr else f"status {done.returncode}: {said}"
+    if done.returncode == 1 and not said and done.stderr:
+        return "elsewhere"
+    return f"status {done.returncode}: {said}"
 
 
-def sweep(refuser, words, text, judge):
-    """The answers with each growth refused in turn, counted, and the number of growths without any refused."""
-    counts = {}
-    done, growths = refuser.run(words, 0, text)
-    whole = done
-    for number in range(1, MOST):
-        done, asked = refuser.run(words, number, text)
-        if asked < number:
-            return counts, growths, judge(whole, done)
-        answer = judge(whole, done)
-        counts[answer] = counts.get(answer, 0) + 1
-    return counts, growths, "no end"
-
-
-def tell(name, counts, growths, last, allowed):
-    """Prints a line, and answers whether it is as it has to be."""
-    shown = ", ".join(f"{count} {answer}" for answer, count in sorted(counts.items()))
-    right = last == "whole" and set(counts) <= allowed and sum(counts.values()) >= growths
-    print(f"{name}: {growths} growths: {shown}" + ("" if right else f"; WRONG, and at the end {last}"))
-    return right
-
-
-def try_calls(refuser, test_cases):
-    """Each call by itself. Those that take no memory, and a compact table into a room, may not meet a refusal."""
-    right = True
-    names = subprocess.run([test_cases, "names"], capture_output=True, text=True, check=True).stdout
-    for line in names.splitlines():
-        kind, number, name = line.split(" ", 2)
-        spares = kind == "sparing" or (kind, name) == ("room", "Compact")
-        allowed = {"elsewhere"} if spares else {"elsewhere", "refused", "whole"}
-        found = sweep(refuser, [test_cases, kind, number], "", lambda _, done: call_answer(done))
-        right = tell(f"{kind}, {name}", *found, allowed) and right
-    return right
-
-
-def run_answer(whole, done):
+def run_outcome(whole, done):
     """What became of a run: the word Memory and a beginning of the output, or all of it."""
     if (done.returncode, done.stdout, done.stderr) == (0, whole.stdout, b""):
         return "whole"
     if (done.returncode, done.stderr) == (1, b"Memory\n") and whole.stdout.startswith(done.stdout):
-        return "refused" if not done.stdout else "refused behind a beginning"
+        return "refused"
     return f"status {done.returncode}, {done.stderr}"
 
 
-def try_runs(refuser, tabprint):
-    right = True
-    for (name, text) in INPUTS.items():
-        for line in LINES:
-            found = sweep(refuser, [tabprint, *line.split()], text, run_answer)
-            allowed = {"whole", "refused", "refused behind a beginning"}
-            right = tell(f"tabprint {line}, {name}".replace(" ,", ","), *found, allowed) and right
-    return right
+def check(bars, name, found, allowed):
+    """Prints the counts of a call or a run, and whether they are as they have to be. Returns them."""
+    counts, allocations, last = found
+    shown = ", ".join(f"{count} {outcome}" for outcome, count in sorted(counts.items()))
+    right = last == "whole" and set(counts) <= allowed and sum(counts.values()) >= allocations
+    end = "" if right else f"; at the end {last}"
+    bars.true(f"{name}: {allocations} allocations: {shown}{end}", right)
+    return counts
+
+
+def try_calls(bars, failing, test_cases):
+    """Each call. Those that don't allocate, and a compact table into a buffer, may not fail."""
+    kinds = collections.defaultdict(collections.Counter)
+    untested = []
+    for line in measuring.output([test_cases, "names"]).decode().splitlines():
+        kind, number, name = line.split(" ", 2)
+        spares = kind == "sparing" or (kind, name) == ("room", "Compact")
+        allowed = {"elsewhere"} if spares else set(OUTCOMES)
+        found = failing.sweep([test_cases, kind, number], "", call_outcome)
+        counts = check(bars, f"{kind}, {name}", found, allowed)
+        kinds[kind] += counts + collections.Counter(calls=1)
+        if not spares and not counts["refused"] + counts["whole"]:
+            untested.append(f"{kind}, {name}")
+    show_kinds(kinds)
+    count = f"calls that may fail, and of which no allocation was their own: {len(untested)}"
+    print(count, *untested, sep="\n  ")
+
+
+def show_kinds(kinds):
+    """How many allocations failed where, for each kind of call and for all."""
+    kinds["all"] = sum(kinds.values(), collections.Counter())
+    outcomes = "".join(f"{outcome:>11}" for outcome in OUTCOMES)
+    print(f"{'kind':12} {'calls':>6} {'allocations':>12}{outcomes}")
+    for kind, counts in kinds.items():
+        allocations = counts.total() - counts["calls"]
+        outcomes = "".join(f"{counts[outcome]:11,}" for outcome in OUTCOMES)
+        print(f"{kind:12} {counts['calls']:6,} {allocations:12,}{outcomes}")
+
+
+def try_runs(bars, failing, tabprint):
+    all_counts = collections.Counter()
+    for name, text in INPUTS.items():
+        for plan in PLANS:
+            found = failing.sweep([tabprint, *plan.split()], text, run_outcome)
+            command = f"tabprint {plan}".rstrip()
+            all_counts += check(bars, f"{command}, {name}", found, {"whole", "refused"})
+    print(f"tabprint: {all_counts.total():,} allocations: {dict(all_counts)}")
 
 
 def main():
-    if len(sys.argv) != 3:
-        sys.exit(__doc__)
-    test_cases, tabprint = map(str, map(pathlib.Path.resolve, map(pathlib.Path, sys.argv[1:])))
-    with tempfile.TemporaryDirectory() as folder:
-        refuser = Refuser(pathlib.Path(folder))
-        calls = try_calls(refuser, test_cases)
-        runs = try_runs(refuser, tabprint)
-    sys.exit(0 if calls and runs else 1)
+    asked = building.parser(__doc__).parse_args()
+    bars = measuring.Bars()
+    with building.builder(asked) as build:
+        failing = Failing(build.folder)
+        try_calls(bars, failing, build.of_repository("test_cases"))
+        try_runs(bars, failing, build.of_repository("tabprint"))
+    bars.end()
 
 
-if __name__ == "__main__":
-    main()
+main()

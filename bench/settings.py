@@ -1,31 +1,34 @@
 #!/usr/bin/env python3
-"""Times the printing of tables with settings of their columns, rows or cells, of long cells, and with stored sizes.
+"""Times the printing of tables with settings of their columns, rows or cells, of long cells, and with
+stored sizes.
 
-usage: settings.py [--instructions | --shares] [--columns N] [--tall] [FOLDER]
+A small program prints tables of words into a text that is large enough from the second round on. Printed
+are the medians and the shortest of its 15 rounds: the time a printed byte, which may grow with no more than
+the logarithm of the settings, and the time a row of the table or a line of long cells, which stays the same
+where printing is linear; then the time that a setting took.
 
-A small program is written into FOLDER (else a temporary folder) beside copies of the crates, built with
-`rt run`, and run. Printed are the medians and the shortest of its rounds: the time a printed byte, which may grow with no more
-than the logarithm of the settings, and the time a row of the table or a line of long cells, which stays the
-same where printing is linear; then the time that a setting took. Tables are printed into a text that has
-room from the second round on.
+Tables of words have 100 columns, or as many as are given. An alignment or a padding was set for each
+column, row or cell, or one of 3 or 4 columns for all cells; an even one is the same of 4 columns for each,
+so that what is printed is that of the one for all; in the stored ones the estimated sizes were stored. With
+--tall one word of five has two lines, and so has each row of 3 columns and more. Long cells are of 5 to 15
+columns; 1, 100 or 1,000 of them make a row.
 
-Tables of words have N columns, 100 if nothing is said. An alignment or a padding was set for each column, for each row or for each cell by itself, or one of 3 or 4
-columns for all cells; an even one is the same of 4 columns for each, so that what is printed is that of the one for all; in the stored ones the estimated sizes were stored. With --tall one word of five has two lines, and so has each row of 3 columns and more. Long cells are of 5 to 15 columns; 1, 100 or 1,000 of them make a row.
-
-With --instructions the program runs under valgrind and prints tables of 1,000 rows; told are the instructions a cell. With --shares it
-prints them in interleaved runs, and their processor times are told as shares of that of the table with nothing set for a part that
-prints as many bytes, the median of the shares and the share of the shortest times: so what other machines of the same host take of its time hardly counts.
+With --instructions the program runs under valgrind and prints tables of 1,000 rows: the instructions a
+cell, and the share of those of a table that prints as many bytes with nothing set for a part. With --shares
+it prints them in 9 interleaved rounds: the shares of the processor time, the median of the shares and the
+share of the shortest times. All three have bars.
 """
 
 import collections
 import os
 import statistics
-import subprocess
-import sys
 
 import building
+import measuring
 
-# The columns of the tables of words, if nothing is said.
+ROUNDS = 9
+
+# The columns of the tables of words, if none are given.
 COLUMNS = 100
 
 # What is set in them; the program has the same.
@@ -56,6 +59,26 @@ ALIKE = {
 
 # The crates that the program names.
 USED = ("tabled_grid", "tabled_size", "tabled_config", "tabled_base")
+
+# The most instructions a cell with nothing set for a part, for these columns.
+NOTHING = {
+    100: {"estimated": 140, "stored": 220},
+    6: {"estimated": 205, "stored": 340},
+}
+
+# The time of a line of the longest table, of that of the shortest.
+GROWTH = 1.3
+
+# The greatest shares of instructions, and of time, of a table that prints as many bytes. Those of columns
+# and rows are to be 1.0 and those of cells 2.0: the rows of few columns miss that.
+SHARES = {
+    "aligned,columns": 1.05,
+    "padded,columns": 1.05,
+    "aligned,rows": 1.20,
+    "padded,rows": 1.20,
+    "aligned,cells": 1.40,
+    "padded,cells": 1.70,
+}
 
 PROGRAM = """\
 //! Times the printing of tables.
@@ -338,87 +361,109 @@ fn main(rt: HostRuntime) -> Result<(), anyhow::Error> {
 """
 
 
-def tell_times(program, columns):
-    run = subprocess.run([program], stdin=subprocess.DEVNULL, capture_output=True, check=True)
+def alike(kind):
+    return ALIKE.get(kind, "nothing")
+
+
+def show_times(bars, program, asked):
+    """All tables and rounds of the program."""
     found = collections.defaultdict(list)
     stored = ""
-    for row in run.stdout.decode().splitlines():
+    for row in measuring.output([program]).decode().splitlines():
         name, rows, size, time = row.split()
         if name in ("stored", "estimated"):
             stored = ",stored" if name == "stored" else ""
         else:
             found[name + stored, int(rows), int(size)].append(int(time))
-    print(f"{'table':23} {'rows or lines':>13} {'bytes':>10} {'ms':>8} {'shortest':>8} {'ns a byte':>9} {'us a line':>9}")
+    head = f"{'table':23} {'rows or lines':>13} {'bytes':>10} {'ms':>8} {'shortest':>8}"
+    print(f"{head} {'ns a byte':>9} {'us a line':>9}")
     for (name, rows, size), times in sorted(found.items()):
-        time = statistics.median(times)
-        if name == "setting":
-            print(f"{name:23} {rows:13,} {'':10} {time / 1e6:8.2f} {'':8} {time / rows / columns:9.1f} ns a setting")
-        else:
-            least = min(times)
-            print(f"{name:23} {rows:13,} {size:10,} {time / 1e6:8.2f} {least / 1e6:8.2f} {time / size:9.2f} {time / rows / 1000:9.3f}")
+        show_time(name, rows, size, times, asked.columns)
+    judge_growth(bars, found)
 
 
-def instructions(program, kind, sizes, rounds):
-    run = subprocess.run(
-        ["valgrind", "--tool=callgrind", "--callgrind-out-file=/dev/null", program, kind, sizes, str(rounds)],
-        stdin=subprocess.DEVNULL,
-        capture_output=True,
-        text=True,
-        check=True,
-    )
-    (told,) = (line for line in run.stderr.splitlines() if "Collected" in line)
-    return int(told.split()[-1])
+def show_time(name, rows, size, times, columns):
+    time, least = statistics.median(times), min(times)
+    if name == "setting":
+        print(f"{name:23} {rows:13,} {time / 1e6:8.2f} {time / rows / columns:9.1f} ns a setting")
+    else:
+        line = f"{name:23} {rows:13,} {size:10,} {time / 1e6:8.2f} {least / 1e6:8.2f}"
+        print(f"{line} {time / size:9.2f} {time / rows / 1000:9.3f}")
 
 
-def tell_instructions(program, columns):
+def judge_growth(bars, found):
+    lines = collections.defaultdict(dict)
+    for (name, rows, _), times in found.items():
+        if name != "setting":
+            lines[name][rows] = min(times) / rows
+    for name, times in sorted(lines.items()):
+        most, fewest = max(times), min(times)
+        what = f"{name}, a line of {most}, of one of {fewest}"
+        bars.at_most(what, times[most] / times[fewest], GROWTH)
+
+
+def show_instructions(bars, program, asked):
     for sizes in ("estimated", "stored"):
+        found = {}
         for kind in KINDS:
-            more = instructions(program, kind, sizes, 4) - instructions(program, kind, sizes, 2)
-            print(f"{kind:15} {sizes:9} {more / 2 / 1000 / columns:7.1f} instructions a cell")
+            twice, four = (measuring.instructions([program, kind, sizes, rounds]) for rounds in (2, 4))
+            found[kind] = (four - twice) / 2 / 1000 / asked.columns
+            print(f"{kind:15} {sizes:9} {found[kind]:7.1f} instructions a cell", flush=True)
+        if asked.columns in NOTHING and not asked.tall:
+            most = NOTHING[asked.columns][sizes]
+            bars.at_most(f"nothing, {sizes}, instructions a cell", found["nothing"], most)
+        for kind, most in SHARES.items():
+            bars.at_most(f"{kind}, {sizes}, of {alike(kind)}", found[kind] / found[alike(kind)], most)
 
 
 def processor_time(program, kind, sizes, rounds):
-    """The seconds of a processor that a run takes."""
+    """The seconds of a processor that a run takes, without another process, since the runs are short."""
     child = os.fork()
     if child == 0:
         os.dup2(os.open(os.devnull, os.O_WRONLY), 1)
-        os.execv(program, [program, kind, sizes, str(rounds)])
+        os.execv(program, [str(program), kind, sizes, str(rounds)])
     _, status, usage = os.wait4(child, 0)
     if status != 0:
-        sys.exit(f"{kind} {sizes} ended with {os.waitstatus_to_exitcode(status)}")
+        raise SystemExit(f"{kind} {sizes} ended with {os.waitstatus_to_exitcode(status)}")
     return usage.ru_utime + usage.ru_stime
 
 
-def tell_shares(program, columns):
-    rounds = max(200, 6000 // columns)
+def show_shares(bars, program, asked):
+    printed = max(200, 6000 // asked.columns)
     for sizes in ("estimated", "stored"):
-        found = collections.defaultdict(list)
-        for _ in range(9):
-            for kind in KINDS:
-                time = processor_time(program, kind, sizes, 20 + rounds) - processor_time(program, kind, sizes, 20)
-                found[kind].append(time)
+
+        def printing(kind):
+            long = processor_time(program, kind, sizes, 20 + printed)
+            return long - processor_time(program, kind, sizes, 20)
+
+        calls = {kind: lambda kind=kind: printing(kind) for kind in KINDS}
+        found = measuring.interleaved(asked.rounds, calls)
         for kind in KINDS:
-            bare = ALIKE.get(kind, "nothing")
-            share = statistics.median(time / alone for time, alone in zip(found[kind], found[bare]))
-            least = min(found[kind]) / min(found[bare])
-            print(f"{kind:15} {sizes:9} {share:5.2f} of the processor time of {bare}, {least:5.2f} of the shortest")
+            base = found[alike(kind)]
+            share = statistics.median(time / alone for time, alone in zip(found[kind], base))
+            least = min(found[kind]) / min(base)
+            of = f"of the processor time of {alike(kind)}"
+            print(f"{kind:15} {sizes:9} {share:5.2f} {of}, {least:5.2f} of the shortest", flush=True)
+            if kind in SHARES:
+                bars.at_most(f"{kind}, {sizes}", share, SHARES[kind])
 
 
 def main():
-    ways = {"--instructions": tell_instructions, "--shares": tell_shares}
-    asked = [word for word in sys.argv if word in ways]
-    sys.argv = [word for word in sys.argv if word not in ways]
-    columns = COLUMNS
-    if "--columns" in sys.argv:
-        place = sys.argv.index("--columns")
-        columns = int(sys.argv[place + 1])
-        del sys.argv[place : place + 2]
-    space = "\\n" if "--tall" in sys.argv else " "
-    sys.argv = [word for word in sys.argv if word != "--tall"]
-    source = PROGRAM.replace("@COLUMNS@", str(columns)).replace("@SPACE@", space)
+    arguments = building.parser(__doc__, ROUNDS)
+    way = arguments.add_mutually_exclusive_group()
+    way.add_argument("--instructions", dest="show", action="store_const", const=show_instructions)
+    way.add_argument("--shares", dest="show", action="store_const", const=show_shares)
+    arguments.add_argument("--columns", type=int, default=COLUMNS)
+    arguments.add_argument("--tall", action="store_true")
+    asked = arguments.parse_args()
+    bars = measuring.Bars()
+    space = "\\n" if asked.tall else " "
+    source = PROGRAM.replace("@COLUMNS@", str(asked.columns)).replace("@SPACE@", space)
     crates = building.standing_on("tabled_grid")
-    with building.program(__doc__, "setting_times", crates, {"src/main.rt": source}, USED) as program:
-        ways.get(asked[0] if asked else "", tell_times)(program, columns)
+    with building.builder(asked) as build:
+        program = build.small("setting_times", crates, {"src/main.rt": source}, USED)
+        (asked.show or show_times)(bars, program, asked)
+    bars.end()
 
 
 main()

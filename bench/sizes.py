@@ -1,18 +1,19 @@
 #!/usr/bin/env python3
-"""Times the built `tabprint` over inputs that are large in one way, each in two sizes.
+"""Times `tabprint` over inputs that are large in one way, each in two sizes.
 
-usage: sizes.py TABPRINT [SHARE]
-
-The inputs are rows of one cell, a row of short cells, one cell, and line feeds. For each list of words it prints the processor time, the
-peak of the process's memory and the bytes of the output, over a tenth of the input and over all of it, and by how much time and memory
-grew. All of it is 10,000,000 rows, 1,000,000 cells, 100 MB and 10,000,000 line feeds, or the share of these that is given.
-It ends with 1 where a run fails, or where time or memory grew by more than twice what the input grew.
+The inputs are rows of one cell, a row of short cells, one cell, and line feeds: 10,000,000 rows, 1,000,000
+cells, 100 MB and 10,000,000 line feeds, or the share of these that is given. For each list of arguments
+it prints the shortest processor time of the rounds and the peak of the process's memory, over a tenth of
+the input and over all of it, and by how much both grew. The bars: ten times the input takes at most 13
+times the time, or the memory, and for each input the greatest of all lists.
 """
 
 import os
-import subprocess
-import sys
-import tempfile
+
+import building
+import measuring
+
+ROUNDS = 3
 
 # What an input is made of, how many bytes of it count as one, and what ends it.
 INPUTS = {
@@ -22,10 +23,32 @@ INPUTS = {
     "line feeds": (10_000_000, b"\n", 1, b""),
 }
 
-# So many pieces are written at a time: the peak of a child begins at that of its parent, which has to be small.
+# So many pieces are written at a time.
 BLOCK = 10_000
 
-LINES = ["", "--stream", "--wrap 40", "--wrap 40 --words", "--wrap 40 --priority max", "--cut 40", "--cut 40 --priority min"]
+PLANS = [
+    "",
+    "--stream",
+    "--wrap 40",
+    "--wrap 40 --words",
+    "--wrap 40 --priority max",
+    "--cut 40",
+    "--cut 40 --priority min",
+]
+
+# The most by which time and memory grow, with ten times the input.
+GROWTH = 13
+
+# What is too short to be timed, in seconds, counts as this.
+SHORTEST = 0.01
+
+# The most seconds and MiB of all plans.
+MOST = {
+    "rows of one cell": (1.49, 325),
+    "cells in a row": (0.19, 63),
+    "bytes in a cell": (0.35, 127),
+    "line feeds": (1.43, 312),
+}
 
 
 def write(path, piece, count, end):
@@ -36,43 +59,54 @@ def write(path, piece, count, end):
         given.write(end)
 
 
-def measure(tabprint, line, path):
-    """The processor time in seconds, the peak in bytes, and the bytes of the output."""
-    with open(path, "rb") as given:
-        process = subprocess.Popen([tabprint, *line.split()], stdin=given, stdout=subprocess.PIPE)
-        size = 0
-        while block := process.stdout.read(1 << 16):
-            size += len(block)
-        _, status, usage = os.wait4(process.pid, 0)
-        process.returncode = os.waitstatus_to_exitcode(status)
-    if process.returncode != 0:
-        sys.exit(f"tabprint {line} ended with {process.returncode}")
-    return usage.ru_utime + usage.ru_stime, usage.ru_maxrss * 1024, size
+def compare(launch, tabprint, paths, rounds):
+    """The shortest time and the greatest peak of each plan over a tenth and all of an input."""
+    calls = {
+        (plan, path): lambda plan=plan, path=path: launch.run([tabprint, *plan.split()], path)
+        for plan in PLANS
+        for path in paths
+    }
+    found = {}
+    for name, runs in measuring.interleaved(rounds, calls).items():
+        times, peaks = zip(*runs)
+        found[name] = min(times), max(peaks)
+    return {plan: [found[plan, path] for path in paths] for plan in PLANS}
+
+
+def show(bars, name, count, found, is_all):
+    growths = {}
+    for plan, ((little, low), (much, high)) in found.items():
+        growths[plan] = much / max(little, SHORTEST), high / low
+        print(
+            f"{count:>11,} {name:17} {plan:26} {much:7.2f} s {high / 2**20:8.1f} MiB,"
+            f" {growths[plan][0]:5.1f} times the time, {growths[plan][1]:5.1f} times the memory",
+            flush=True,
+        )
+    for of, number in (("time", 0), ("memory", 1)):
+        bars.at_most(f"{name}, growth of {of}", max(growth[number] for growth in growths.values()), GROWTH)
+    if is_all:
+        seconds, mebibytes = MOST[name]
+        bars.at_most(f"{name}, seconds", max(of_all[0] for _, of_all in found.values()), seconds)
+        bars.at_most(f"{name}, MiB", max(of_all[1] for _, of_all in found.values()) / 2**20, mebibytes)
 
 
 def main():
-    if len(sys.argv) not in (2, 3):
-        sys.exit(__doc__)
-    tabprint, share = sys.argv[1], float(sys.argv[2]) if len(sys.argv) == 3 else 1.0
-    proportional = True
-    with tempfile.TemporaryDirectory() as folder:
+    arguments = building.parser(__doc__, ROUNDS)
+    arguments.add_argument("--share", type=float, default=1.0, help="of the inputs, 1 if it isn't given")
+    asked = arguments.parse_args()
+    bars = measuring.Bars()
+    with building.builder(asked) as build, measuring.launcher() as launch:
+        tabprint = build.of_repository("tabprint")
+        paths = [build.folder / "tenth", build.folder / "all"]
         for name, (count, piece, counted, end) in INPUTS.items():
-            for line in LINES:
-                found = []
-                for number in (int(count * share / 10), int(count * share)):
-                    path = os.path.join(folder, "input")
-                    write(path, piece, number // counted, end)
-                    found.append(measure(tabprint, line, path))
-                (little, low, _), (much, high, size) = found
-                times, grown = much / max(little, 0.01), high / low
-                proportional = proportional and times <= 20 and grown <= 20
-                print(
-                    f"{int(count * share):>11,} {name:17} {line:26} {much:7.2f} s {high / 2**20:8.1f} MiB {size / 1e6:8.1f} MB out,"
-                    f" {times:5.1f} times the time, {grown:5.1f} times the memory",
-                    flush=True,
-                )
-    sys.exit(0 if proportional else 1)
+            count = int(count * asked.share)
+            for path, number in zip(paths, (count // 10, count)):
+                write(path, piece, number // counted, end)
+            found = compare(launch, tabprint, paths, asked.rounds)
+            show(bars, name, count, found, asked.share == 1)
+            for path in paths:
+                os.remove(path)
+    bars.end()
 
 
-if __name__ == "__main__":
-    main()
+main()

@@ -1,27 +1,22 @@
 #!/usr/bin/env python3
-"""Times a program that makes a table of 100,000 tuples and prints it, beside the baseline on the same cells as a text.
+"""Times a program that makes a table of 100,000 tuples and prints it, and the baseline on the same cells.
 
-usage: tuples.py BASELINE [FOLDER]
-
-BASELINE is the program that was written by hand for tables of tab-separated texts. A small program is written into FOLDER (else a
-temporary folder) beside copies of the crates and built with `rt run`: it makes a `Table` of tuples of six values (numbers, texts, a
-truth value) with a header, and prints that to standard output. The tuples come from an iterator, or from a vector. Making that vector,
-without a table, is timed by itself, and so is a run that does nothing. The baseline prints what a first run of the program tells of the
-same cells with tabs between them. All run in interleaved rounds, their output to the null device. Printed are the shortest and the
-median of the processor times (user and system) in milliseconds, as shares of the baseline's too, and what a table of the vector takes
-without its making. Then whether the bar holds, by the shortest: with an iterator, and with a vector and its making, at most the time of
-the baseline.
+A small program makes a `Table` of tuples of six values (numbers, texts, a truth value) with a header, and
+prints that to standard output. The tuples come from an iterator, or from a vector. Making that vector
+without a table is timed too, and so is a run that does nothing. The baseline, bench/baseline, prints the
+same cells as a text with tabs between them. All run in interleaved rounds, their output to the null device.
+Printed are the shortest and the median of the processor times (user and system) in milliseconds, as shares
+of the baseline's too, and what a table of the vector takes without its making; then the bars, by the
+shortest.
 """
 
-import pathlib
-import resource
-import statistics
-import subprocess
-import sys
-
 import building
+import measuring
 
 ROUNDS = 21
+
+# The most of the baseline's time: from an iterator, and from a vector with its making.
+SHARES = {"iterator": 1.0, "vector": 1.0}
 
 PROGRAM = """\
 //! Prints a table of 100,000 tuples, with a word that of a vector of them, with two words their cells
@@ -95,57 +90,42 @@ fn main(rt: HostRuntime) -> Result<(), anyhow::Error> {
 }
 """
 
-
-def time_of(command, given):
-    """The processor time of one run in milliseconds."""
-    before = resource.getrusage(resource.RUSAGE_CHILDREN)
-    with open(given, "rb") as source:
-        done = subprocess.run(command, stdin=source, stdout=subprocess.DEVNULL, env={})
-    if done.returncode != 0:
-        sys.exit(f"{command[0]} ended with {done.returncode}")
-    after = resource.getrusage(resource.RUSAGE_CHILDREN)
-    return ((after.ru_utime - before.ru_utime) + (after.ru_stime - before.ru_stime)) * 1000
+# Without a word the program takes the tuples from an iterator; more words are other ways.
+WORDS = {
+    "iterator": [],
+    "vector": ["vector"],
+    "vector alone": ["the", "vector", "alone"],
+    "nothing": ["no", "vector", "no", "table"],
+}
 
 
-def output(command, given):
-    """What one run prints."""
-    with open(given, "rb") as source:
-        return subprocess.run(command, stdin=source, capture_output=True, check=True).stdout
-
-
-def judge(times):
-    """Prints the times, and whether the bar holds."""
-    least = {name: min(all_of) for name, all_of in times.items()}
-    middle = {name: statistics.median(all_of) for name, all_of in times.items()}
-    for of in (least, middle):
-        of["the table of it"] = of["vector"] - of["vector alone"] + of["nothing"]
-    for name in least:
-        shares = f"{least[name] / least['baseline']:.2f} {middle[name] / middle['baseline']:.2f}"
-        print(f"{name:15} {least[name]:7.1f} {middle[name]:7.1f}   {shares}")
-    holds = {name: least[name] <= least["baseline"] for name in ("iterator", "vector")}
-    for name, kept in holds.items():
-        print(f"{name}, at most the time of the baseline: {'yes' if kept else 'NO'}")
-    return all(holds.values())
+def judge(bars, found):
+    """Prints the times, and the bars."""
+    rows = {name: (shortest, median) for name, (shortest, median, _) in found.items()}
+    parts = zip(rows["vector"], rows["vector alone"], rows["nothing"])
+    rows["the table of it"] = tuple(all_of - made + nothing for all_of, made, nothing in parts)
+    base = rows["baseline"]
+    for name, (shortest, median) in rows.items():
+        shares = f"x{shortest / base[0]:.2f} x{median / base[1]:.2f}"
+        print(f"{name:15} shortest {shortest * 1e3:7.1f} ms  median {median * 1e3:7.1f} ms  {shares}")
+    for name, most in SHARES.items():
+        bars.at_most(f"{name}, of the baseline's time", rows[name][0] / base[0], most)
 
 
 def main():
-    if len(sys.argv) < 2 or sys.argv[1].startswith("-"):
-        sys.exit(__doc__)
-    baseline = sys.argv.pop(1)
-    with building.program(__doc__, "tuple_times", building.TABLED, {"src/main.rt": PROGRAM}) as program:
-        given = pathlib.Path(program).with_name("cells")
-        given.write_bytes(output([program, "all", "cells"], "/dev/null"))
-        commands = {"baseline": [baseline], "iterator": [program], "vector": [program, "vector"]}
-        wanted = output(commands["baseline"], given)
-        if any(output(command, given) != wanted for command in commands.values()):
-            sys.exit("a program and the baseline print other tables")
-        commands["vector alone"] = [program, "the", "vector", "alone"]
-        commands["nothing"] = [program, "no", "vector", "no", "table"]
-        times = {name: [] for name in commands}
-        for _ in range(ROUNDS):
-            for name, command in commands.items():
-                times[name].append(time_of(command, given))
-    sys.exit(0 if judge(times) else 1)
+    asked = building.parser(__doc__, ROUNDS).parse_args()
+    bars = measuring.Bars()
+    with building.builder(asked) as build, measuring.launcher() as launch:
+        program = build.small("tuple_times", building.TABLED, {"src/main.rt": PROGRAM})
+        cells = build.folder / "cells"
+        cells.write_bytes(measuring.output([program, "all", "cells"]))
+        commands = {"baseline": ([build.baseline()], cells)}
+        commands |= {name: ([program, *words], cells) for name, words in WORDS.items()}
+        wanted = measuring.output(*commands["baseline"])
+        for name in SHARES:
+            bars.true(f"{name}: the same bytes", measuring.output(*commands[name]) == wanted)
+        judge(bars, measuring.timed(launch, asked.rounds, commands))
+    bars.end()
 
 
 main()

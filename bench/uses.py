@@ -1,32 +1,40 @@
 #!/usr/bin/env python3
-"""Times `tabview` over 1,000,000 rows beside `tabprint` on the same cells and a reader of comma-separated values alone.
+"""Times `tabview` over 1,000,000 rows, `tabprint` on the same cells, and a reader of comma-separated
+values alone.
 
-usage: uses.py TABVIEW TABPRINT
+1,000,000 rows of six short cells, below a header, are written to a temporary folder, once with commas and
+once with tabs, and a small program that reads the former and keeps nothing of it is built there. Each
+program runs in interleaved rounds, its output to the null device. Printed are the shortest and the median
+of the processor times (user and system) in milliseconds, and the peaks; then the bar, by the shortest: how
+many times as long as `tabprint` `tabview` takes, without the time of the reader.
 
-The words are the two built programs. 1,000,000 rows of six short cells, below a header, are written to a temporary folder, once with
-commas and once with tabs, and a small program that reads the former and keeps nothing of it is built there. Each program runs in
-interleaved rounds, its output to the null device. Printed are the shortest and the median of the processor times (user and system)
-in milliseconds, and whether the bar holds: `tabview` takes at most 1.25 times as long as `tabprint`, beside the
-time of the reader.
+With --large, `tabview --stream 1000` alone runs once over a pipe of 5 GB of such rows, or as many as are
+given, and the time and the peak are printed.
 """
 
-import pathlib
 import random
-import resource
-import shutil
-import statistics
 import subprocess
 import sys
-import tempfile
 
-TOP = pathlib.Path(__file__).resolve().parent.parent
+import building
+import generate
+import measuring
+
+ROUNDS = 40
 ROWS = 1_000_000
-ROUNDS = 7
 HEADER = ["id", "name", "place", "count", "share", "note"]
-WORDS = "amber basin cedar delta ember fjord grove haven inlet jetty knoll ledge mesa nook oasis".split()
+WORDS = generate.WORDS[:15]
+
+# How many times as long as `tabprint`, without the reader.
+SHARE = 1.25
+
+# Of 5 GB: the most megabytes and seconds.
+LARGE = 5_000_000_000
+LARGE_PEAK = 4.2
+LARGE_TIME = 210
 
 READER = """\
-//! Reads comma-separated values, and tells how many rows came.
+//! Reads comma-separated values, and prints how many rows came.
 #![tactic(auto)]
 
 use anyhow::{Result, bail};
@@ -47,6 +55,18 @@ fn main(rt: HostRuntime) -> Result<()> {
 }
 """
 
+# Writes a file's first line, and then its other lines again and again, until so many bytes are out.
+REPEAT = """
+import sys
+path, left = sys.argv[1], int(sys.argv[2])
+with open(path, "rb") as file:
+    header, rows = file.readline(), file.read()
+sys.stdout.buffer.write(header)
+while left > 0:
+    sys.stdout.buffer.write(rows)
+    left -= len(rows)
+"""
+
 
 def rows():
     """The header and the rows, the same each time."""
@@ -54,53 +74,54 @@ def rows():
     yield HEADER
     for number in range(ROWS):
         words = [rng.choice(WORDS) for _ in range(3)]
-        yield [str(number), words[0], words[1], str(rng.randrange(100_000)), f"{rng.random():.2f}", words[2]]
+        count, share = str(rng.randrange(100_000)), f"{rng.random():.2f}"
+        yield [str(number), words[0], words[1], count, share, words[2]]
 
 
-def build_reader(folder):
-    """Builds the reader alone."""
-    (folder / "crates.txt").write_text("reader: csv anyhow\n")
-    shutil.copy(TOP / "HANDLES", folder)
-    own = folder / "crates" / "reader"
-    (own / "src").mkdir(parents=True)
-    (own / "src" / "main.rt").write_text(READER)
-    run = subprocess.run(["rt", "run"], cwd=own, stdin=subprocess.DEVNULL, capture_output=True, text=True)
-    if run.returncode != 0:
-        sys.exit(run.stdout + run.stderr)
-    return own / "out" / "reader"
+def write(path, separator):
+    path.write_text("".join(separator.join(row) + "\n" for row in rows()))
+    return path
 
 
-def time_of(program, file):
-    """The processor time of one run in milliseconds."""
-    before = resource.getrusage(resource.RUSAGE_CHILDREN)
-    with open(file, "rb") as given:
-        done = subprocess.run([program], stdin=given, stdout=subprocess.DEVNULL, env={})
-    if done.returncode != 0:
-        sys.exit(f"{program} ended with {done.returncode}")
-    after = resource.getrusage(resource.RUSAGE_CHILDREN)
-    return (after.ru_utime + after.ru_stime - before.ru_utime - before.ru_stime) * 1000
+def compare(bars, build, launch, rounds):
+    commas, tabs = write(build.folder / "rows.csv", ","), write(build.folder / "rows.tsv", "\t")
+    commands = {
+        "tabview": ([build.of_repository("tabview")], commas),
+        "tabprint": ([build.of_repository("tabprint")], tabs),
+        "reader": ([build.small("reader", (), {"src/main.rt": READER}, ("csv",))], commas),
+    }
+    found = measuring.timed(launch, rounds, commands)
+    for name, (shortest, median, peak) in found.items():
+        print(f"{name:10} shortest {shortest * 1e3:7.1f} ms  median {median * 1e3:7.1f} ms  {peak / 1e6:6.1f} MB")
+    for of, number in (("shortest", 0), ("medians", 1)):
+        share = (found["tabview"][number] - found["reader"][number]) / found["tabprint"][number]
+        print(f"without the reader, of tabprint's time, by the {of}: {share:.2f}")
+        if number == 0:
+            bars.at_most("by the shortest", share, SHARE)
+
+
+def stream(bars, build, launch, size):
+    commas = write(build.folder / "rows.csv", ",")
+    command = [build.of_repository("tabview"), "--stream", "1000"]
+    with subprocess.Popen([sys.executable, "-c", REPEAT, commas, str(size)], stdout=subprocess.PIPE) as writer:
+        time, peak = launch.run_over(command, writer.stdout)
+    print(f"{size / 1e9:.1f} GB: {time:.0f} s, {peak / 1e6:.1f} MB")
+    bars.true("all of it is written", writer.returncode == 0)
+    bars.at_most("peak, MB", peak / 1e6, LARGE_PEAK)
+    bars.at_most("seconds", time, LARGE_TIME * size / LARGE)
 
 
 def main():
-    if len(sys.argv) != 3:
-        sys.exit(__doc__)
-    tabview, tabprint = map(pathlib.Path, sys.argv[1:])
-    with tempfile.TemporaryDirectory() as temporary:
-        folder = pathlib.Path(temporary)
-        commas, tabs = folder / "rows.csv", folder / "rows.tsv"
-        commas.write_text("".join(",".join(row) + "\n" for row in rows()))
-        tabs.write_text("".join("\t".join(row) + "\n" for row in rows()))
-        runs = {"tabview": (tabview, commas), "tabprint": (tabprint, tabs), "reader": (build_reader(folder), commas)}
-        times = {name: [] for name in runs}
-        for _ in range(ROUNDS):
-            for name, (program, file) in runs.items():
-                times[name].append(time_of(program.resolve(), file))
-    for name, all_times in times.items():
-        print(f"{name:10} shortest {min(all_times):7.1f} ms  median {statistics.median(all_times):7.1f} ms")
-    least = {name: min(all_times) for name, all_times in times.items()}
-    share = (least["tabview"] - least["reader"]) / least["tabprint"]
-    print(f"beside the reader {share:.2f} times tabprint; at most 1.25: {'yes' if share <= 1.25 else 'NO'}")
-    sys.exit(0 if share <= 1.25 else 1)
+    arguments = building.parser(__doc__, ROUNDS)
+    arguments.add_argument("--large", type=int, nargs="?", const=LARGE, metavar="BYTES")
+    asked = arguments.parse_args()
+    bars = measuring.Bars()
+    with building.builder(asked) as build, measuring.launcher() as launch:
+        if asked.large:
+            stream(bars, build, launch, asked.large)
+        else:
+            compare(bars, build, launch, asked.rounds)
+    bars.end()
 
 
 main()
