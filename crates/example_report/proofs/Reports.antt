@@ -4,7 +4,7 @@ use Rattle.std.proofs.lemmas.Bool.{and_parts, cases_Bool, eqb-true, not-false}
 use Rattle.tabled_base.specs.Cells.{IsInside, columns}
 use Rattle.tabled_base.specs.declared.error.TableError.{TableError}
 use Rattle.tabled_grid.specs.Picture.{table_text}
-use Rattle.tabled_line.specs.Plain.{EachLineTakes}
+use Rattle.tabled_line.specs.Additive.{EachLineTakes}
 use Rattle.tabled_set.specs.BestNarrowing.{IsBestWordWrapped}
 use Rattle.tabled_set.specs.Promised.{IsWiderThan}
 use Rattle.tabled_size.specs.EffectiveTotals.{ReturnsWidth}
@@ -17,7 +17,7 @@ use Rattle.tabled_size.specs.Totals.{filled_width, total_height, total_width}
 use Rattle.tabled_text.specs.Measure.{lines_of}
 use Rattle.tabled_table.specs.NewTable.{IsNew}
 use Rattle.tabled_table.specs.PrintedLines.{HasTableLines, IsStraight, ShowsCells}
-use Rattle.tabled_table.specs.TableSheet.{IsApart, IsPlain, cells_of, sheet}
+use Rattle.tabled_table.specs.TableSheet.{IsApart, IsAdditiveTable, cells_of, sheet}
 use Rattle.tabled_table.specs.declared.table.Table.{Table}
 use Rattle.example_report.specs.Report.{IsReport}
 
@@ -61,11 +61,11 @@ pub record IsWrapped (before after : Table) (text : List ℕ) : Type 0 where
   pub total : total_width (sheet after) ≡ 80
   pub printed : text ≡ table_text (sheet after)
   pub lines : IsStraight after → 0 < total_height (sheet after) → HasTableLines (sheet after) text
-  pub shows : IsPlain after → heights_of after.dimension ≡ None → ShowsCells (cells_of after) text
+  pub shows : IsAdditiveTable after → heights_of after.dimension ≡ None → ShowsCells (cells_of after) text
 
 pub reported : (rows : List (List (List ℕ))) (before after : Table) (text : List ℕ) → IsNew rows before → IsWrapped before after text
     → (is_empty (cells_of after) ≡ false → heights_of after.dimension ≡ None → 0 < total_height (sheet after))
-    → (IsApart after → IsPlain after) → IsReport rows text
+    → (IsApart after → IsAdditiveTable after) → IsReport rows text
 reported rows before after text new p some plain =
     let lines = p.lines (inl (p.apart, p.texts)) (some (filled_wide (sheet after) p.total) p.heights) in
     subst (λ cells. IsReport cells text) new.records (record {

@@ -5,7 +5,7 @@ use Rattle.std.specs.declared.string.String.{String}
 use Rattle.tabled_base.specs.Cells.{IsInside, cell_at, lengthened_rows}
 use Rattle.tabled_grid.specs.Picture.{table_text}
 use Rattle.tabled_grid.specs.Shown.{AreShownIn}
-use Rattle.tabled_line.specs.Plain.{EachLineTakes}
+use Rattle.tabled_line.specs.Additive.{EachLineTakes}
 use Rattle.tabled_set.specs.BestNarrowing.{IsBestWordWrapped, inner_width}
 use Rattle.tabled_set.specs.Promised.{IsWiderThan}
 use Rattle.tabled_size.specs.Sheet.{Sheet}

@@ -1,7 +1,7 @@
 -- New tables that an option fitted into some columns, by the sizes that it leaves.
 use Rattle.tabled.proofs.Names.{AreChanged, AreCleared, AreTexts, Bool, Cells, CompleteDimension, Cut, FitsInto, Greatest, HasExactTotal}
 use Rattle.tabled.proofs.Names.{HasFewestBreaks, HasLeastGreatestWidth, HasLongestBeginnings, HasNoEstimate, HasWantedTotal, IsAsBuffered}
-use Rattle.tabled.proofs.Names.{IsFilledIn, IsLeastBy, IsMade, IsNarrowedTo, IsOutOfRange, IsPlannedOf, IsRectangular, List, MatchBool}
+use Rattle.tabled.proofs.Names.{IsFilledIn, IsLeastBy, IsReadyOf, IsNarrowedTo, IsOutOfRange, IsPlannedOf, IsRectangular, List, MatchBool}
 use Rattle.tabled.proofs.Names.{MatchBool-at_false, MatchBool-at_true, Narrows, None, Option, Order, OrderShrinks, Plan, Row, Sheet}
 use Rattle.tabled.proofs.Names.{Shortened, Shrinks, Some, SpannedConfig, StaysWithin-none, TruncatesAsPromised, Wrapped, WrapsAsPromised}
 use Rattle.tabled.proofs.Names.{[], ap, arith, cases_Bool, columns, cond, effective, effective_estimated, effective_sizes, estimated}
@@ -191,7 +191,7 @@ module _ (s : OrderPriority) (begins : s.round.kept ≡ 0) (n : ℕ) (cells new 
 
   made : (plan : Plan) (change : ℕ → List ℕ → List ℕ → Type 0) → IsPlannedOf plan whole t → FitsInto (OrderShrinks s.order) change n whole t
       → (n < total_width whole → HasExactTotal n whole t) → HasWantedTotal plan whole t → HasLeastGreatestWidth plan whole t → HasFewestBreaks plan whole t
-      → HasLongestBeginnings plan whole t → IsAsBuffered plan whole t → IsMade plan whole t
+      → HasLongestBeginnings plan whole t → IsAsBuffered plan whole t → IsReadyOf plan whole t
   made plan change planned fits exact total least fewest longest alike = record {
     planned = planned;
     best = record {
@@ -209,7 +209,7 @@ module _ (s : OrderPriority) (begins : s.round.kept ≡ 0) (n : ℕ) (cells new 
   }
 
   pub wrapped : (words : Bool) → Narrows Shrinks s (wrapping words) n cells config none new left → AreCleared (Some (Row 0)) left last
-      → WrapsAsPromised Shrinks s words n (effective cells config none) t → IsMade (Wrapped n words s.order) whole t
+      → WrapsAsPromised Shrinks s words n (effective cells config none) t → IsReadyOf (Wrapped n words s.order) whole t
   wrapped words narrows cleared promise =
       let change = wrapping words in
       let fits = fitted s begins change n cells new config none left last (Some (Row 0)) no_widths no_heights refl narrows cleared in
@@ -220,7 +220,7 @@ module _ (s : OrderPriority) (begins : s.round.kept ≡ 0) (n : ℕ) (cells new 
       (λ h. p.best (takes_all s) (whole_wider n cells config h)) tt tt
 
   pub truncated : Narrows Shrinks s (if_wider (truncating [] Cut false)) n cells config none new left → AreCleared None left last
-      → TruncatesAsPromised Shrinks s [] Cut false n (effective cells config none) t → IsMade (Shortened n s.order) whole t
+      → TruncatesAsPromised Shrinks s [] Cut false n (effective cells config none) t → IsReadyOf (Shortened n s.order) whole t
   truncated narrows cleared promise =
       let change = if_wider (truncating [] Cut false) in
       let fits = fitted s begins change n cells new config none left last None no_widths no_heights refl narrows cleared in

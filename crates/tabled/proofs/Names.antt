@@ -22,7 +22,7 @@ pub use Rattle.tabled.specs.Orders.{Shrinks}
 pub use Rattle.tabled.specs.Output.{Begins, IsBegunOn, IsOutput, IsPartlyWritten, Puts, PutsOutput}
 unfoldable pub use Rattle.tabled.specs.Output.{with_feed}
 pub use Rattle.tabled.specs.Planned.{Cells, FitsInto, IsNarrowedTo, IsPlanned, IsPlannedOf, OrderShrinks, cut_to, measured}
-pub use Rattle.tabled.specs.Rendered.{BreaksOff, Halts, IsMade, IsRendered, IsRenderedOf}
+pub use Rattle.tabled.specs.Rendered.{BreaksOff, Halts, IsReadyOf, IsRendered, IsRenderedOf}
 pub use Rattle.tabled.specs.declared.arguments.Order.{Order}
 pub use Rattle.tabled.specs.declared.arguments.Order.TheVariants.{Greatest, Least, Leftmost, Rightmost, Round}
 pub use Rattle.tabled.specs.declared.arguments.Plan.{Plan}
@@ -41,7 +41,7 @@ unfoldable pub use Rattle.tabled_grid.specs.Picture.{picture}
 pub use Rattle.tabled_grid.specs.Printed.{IsOutOfRange, Prints}
 pub use Rattle.tabled_line.proofs.Sending.{Appends-nil, further, sends-along}
 pub use Rattle.tabled_line.specs.Sent.{IsCause, Sends, Sent, Writes}
-pub use Rattle.tabled_records.specs.TextRows.{cells_of, most_cells, row_lines, without_last_feed}
+pub use Rattle.tabled_records.specs.TextRows.{tab_separated, most_cells, row_lines, without_last_feed}
 unfoldable pub use Rattle.tabled_records.specs.TextRows.{text_rows}
 pub use Rattle.tabled_set.proofs.ExactTotals.{changed_empty}
 pub use Rattle.tabled_set.specs.BestNarrowing.{inner_width}

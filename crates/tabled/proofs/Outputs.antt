@@ -4,7 +4,7 @@ use Rattle.tabled.proofs.Names.{FitsInto, Halts, IfSome, IsBegunOn, IsBestPlanne
 use Rattle.tabled.proofs.Names.{IsPlanned, IsRectangular, IsRendered, IsUtf8, List, MatchBool-at_false, MatchBool-at_true, MatchResult}
 use Rattle.tabled.proofs.Names.{Memory, Ok, Option, OrderShrinks, Plan, PutsOutput, Range, Result, Sent, Sheet, Shortened, SpellsPlan}
 use Rattle.tabled.proofs.Names.{Streamed, TableError, Wrapped, Writer, Writes, [], ap, append_assoc, Table, arith, block_sent, cases_Bool}
-use Rattle.tabled.proofs.Names.{cells_of, changed_empty, cond, false, for_content_size, if_wider, inl, inner_width, inr, is_empty, length}
+use Rattle.tabled.proofs.Names.{tab_separated, changed_empty, cond, false, for_content_size, if_wider, inl, inner_width, inr, is_empty, length}
 use Rattle.tabled.proofs.Names.{lengthened, lines_of, map, most_cells, nat_le, nat_tests, new_config, new_sheet, picture, refl, row_lines}
 use Rattle.tabled.proofs.Names.{sent_since, picture_lines, subst, sym, table_text, text_rows, total_width, true, truncating, with_feed}
 use Rattle.tabled.proofs.Names.{without_last_feed, wrapping, ℕ, ⊎_elim, ◌++◌, ◌<◌, ◌==◌, ◌∙◌, ◌∷◌, ◌≡◌, ◌≤◌, ◌⊎◌}
@@ -34,11 +34,11 @@ texts_of_text text u = text_cells text u
 
 -- ---- empty or not
 
-filled_rows : (n : ℕ) (lines : List (List ℕ)) → 0 < length lines → is_empty (map (λ line. lengthened n (cells_of line)) lines) ≡ false
+filled_rows : (n : ℕ) (lines : List (List ℕ)) → 0 < length lines → is_empty (map (λ line. lengthened n (tab_separated line)) lines) ≡ false
 filled_rows n [] h = absurd (omega arith)
 filled_rows n (line ∷ lines) h =
-    let cells : length (cells_of line) ≡ _ = length-slice_split (λ b. b == 9) line in
-    let long = length-lengthened n (cells_of line) in
+    let cells : length (tab_separated line) ≡ _ = length-slice_split (λ b. b == 9) line in
+    let long = length-lengthened n (tab_separated line) in
     grind (arith, nat_tests)
 
 some_lines : (text : List ℕ) → false ≡ (length text == 0) → 0 < length (row_lines text)
@@ -55,13 +55,13 @@ text_filled text h = filled_rows (most_cells (row_lines text)) (row_lines text) 
 some_rows : (text : List ℕ) → false ≡ (length text == 0) → 0 < length (text_rows text)
 unfolding text_rows
 some_rows text h =
-    let e = length-map (row_lines text) (λ line. lengthened (most_cells (row_lines text)) (cells_of line)) in
+    let e = length-map (row_lines text) (λ line. lengthened (most_cells (row_lines text)) (tab_separated line)) in
     omega (arith, e, some_lines text h)
 
 pub text_empty : (text : List ℕ) → true ≡ (length text == 0) → is_empty (text_rows text) ≡ true
 unfolding text_rows
 text_empty text h =
-    ap (λ lines. is_empty (map (λ line. lengthened (most_cells lines) (cells_of line)) lines))
+    ap (λ lines. is_empty (map (λ line. lengthened (most_cells lines) (tab_separated line)) lines))
     (let e : row_lines text ≡ [] = ap (λ t. cond t [] (lines_of (without_last_feed text))) (sym h) in e)
 
 -- ---- the table of a plan has the rows of the text, under the settings of a new table

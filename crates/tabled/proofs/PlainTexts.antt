@@ -1,7 +1,7 @@
 -- Texts of letters, whose tables are the same if they are streamed.
 use Rattle.tabled.proofs.Names.{All, All-cons, All-head, All-nil, All-tail, AllPass, AreTexts, Bool, Buffered, Cells, Halts, IsBestOf}
 use Rattle.tabled.proofs.Names.{IsBestPlanned, IsCut, IsInside, IsPlanned, IsPlannedOf, IsRendered, IsRenderedOf, List, Plan, Result, Sent}
-use Rattle.tabled.proofs.Names.{Streamed, TableError, [], arith, cases_Bool, cell_at, cells_of, cond, false, holds_estimated, inner_width}
+use Rattle.tabled.proofs.Names.{Streamed, TableError, [], arith, cases_Bool, cell_at, tab_separated, cond, false, holds_estimated, inner_width}
 use Rattle.tabled.proofs.Names.{length, lengthened, lines_of, list_all-from_AllPass, measured, most_cells, new_config, new_sheet, refl}
 use Rattle.tabled.proofs.Names.{row_lines, picture_lines, subst, sym, take, text_rows, true, without_last_feed, ℕ, ⊎_elim, ◌-◌, ◌==◌, ◌∷◌}
 use Rattle.tabled.proofs.Names.{◌≡◌, ◌≤◌}
@@ -54,19 +54,19 @@ rows_plain text h =
     ⊎_elim (λ y. subst Q (sym y) (All-nil (AllPass in_line))) (λ no. subst Q (sym no) (lines_plain (without_last_feed text) (inner_plain text h)))
     (cases_Bool (length text == 0))
 
-row_plain : (n : ℕ) (line : List ℕ) → AllPass in_line line → All (AllPass is_letter_byte) (lengthened n (cells_of line))
+row_plain : (n : ℕ) (line : List ℕ) → AllPass in_line line → All (AllPass is_letter_byte) (lengthened n (tab_separated line))
 row_plain n line h =
-    All-append (AllPass is_letter_byte) (cells_of line) (replicate (n - length (cells_of line)) [])
+    All-append (AllPass is_letter_byte) (tab_separated line) (replicate (n - length (tab_separated line)) [])
     (parted (λ b. is_letter_byte b ≡ true) (λ b. b == 9) line
     (All-weaker (λ b. in_line b ≡ true) (λ b. (b == 9) ≡ false → is_letter_byte b ≡ true) (λ b p no. grind arith) line h))
-    (All-replicate (AllPass is_letter_byte) (n - length (cells_of line)) [] (All-nil (λ b. is_letter_byte b ≡ true)))
+    (All-replicate (AllPass is_letter_byte) (n - length (tab_separated line)) [] (All-nil (λ b. is_letter_byte b ≡ true)))
 
 cells_plain : (text : List ℕ) → AllPass is_letter_or_break text → All (All (AllPass is_letter_byte)) (text_rows text)
 unfolding text_rows
 cells_plain text h =
     let n = most_cells (row_lines text) in
-    All-map (All (AllPass is_letter_byte)) (λ line. lengthened n (cells_of line)) (row_lines text)
-    (All-weaker (AllPass in_line) (λ line. All (AllPass is_letter_byte) (lengthened n (cells_of line))) (row_plain n) (row_lines text) (rows_plain text h))
+    All-map (All (AllPass is_letter_byte)) (λ line. lengthened n (tab_separated line)) (row_lines text)
+    (All-weaker (AllPass in_line) (λ line. All (AllPass is_letter_byte) (lengthened n (tab_separated line))) (row_plain n) (row_lines text) (rows_plain text h))
 
 -- ---- the table of such a text
 

@@ -1,6 +1,6 @@
 -- What a call that prints the table of a plan leaves: of no rows, of new tables, and of those that an order fitted.
 use Rattle.tabled.proofs.Names.{AreChanged, AreTexts, Bool, BreaksOff, Buffered, Cells, Err, FitsInto, Halts, HasExactTotal, Holds}
-use Rattle.tabled.proofs.Names.{IsBestOf, IsBestPlanned, IsCause, IsErrAnd, IsInside, IsMade, IsNarrowedTo, IsPlanned, IsPlannedOf}
+use Rattle.tabled.proofs.Names.{IsBestOf, IsBestPlanned, IsCause, IsErrAnd, IsInside, IsReadyOf, IsNarrowedTo, IsPlanned, IsPlannedOf}
 use Rattle.tabled.proofs.Names.{IsRectangular, IsRendered, IsRenderedOf, List, MatchBool-at_false, MatchBool-at_true, Memory, Narrow, Ok}
 use Rattle.tabled.proofs.Names.{Plan, Prints, Range, Result, Sent, Sheet, ShortHeights, ShortWidths, SpannedConfig, StaysWithin-none}
 use Rattle.tabled.proofs.Names.{TableError, Writer, [], ap, arith, cases_Bool, changed_empty, columns, estimated, false, for_content_size}
@@ -14,8 +14,8 @@ use Rattle.tabled.specs.Rendered.{PassesRange, PrintsPlanned}
 use Rattle.tabled_set.proofs.ChangingCells.{columns-changed}
 use Rattle.std.proofs.lemmas.List.{get_or_default}
 use Rattle.tabled_grid.specs.ApartSheet.{IsApartConfig}
-use Rattle.tabled_grid.specs.Printed.{IsFailure}
-use Rattle.tabled_line.specs.Plain.{EachLineTakes}
+use Rattle.tabled_grid.specs.Printed.{FailsToPrint}
+use Rattle.tabled_line.specs.Additive.{EachLineTakes}
 use Rattle.tabled_set.specs.Promised.{IsWiderThan}
 use Rattle.tabled_size.specs.Holds.{IsSized}
 use Rattle.tabled_text.specs.Plain.{IsAdditive}
@@ -78,7 +78,7 @@ no_text_plain = IsAdditive-stays (StaysWithin-none {n = 0})
 pub whole_wider : (n : ℕ) (cells : Cells) (config : SpannedConfig) → n < total_width (estimated cells config) → IsWiderThan n (estimated cells config)
 whole_wider n cells config h = record { estimates = refl; wider = h }
 
-pub buffered_made : (cells : Cells) (config : SpannedConfig) → IsRectangular cells → AreTexts cells → IsMade Buffered (estimated cells config) (estimated cells config)
+pub buffered_made : (cells : Cells) (config : SpannedConfig) → IsRectangular cells → AreTexts cells → IsReadyOf Buffered (estimated cells config) (estimated cells config)
 buffered_made cells config rectangular texts = record {
   planned = refl;
   best = record {
@@ -98,7 +98,7 @@ buffered_made cells config rectangular texts = record {
 -- ---- what was printed
 
 -- a table that is in order was printed
-pub prints_made : {T : Type 0} (plan : Plan) (whole : Sheet) (estimates : Bool) (t : Sheet) (old : Sent) (r : Result T TableError) (new : Sent) → IsMade plan whole t
+pub prints_made : {T : Type 0} (plan : Plan) (whole : Sheet) (estimates : Bool) (t : Sheet) (old : Sent) (r : Result T TableError) (new : Sent) → IsReadyOf plan whole t
     → Prints estimates t old r new → IsRenderedOf plan whole old r new
 prints_made plan whole estimates t old (Ok x) new m h = record { table = t; is_planned = m.planned; is_best = m.best; is_printable = h.0; sends = h.1 }
 prints_made plan whole estimates t old (Err e) new m h =
@@ -119,7 +119,7 @@ prints_made plan whole estimates t old (Err e) new m h =
     )) o)
     h.1
   where
-    refused : (d : TableError) → IsFailure t d → new ≡ old
+    refused : (d : TableError) → FailsToPrint t d → new ≡ old
         → ((d ≡ Memory) × (new ≡ old))
         ⊎ ((is_empty whole.cells ≡ false)
         × (((d ≡ Range) × (new ≡ old) × PassesRange (IsPlannedOf plan whole) whole) ⊎ BreaksOff (IsPlannedOf plan whole) (IsBestOf plan whole) (λ e. ⊥) old d new))

@@ -1,6 +1,6 @@
 -- Tables whose cells are cut to the content widths of their columns.
 use Rattle.tabled.proofs.Names.{All-from_get_or, AreChanged, AreTexts, Cells, CompleteDimension, Cut, HasNoEstimate, Holds, IsFilledIn}
-use Rattle.tabled.proofs.Names.{IsInside, IsMade, IsOutOfRange, IsRectangular, IsUtf8, List, None, Option, Sheet, Some, SpannedConfig}
+use Rattle.tabled.proofs.Names.{IsInside, IsReadyOf, IsOutOfRange, IsRectangular, IsUtf8, List, None, Option, Sheet, Some, SpannedConfig}
 use Rattle.tabled.proofs.Names.{Streamed, [], ap, arith, cases_Bool, cell_at, changed_empty, columns, cut_to, effective, effective_sizes}
 use Rattle.tabled.proofs.Names.{estimated, estimated_heights, estimated_widths, false, get_or, heights_length, heights_of, holds_estimated}
 use Rattle.tabled.proofs.Names.{is_empty, length, passes_too_high, passes_too_wide, refl, picture_lines, apart_columns, sized_estimated}
@@ -85,7 +85,7 @@ module _ (cells : Cells) (config : SpannedConfig) (rectangular : IsRectangular c
         exact-kept (at widths column - side_padding config row column) (cell_at cells row column) (cell_at after row column)
         (exact row [] inside.row_in column [] (omega arith)) (room row column inside) (at-chosen row column changed inside refl)))
 
-    pub streamed_made : IsMade Streamed (estimated cells config) t
+    pub streamed_made : IsReadyOf Streamed (estimated cells config) t
     streamed_made = record {
       planned = record { config = refl; widths = refl; cells = changed; heights = refl };
       best = record {

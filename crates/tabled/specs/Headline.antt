@@ -7,7 +7,7 @@ use Rattle.tabled_grid.specs.ApartSheet.{IsApartConfig}
 use Rattle.tabled_grid.specs.Picture.{picture}
 use Rattle.tabled_set.specs.BestNarrowing.{HasLeastWidth, IsBestCut, IsBestWrapped}
 use Rattle.tabled_set.specs.ExactTotal.{HasExactTotal}
-use Rattle.tabled_line.specs.Plain.{EachLineTakes}
+use Rattle.tabled_line.specs.Additive.{EachLineTakes}
 use Rattle.tabled_size.specs.Sheet.{Sheet}
 use Rattle.tabled_size.specs.Totals.{total_height, total_width}
 use Rattle.tabled_table.specs.TableSheet.{new_sheet}

@@ -4,7 +4,7 @@ use Rattle.std.specs.Io.KnownBytes.{Appends}
 use Rattle.tabled_base.specs.declared.error.TableError.{TableError}
 use Rattle.tabled_base.specs.declared.error.TableError.TheVariants.{Memory, Range}
 use Rattle.tabled_grid.specs.Picture.{table_text}
-use Rattle.tabled_grid.specs.Printed.{IsOutOfRange, IsPrintable}
+use Rattle.tabled_grid.specs.Printed.{IsOutOfRange, IsPrintableSheet}
 use Rattle.tabled_line.specs.Sent.{IsCause, Sends, Sent}
 use Rattle.tabled_size.specs.Holds.{Holds, IsSized}
 use Rattle.tabled_size.specs.Sheet.{Sheet, is_empty}
@@ -21,7 +21,7 @@ pub record SendsTable (planned best : Sheet → Type 0) (old new : Sent) : Type 
   pub table : Sheet
   pub is_planned : planned table
   pub is_best : best table
-  pub is_printable : (is_empty table.cells ≡ true) ⊎ IsPrintable table
+  pub is_printable : (is_empty table.cells ≡ true) ⊎ IsPrintableSheet table
   pub sends : Sends old new (table_text table)
 
 -- both totals are in range, and a beginning of the text was added; then the sink failed or the call
@@ -30,7 +30,7 @@ pub record BreaksOff (planned best : Sheet → Type 0) (halts : TableError → T
   pub table : Sheet
   pub is_planned : planned table
   pub is_best : best table
-  pub is_printable : IsPrintable table
+  pub is_printable : IsPrintableSheet table
   pub front : List ℕ
   pub rest : List ℕ
   pub whole : front ++ rest ≡ table_text table
@@ -69,7 +69,7 @@ IsRenderedOf plan whole old result new = PrintsPlanned (IsPlannedOf plan whole) 
 
 -- a table that a plan makes of a whole one, with all properties of `IsBestOf`, and ready to be
 -- printed
-pub record IsMade (plan : Plan) (whole t : Sheet) : Type 0 where
+pub record IsReadyOf (plan : Plan) (whole t : Sheet) : Type 0 where
   pub planned : IsPlannedOf plan whole t
   pub best : IsBestOf plan whole t
   pub same : is_empty t.cells ≡ is_empty whole.cells

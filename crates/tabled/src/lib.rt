@@ -54,8 +54,8 @@ pub mod laws {
         count_is_bound, exact_lines, lines_of_any_text, separators, texts_that_fit,
     };
     pub use tabled_text::laws::{
-        breakings, cut_texts, joined_lines, plain_characters, plain_columns, plain_line_width,
-        plain_lines, text_bounds, texts_that_stay, word_wrapped_texts, wrapped_texts,
+        additive_columns, additive_line_width, additive_lines, breakings, cut_texts, joined_lines,
+        plain_characters, text_bounds, texts_that_stay, word_wrapped_texts, wrapped_texts,
     };
 }
 
@@ -239,7 +239,7 @@ pub mod settings {
 pub mod grid {
     pub use tabled_compact::{Window, print_compact};
     pub use tabled_grid::{
-        is_apart_config, is_plain_config, is_plain_records, print_estimated, print_grid,
+        is_additive_config, is_apart_config, is_plain_records, print_estimated, print_grid,
         print_standing,
     };
 

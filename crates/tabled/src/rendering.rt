@@ -15,7 +15,7 @@ ghost use Rattle.tabled_size.specs.TextCells.{AreTexts};
 ghost use Rattle.tabled_table.specs.NewConfig.{new_config};
 ghost use Rattle.tabled.specs.declared.arguments.Plan.TheVariants.{Streamed};
 ghost use Rattle.tabled.specs.Planned.{measured};
-ghost use Rattle.tabled.specs.Rendered.{IsMade, IsRendered, IsRenderedOf};
+ghost use Rattle.tabled.specs.Rendered.{IsReadyOf, IsRendered, IsRenderedOf};
 
 use crate::arguments::{OrderPriority, Plan};
 use std::alloc::Global;
@@ -43,7 +43,7 @@ fn narrow<'r, 't>(
     requires rectangular { IsRectangular rows.now }
     requires no_widths { widths_of sizes.old ≡ None }
     requires no_heights { heights_of sizes.old ≡ None }
-    ensures made { IfOk result (λ changed. IsMade (measured plan)
+    ensures made { IfOk result (λ changed. IsReadyOf (measured plan)
         (estimated rows.now config.now)
         (effective (cells_of_or changed rows.now) config.now sizes.new)) }
     ensures only { IfErr result (λ e. (e ≡ Memory) ⊎ (e ≡ Range)) }

@@ -6,5 +6,5 @@ use Rattle.std.specs.List.{list_all}
 abbrev pub is_printable : List ℕ → Bool
 is_printable text = list_all (is_in_range 0x20 0x7E) text
 
-abbrev pub IsPrintable : List ℕ → Type 0
-IsPrintable text = is_printable text ≡ true
+abbrev pub IsPrintableAscii : List ℕ → Type 0
+IsPrintableAscii text = is_printable text ≡ true

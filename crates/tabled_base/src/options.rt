@@ -81,9 +81,10 @@ pub trait CellOption<R, C> {
     fn hint_change(&self) -> Option<Entity>
         ensures { result ≡ hint self.now };
 
-    /// Whether a failed change may leave the configuration changed, or the cells half changed, as
-    /// by the first of two options. A `Table` then copies the configuration and the cells of the
-    /// entity before the change, and restores them after an error. `true` is always right.
+    /// Whether a `Table` undoes a change that failed: it then copies the configuration and the
+    /// cells of the entity before the change, and restores them after an error. `true` is always
+    /// right. An option may return `false` if it leaves the configuration as it was when it fails.
+    /// The cells of that entity then stay as the failed change left them.
     fn needs_undo(&self) -> bool
         ensures { result ≡ is_undone self.now };
 }

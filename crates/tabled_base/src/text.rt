@@ -5,7 +5,7 @@ ghost use Rattle.std.specs.Cmp.Lexicographic.{nat_list_eq_equiv, pointwise};
 ghost use Rattle.std.specs.Prelude.{IfErr, IfOk, List, length, nat_eq, string_bytes, take, ℕ, ◌++◌};
 ghost use Rattle.std.specs.Prelude.{◌+◌, ◌-◌, ◌<◌, ◌^◌, ◌≡◌, ◌≤◌, min};
 ghost use Rattle.std.specs.Str.{IsCharBoundary};
-ghost use Rattle.tabled_base.specs.Printable.{IsPrintable};
+ghost use Rattle.tabled_base.specs.Printable.{IsPrintableAscii};
 ghost use Rattle.tabled_base.specs.ShortOr.{FitsBehind, IsMeasured, bytes_of};
 ghost use Rattle.tabled_base.specs.ShortOr.{columns_in, lines_in};
 ghost use Rattle.tabled_text.specs.Measure.{lines_of, text_columns};
@@ -130,7 +130,7 @@ impl Text<String> {
     /// Copies a text of printable ASCII, as `copied` does, without measuring it.
     #[inline(always)]
     pub fn copied_printable(alloc: Global, text: &str) -> Result<Text<String>, TableError>
-        requires { IsPrintable text.now }
+        requires { IsPrintableAscii text.now }
         ensures ok { IfOk result (λ copy. copy ≡ text.now) }
         ensures only { IfErr result (λ e. e ≡ Memory) }
         ensures long { IfErr result (λ _. SHORT_TEXT < length text.now) }
@@ -157,7 +157,7 @@ impl Text<String> {
 /// Returns the measures of a text of printable ASCII: a column for each byte, and one line.
 #[inline(always)]
 fn printable_measures(text: &str) -> (usize, usize)
-    requires { IsPrintable text.now }
+    requires { IsPrintableAscii text.now }
     ensures columns { result.0 ≡ text_columns text.now }
     ensures lines { result.1 ≡ length (lines_of text.now) }
 {

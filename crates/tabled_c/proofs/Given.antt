@@ -17,7 +17,7 @@ use Rattle.tabled.specs.Planned.{Cells, IsPlannedOf, measured}
 use Rattle.tabled.specs.Rendered.{IsRenderedOf, PassesRange, SendsTable}
 use Rattle.tabled_c.specs.Asked.{Asks, drawn, settings, with_alignments}
 use Rattle.tabled_c.specs.Cells.{IsTextsCause}
-use Rattle.tabled_c.specs.Printed.{AreCells, IsCellsCause, IsCellsTable, IsLayoutCause, IsRead, IsTableCause, IsTextTable, IsTextTableCause, cells_of, formatted, whole_table}
+use Rattle.tabled_c.specs.Printed.{AreCells, IsCellsCause, IsCellsTable, IsLayoutCause, IsRead, IsTableCause, IsTextTable, IsTextTableCause, unpacked_cells, formatted, whole_table}
 use Rattle.tabled_c.specs.Sends.{HasPrinted, IsPrintCause, IsPrintedAs}
 use Rattle.tabled_c.specs.declared.error_code.ErrorCode.{ErrorCode}
 use Rattle.tabled_c.specs.declared.cells.PackedCells.{PackedCells}
@@ -84,7 +84,7 @@ as_table cells layout Ends h = h
 as_table cells layout Counts h = h
 as_table cells layout NoAlignment h = h
 
-as_cells : (cells : PackedCells) (layout : Layout) (error : ErrorCode) → IsTableCause (cells_of cells layout) layout error → IsCellsCause cells layout error
+as_cells : (cells : PackedCells) (layout : Layout) (error : ErrorCode) → IsTableCause (unpacked_cells cells layout) layout error → IsCellsCause cells layout error
 as_cells cells layout Memory h = h
 as_cells cells layout Range h = h
 as_cells cells layout NoText h = absurd h
@@ -105,7 +105,7 @@ as_lines text layout Counts h = h
 as_lines text layout NoAlignment h = h
 
 pub unread_cells : (cells : PackedCells) (layout : Layout) (error : ErrorCode) → IsLayoutCause layout error → IsCellsCause cells layout error
-unread_cells cells layout error h = as_cells cells layout error (as_table (cells_of cells layout) layout error h)
+unread_cells cells layout error h = as_cells cells layout error (as_table (unpacked_cells cells layout) layout error h)
 
 pub unread_lines : (text : List ℕ) (layout : Layout) (error : ErrorCode) → IsLayoutCause layout error → IsTextTableCause text layout error
 unread_lines text layout error h = as_lines text layout error (as_table (text_rows text) layout error h)
@@ -159,12 +159,12 @@ module _ (cells : Cells) (layout : Layout) (format : Format) (read : IsRead layo
   abbrev pub Failed : Result (String Global) ErrorCode → Type 0
   Failed made = IfErr made (IsPrintCause format.plan printed)
 
-  pub cells_given : (packed : PackedCells) → cells ≡ cells_of packed layout → AreCells packed layout → (made : Result (String Global) ErrorCode) → Printed made
+  pub cells_given : (packed : PackedCells) → cells ≡ unpacked_cells packed layout → AreCells packed layout → (made : Result (String Global) ErrorCode) → Printed made
       → IfOk made (λ text. IsCellsTable packed layout (string_bytes text))
   cells_given packed same are (Ok text) h = (are, subst (λ (k : Cells). IsTable k layout (string_bytes text)) same (given (string_bytes text) h))
   cells_given packed same are (Err error) h = tt
 
-  pub cells_failed : (packed : PackedCells) → cells ≡ cells_of packed layout → (made : Result (String Global) ErrorCode) → Failed made
+  pub cells_failed : (packed : PackedCells) → cells ≡ unpacked_cells packed layout → (made : Result (String Global) ErrorCode) → Failed made
       → IfErr made (IsCellsCause packed layout)
   cells_failed packed same (Ok text) h = tt
   cells_failed packed same (Err error) h =

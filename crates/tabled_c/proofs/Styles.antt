@@ -17,7 +17,7 @@ use Rattle.tabled_entity.specs.Changes.{Changes, with_change}
 use Rattle.tabled_base.specs.declared.position.Entity.TheVariants.{Column}
 use Rattle.std.proofs.Common.{suc, List, [], ◌∷◌}
 use Rattle.tabled_line.specs.Apart.{ArePaddedLeft, IsApartStyle}
-use Rattle.tabled_line.specs.Plain.{IsPlainRule}
+use Rattle.tabled_line.specs.Additive.{IsAdditiveRule}
 use Rattle.tabled_text.specs.Measure.{char_columns}
 use Rattle.tabled_text.specs.Plain.{IsAdditiveColumn, has_plain_width, is_listed_or_drawn}
 use Rattle.tabled_text.proofs.PlainLemmas.{is_simple-listed}
@@ -31,13 +31,13 @@ use Rattle.tabled_c.specs.Asked.{alignment_numbered, draws_header, headed, setti
 -- ---- horizontal lines that may be there
 
 abbrev AreRules : Option HorizontalLine → Type 0
-AreRules o = (l : HorizontalLine) → o ≡ Some l → IsPlainRule l
+AreRules o = (l : HorizontalLine) → o ≡ Some l → IsAdditiveRule l
 
 no_rule : AreRules None
 no_rule l e = absurd (let no : None ≡ Some l = e in cc)
 
-a_rule : (ruled : HorizontalLine) → IsPlainRule ruled → AreRules (Some ruled)
-a_rule ruled p l e = let same : ruled ≡ l = cc in subst IsPlainRule same p
+a_rule : (ruled : HorizontalLine) → IsAdditiveRule ruled → AreRules (Some ruled)
+a_rule ruled p l e = let same : ruled ≡ l = cc in subst IsAdditiveRule same p
 
 set_rules : (below : Option HorizontalLine) (i : ℕ) (border : Option HorizontalLine) → AreRules below → AreRules border
     → AreRules (in_place_of (line_set (lines_below below) i) border)

@@ -4,7 +4,7 @@ use Rattle.std.specs.List.{All}
 use Rattle.std.specs.Str.{IsUtf8}
 use Rattle.tabled_records.specs.TextRows.{text_rows}
 use Rattle.tabled_grid.specs.Picture.{picture, table_text}
-use Rattle.tabled_line.specs.Plain.{EachLineTakes}
+use Rattle.tabled_line.specs.Additive.{EachLineTakes}
 use Rattle.tabled_size.specs.Sheet.{Sheet, estimated}
 use Rattle.tabled_size.specs.Totals.{total_width}
 use Rattle.tabled_text.specs.Cut.{IsCut}
@@ -96,17 +96,17 @@ pub record AreCells (cells : PackedCells) (layout : Layout) : Type 0 where
   pub counts : IsCounted cells.rows cells.columns (length cells.ends.now) (length layout.alignments.now)
 
 -- the cells, row by row
-abbrev pub cells_of : PackedCells → Layout → Cells
-cells_of cells layout = in_rows cells.rows cells.columns (texts_at layout.null.now cells.text.now 0 cells.ends.now)
+abbrev pub unpacked_cells : PackedCells → Layout → Cells
+unpacked_cells cells layout = in_rows cells.rows cells.columns (texts_at layout.null.now cells.text.now 0 cells.ends.now)
 
 abbrev pub IsCellsTable : PackedCells → Layout → List ℕ → Type 0
-IsCellsTable cells layout printed = AreCells cells layout × IsTable (cells_of cells layout) layout printed
+IsCellsTable cells layout printed = AreCells cells layout × IsTable (unpacked_cells cells layout) layout printed
 
 abbrev pub IsCellsCause : PackedCells → Layout → ErrorCode → Type 0
 IsCellsCause cells layout NoText = (¬ IsUtf8 cells.text.now) ⊎ (¬ IsUtf8 layout.null.now)
 IsCellsCause cells layout Ends = ¬ AreEnds cells.text.now 0 cells.ends.now
 IsCellsCause cells layout Counts = ¬ IsCounted cells.rows cells.columns (length cells.ends.now) (length layout.alignments.now)
-IsCellsCause cells layout error = IsTableCause (cells_of cells layout) layout error
+IsCellsCause cells layout error = IsTableCause (unpacked_cells cells layout) layout error
 
 -- ---- texts
 

@@ -25,11 +25,11 @@ pub record IsPut (text old : List ℕ) (answer : ℤ) (new : List ℕ) : Type 0 
   pub buffer : new ≡ with_text text old
 
 -- the code of the error is returned, and the buffer is unchanged
-pub record IsFailure (error : ErrorCode) (old : List ℕ) (answer : ℤ) (new : List ℕ) : Type 0 where
+pub record ReturnsError (error : ErrorCode) (old : List ℕ) (answer : ℤ) (new : List ℕ) : Type 0 where
   pub code : answer ≡ code_of error
   pub buffer : new ≡ old
 
 -- a text is returned, or an error with its cause
 abbrev pub ReturnsText : (List ℕ → Type 0) → (ErrorCode → Type 0) → List ℕ → ℤ → List ℕ → Type 0
 ReturnsText asked cause old answer new =
-    ((text : List ℕ) × asked text × IsPut text old answer new) ⊎ ((error : ErrorCode) × cause error × IsFailure error old answer new)
+    ((text : List ℕ) × asked text × IsPut text old answer new) ⊎ ((error : ErrorCode) × cause error × ReturnsError error old answer new)

@@ -1,7 +1,7 @@
 //! The exported functions. A slice is a pointer and a length.
 ghost use Rattle.std.specs.Prelude.{◌<◌, MatchResult, string_bytes};
 ghost use Rattle.tabled_text.specs.Cut.{NeedsFill};
-ghost use Rattle.tabled_c.specs.ReturnsText.{IsFailure, IsPut, ReturnsText};
+ghost use Rattle.tabled_c.specs.ReturnsText.{ReturnsError, IsPut, ReturnsText};
 ghost use Rattle.tabled_c.specs.Printed.{IsCellsCause, IsCellsTable, IsCutText, IsMeasured};
 ghost use Rattle.tabled_c.specs.Printed.{IsTextCause, IsTextTable, IsTextTableCause, IsWrappedText};
 
@@ -28,7 +28,7 @@ fn put(text: &str, buffer: &mut [u8]) -> isize
 fn put_or_fail(made: Result<String, ErrorCode>, buffer: &mut [u8]) -> isize
     ensures { MatchResult made
         (λ text. IsPut (string_bytes text) buffer.old result buffer.new)
-        (λ error. IsFailure error buffer.old result buffer.new) }
+        (λ error. ReturnsError error buffer.old result buffer.new) }
 {
     match made {
         Ok(text) => put(text.as_str(), buffer),

@@ -8,7 +8,7 @@ ghost use Rattle.tabled_size.specs.Sheet.{estimated, is_empty};
 ghost use Rattle.tabled_size.specs.Stored.{heights_of, widths_of};
 ghost use Rattle.tabled_size.specs.TextCells.{AreTexts};
 ghost use Rattle.tabled.specs.Planned.{measured};
-ghost use Rattle.tabled.specs.Rendered.{IsMade, IsRenderedOf};
+ghost use Rattle.tabled.specs.Rendered.{IsReadyOf, IsRenderedOf};
 ghost use Rattle.tabled_c.specs.Sends.{HasPrinted, IsPrintCause};
 
 use crate::error_code::ErrorCode;
@@ -32,7 +32,7 @@ fn narrow(
     requires rectangular { IsRectangular rows.old }
     requires no_widths { widths_of sizes.old ≡ None }
     requires no_heights { heights_of sizes.old ≡ None }
-    ensures made { OnOk result (IsMade (measured plan) (estimated rows.old settings.old.config)
+    ensures made { OnOk result (IsReadyOf (measured plan) (estimated rows.old settings.old.config)
         (effective rows.new settings.new.config sizes.new)) }
     ensures only { IfErr result (λ e. (e ≡ Memory) ⊎ (e ≡ Range)) }
     ensures range { IfErr result (λ e. e ≡ Range → (is_empty rows.old ≡ false)

@@ -12,11 +12,11 @@ pub use Rattle.std.specs.List.{flat_map, range_with_len, slice_index}
 pub use Rattle.std.specs.Result.{IsErrAnd}
 pub use Rattle.tabled_base.specs.Given.{Given}
 pub use Rattle.tabled_base.specs.declared.error.TableError.{TableError}
-pub use Rattle.tabled_compact.specs.CompactCells.{CompactSheet, columns_of, sheet_by}
+pub use Rattle.tabled_compact.specs.CompactCells.{CompactSheet, compact_columns, sheet_by}
 unfoldable pub use Rattle.tabled_compact.specs.CompactCells.{compact_cell, compact_piece, compact_row, row_front}
 unfoldable pub use Rattle.tabled_compact.specs.CompactLines.{above, part_front, row_part, rows_lines, tail_lines}
 pub use Rattle.tabled_compact.specs.Fitting.{fitting_width, widest_cell}
-pub use Rattle.tabled_compact.specs.Printed.{IsFailure, PrintsCompact, PutsRows}
+pub use Rattle.tabled_compact.specs.Printed.{FailsToPrintCompact, PrintsCompact, PutsRows}
 pub use Rattle.tabled_compact.specs.Shown.{IsSpent, has_rows, in_window, spanned, window_after}
 pub use Rattle.tabled_compact.specs.declared.columns.Window.{Window}
 pub use Rattle.tabled_line.proofs.Leading.{lines-finished, lines-stopped-first}

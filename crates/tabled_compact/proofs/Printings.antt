@@ -1,5 +1,5 @@
 -- Compact tables that are printed, or refused before the first byte.
-use Rattle.tabled_compact.proofs.Names.{Bool, CompactSheet, Err, IfSome, IsErrAnd, IsFailure, IsSpent, List, Ok, Option, PrintsCompact}
+use Rattle.tabled_compact.proofs.Names.{Bool, CompactSheet, Err, IfSome, IsErrAnd, FailsToPrintCompact, IsSpent, List, Ok, Option, PrintsCompact}
 use Rattle.tabled_compact.proofs.Names.{PutsRows, Result, Sends, Sent, Some, TableError, Window, WritesLines, [], ap, arith}
 use Rattle.tabled_compact.proofs.Names.{false, has_rows, if◌then◌else◌, in_window, inl, inr, length, nat_tests, refl}
 use Rattle.tabled_compact.proofs.Names.{rows_lines, spanned, subst, sym, tail_lines, true, ℕ, ⊎_elim, ◌++◌, ◌+◌, ◌==◌, ◌∙◌, ◌∷◌, ◌≡◌, ◌≤◌}
@@ -10,8 +10,8 @@ use Rattle.tabled_line.proofs.Below.{joined-below, lines-below}
 use Rattle.tabled_line.proofs.Leading.{lines-further, lines-text}
 use Rattle.tabled_line.proofs.Sending.{sends-along, sends-none}
 use Rattle.tabled_compact.specs.CompactLines.{compact_lines, compact_text, rows_text}
-use Rattle.tabled_compact.specs.Printed.{IsPrintable, IsPrinted, StopsInRow}
-use Rattle.tabled_compact.specs.Shown.{AreEnough, AreWanted, shown, wanted}
+use Rattle.tabled_compact.specs.Printed.{IsPrintableCompact, IsPrinted, StopsInRow}
+use Rattle.tabled_compact.specs.Shown.{AreEnough, AreWanted, shown_rows, wanted}
 use Rattle.tabled_compact.proofs.RowPieces.{begun-rows}
 use Rattle.tabled_compact.proofs.Windows.{window-none, window-one, window-wanted}
 
@@ -35,7 +35,7 @@ none-wanted n w h =
 pub prints-nothing : (t : CompactSheet) (w : Window) (comes : List (List (List ℕ)) → Bool → Type 0) (a : Sent) → comes [] false
     → (t.count ≡ 0) ⊎ IsSpent w → IsPrinted t w comes a a
 prints-nothing t w comes a came h =
-    let none : shown t.count w [] ≡ [] = either (t.count == 0) [] (in_window w []) (window-none w [] (omega arith)) in
+    let none : shown_rows t.count w [] ≡ [] = either (t.count == 0) [] (in_window w []) (window-none w [] (omega arith)) in
     record {
       rows = [];
       whole = false;
@@ -43,7 +43,7 @@ prints-nothing t w comes a came h =
       taken = any-bound (wanted t.count w);
       enough = inr (none-wanted t.count w h);
       printable = inl none;
-      sends = nothing-sent t (shown t.count w []) a none;
+      sends = nothing-sent t (shown_rows t.count w []) a none;
     }
 
 has-columns : (n : ℕ) → (n ≡ 0 → ⊥) → (n == 0) ≡ false
@@ -57,8 +57,8 @@ lines-split t (row ∷ rows) = refl
 -- a table with a column
 module _ (t : CompactSheet) (w : Window) (comes : List (List (List ℕ)) → Bool → Type 0) (old : Sent) (some : t.count ≡ 0 → ⊥)
     (rows : List (List (List ℕ))) (whole : Bool) (came : comes rows whole) where
-  -- the rows in the window are shown, and those that it spans wanted
-  all-shown : shown t.count w rows ≡ in_window w rows
+  -- the rows in the window are shown_rows, and those that it spans wanted
+  all-shown : shown_rows t.count w rows ≡ in_window w rows
   all-shown = rw (has-columns t.count some) refl
 
   all-wanted : wanted t.count w ≡ spanned w.skip w.limit
@@ -71,7 +71,7 @@ module _ (t : CompactSheet) (w : Window) (comes : List (List (List ℕ)) → Boo
   are-enough h = let P : Option ℕ → Type 0 = λ k. (whole ≡ true) ⊎ (k ≡ Some (length rows)) in subst P (sym all-wanted) h
 
   -- the sink refused in the rows
-  pub prints-stopped : {T U : Type 0} (r : Result T TableError) (e : TableError) (new : Sent) (b : Bool) → IsPrintable t
+  pub prints-stopped : {T U : Type 0} (r : Result T TableError) (e : TableError) (new : Sent) (b : Bool) → IsPrintableCompact t
       → PutsRows {T = U} t w old (Err e) new b rows whole → IsErrAnd r (λ d. d ≡ e) → PrintsCompact t w comes old r new
   prints-stopped (Ok x) e new b fine put i = absurd i
   prints-stopped (Err d) e new b fine put i =
@@ -86,7 +86,7 @@ module _ (t : CompactSheet) (w : Window) (comes : List (List (List ℕ)) → Boo
         ends = inr (record { printable = fine; stops = inl stops });
       }
 
-  ended : {T U : Type 0} (r : Result T TableError) (x : U) (mid : Sent) (m : Bool) (new : Sent) (n : Bool) → IsPrintable t
+  ended : {T U : Type 0} (r : Result T TableError) (x : U) (mid : Sent) (m : Bool) (new : Sent) (n : Bool) → IsPrintableCompact t
       → PutsRows {T = U} t w old (Ok x) mid m rows whole → WritesLines mid m r new n (if m then tail_lines t else [])
       → OnErr r (m ≡ true) → m ≡ has_rows (in_window w rows)
       → compact_lines t (in_window w rows) ≡ rows_lines t (in_window w rows) ++ (if m then tail_lines t else [])
@@ -119,7 +119,7 @@ module _ (t : CompactSheet) (w : Window) (comes : List (List (List ℕ)) → Boo
       }
 
   -- the rows were put, and then what stands below them
-  pub prints-ended : {T U : Type 0} (r : Result T TableError) (x : U) (mid : Sent) (m : Bool) (new : Sent) (n : Bool) → IsPrintable t
+  pub prints-ended : {T U : Type 0} (r : Result T TableError) (x : U) (mid : Sent) (m : Bool) (new : Sent) (n : Bool) → IsPrintableCompact t
       → PutsRows {T = U} t w old (Ok x) mid m rows whole → WritesLines mid m r new n (if m then tail_lines t else [])
       → OnErr r (m ≡ true) → PrintsCompact t w comes old r new
   prints-ended r x mid m new n fine put ends failed =
@@ -130,7 +130,7 @@ module _ (t : CompactSheet) (w : Window) (comes : List (List (List ℕ)) → Boo
   -- the table can't be printed
   pub prints-refused : {T : Type 0} (error : TableError) (r : Result T TableError)
       → MatchResult r (λ _. (length rows ≤ w.skip) × (whole ≡ true)) (λ e. (length rows ≡ w.skip + 1) × (e ≡ error))
-      → (IsSpent w → ⊥) → IsFailure t error → PrintsCompact t w comes old r old
+      → (IsSpent w → ⊥) → FailsToPrintCompact t error → PrintsCompact t w comes old r old
   prints-refused error (Ok x) found still cause =
       let none = all-shown ∙ window-none w rows found.0 in
       let few = found.0 in
@@ -141,10 +141,10 @@ module _ (t : CompactSheet) (w : Window) (comes : List (List (List ℕ)) → Boo
         taken = are-wanted (window-wanted w (length rows) still (omega (arith, few)));
         enough = inl found.1;
         printable = inl none;
-        sends = nothing-sent t (shown t.count w rows) old none;
+        sends = nothing-sent t (shown_rows t.count w rows) old none;
       }
   prints-refused error (Err d) found still cause =
-      let R : TableError → Type 0 = λ k. IsFailure t k in
+      let R : TableError → Type 0 = λ k. FailsToPrintCompact t k in
       let first = found.0 in
       record {
         rows = rows;

@@ -2,7 +2,7 @@
 use Rattle.tabled_compact.proofs.Names.{CompactSheet, List, [], above, ap, append-nil, append_assoc, arith, begun_after, compact_row, false}
 use Rattle.tabled_compact.proofs.Names.{flat_map, has_rows, if◌then◌else◌, nat_tests, refl, row_part, rows_lines, suc, sym, true, zero, ℕ}
 use Rattle.tabled_compact.proofs.Names.{◌++◌, ◌==◌, ◌∙◌, ◌∷◌, ◌≡◌, Bool, Err, IfOk, IsErrAnd, Ok, OnOk, Result, Sent, Stops, TableError}
-use Rattle.tabled_compact.proofs.Names.{Writes, WritesLines, columns_of, compact_cell, compact_piece, finished, length, length-append}
+use Rattle.tabled_compact.proofs.Names.{Writes, WritesLines, compact_columns, compact_cell, compact_piece, finished, length, length-append}
 use Rattle.tabled_compact.proofs.Names.{length-map, map, map-append, min, part_front, range_with_len, right_edge, row_front, slice_index}
 use Rattle.tabled_compact.proofs.Names.{stopped-first, subst, ⊎_elim, ◌+◌, ◌-◌, ◌<◌, ◌≤◌}
 use Rattle.std.proofs.lemmas.List.Concat.{flat_map-append}
@@ -141,7 +141,7 @@ front-drawn t b row from n e l m none =
 
 -- the text of a row with the lines above it: its beginning with all columns, and the right edge
 pub front-whole : (t : CompactSheet) (b : Bool) (row : List (List ℕ))
-    → lines_after b (row_part t b row) ≡ part_front t b row t.count ++ (let f = (columns_of t).frame in right_edge f f.right.main)
+    → lines_after b (row_part t b row) ≡ part_front t b row t.count ++ (let f = (compact_columns t).frame in right_edge f f.right.main)
 unfolding row_part part_front compact_row
 front-whole t b row = lines_after-append b (above t b) (compact_row t row ∷ []) ∙ simp (append_assoc, append-nil)
 
@@ -149,7 +149,7 @@ front-whole t b row = lines_after-append b (above t b) (compact_row t row ∷ []
 pub front-rest : (t : CompactSheet) (b : Bool) (row : List (List ℕ)) (n : ℕ) → n ≤ t.count
     → (rest : List ℕ) × (lines_after b (row_part t b row) ≡ part_front t b row n ++ rest)
 front-rest t b row n h =
-    let f = (columns_of t).frame in
+    let f = (compact_columns t).frame in
     let edge = right_edge f f.right.main in
     let g : ℕ → List ℕ = λ i. compact_piece t i (slice_index_or row i []) in
     ⊎_elim
@@ -177,7 +177,7 @@ no-spaces alignment c free h =
 
 -- an empty cell without padding takes nothing in a column of no width, behind no vertical line
 pub empty-piece : (t : CompactSheet) (k : ℕ) → t.config.padding.left.size ≡ 0 → t.config.padding.right.size ≡ 0
-    → slice_index t.widths k ≡ 0 → has_bar (columns_of t).frame k ≡ false → compact_piece t k [] ≡ []
+    → slice_index t.widths k ≡ 0 → has_bar (compact_columns t).frame k ≡ false → compact_piece t k [] ≡ []
 unfolding compact_piece compact_cell
 empty-piece t k left right width bar =
     rw (bar, left, right, width) (no-spaces t.config.alignment_horizontal t.config.padding.right.fill _ (omega arith))

@@ -1,14 +1,14 @@
 -- Compact tables that are printed to a borrowed writer.
-use Rattle.tabled_compact.proofs.Names.{Bool, CompactSheet, Err, IsFailure, List, None, Ok, Option, PrintsCompact, Result, Sent, TableError}
+use Rattle.tabled_compact.proofs.Names.{Bool, CompactSheet, Err, FailsToPrintCompact, List, None, Ok, Option, PrintsCompact, Result, Sent, TableError}
 use Rattle.tabled_compact.proofs.Names.{Window, inl, inr, subst, ℕ, ⊎_elim, ◌≡◌}
 use Rattle.tabled_base.specs.declared.error.TableError.TheVariants.{Writer}
 use Rattle.tabled_line.specs.WriterSent.{named_sent}
 use Rattle.tabled_line.proofs.Below.{below-so}
 use Rattle.tabled_line.proofs.Writers.{LeavesSo, byte_of, writer-leaves, writer-sends}
-use Rattle.tabled_compact.specs.Printed.{BuildsCompact, IsEnded, FailsEarly, IsStopped}
+use Rattle.tabled_compact.specs.Printed.{BuildsCompact, IsEnded, FailsEarly, StopsPrinting}
 
-not_writer : (t : CompactSheet) (e : TableError) → IsFailure t e → e ≡ Writer → ⊥
-not_writer t e h k = let P : TableError → Type 0 = λ x. IsFailure t x in subst P k h
+not_writer : (t : CompactSheet) (e : TableError) → FailsToPrintCompact t e → e ≡ Writer → ⊥
+not_writer t e h k = let P : TableError → Type 0 = λ x. FailsToPrintCompact t x in subst P k h
 
 -- why a compact table isn't printed whole, for another sink
 ended-so : {a b a' b' : Sent} {e : TableError} (t : CompactSheet) (w : Window) (comes : List (List (List ℕ)) → Bool → Type 0)
@@ -16,7 +16,7 @@ ended-so : {a b a' b' : Sent} {e : TableError} (t : CompactSheet) (w : Window) (
 ended-so {a} {b} {a'} {b'} {e} t w comes so p =
     let early : FailsEarly t w p.rows a e b → FailsEarly t w p.rows a' e b' =
     λ q. record { first = q.first; cause = q.cause; same = so.same (not_writer t e q.cause) q.same } in
-    let stopped : IsStopped t w p.rows p.whole a e b → IsStopped t w p.rows p.whole a' e b' =
+    let stopped : StopsPrinting t w p.rows p.whole a e b → StopsPrinting t w p.rows p.whole a' e b' =
     λ q. record {
       printable = q.printable;
       stops =

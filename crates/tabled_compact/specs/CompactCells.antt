@@ -23,8 +23,8 @@ sheet_by config width_at count =
     record { config = config; count = count; widths = reached width_at count }
 
 -- the columns of a sheet, with their frame
-abbrev pub columns_of : CompactSheet → ColumnSheet
-columns_of t = record {
+abbrev pub compact_columns : CompactSheet → ColumnSheet
+compact_columns t = record {
   count = t.count;
   width = slice_index t.widths;
   frame = frame_of t.config.borders t.config.margin;
@@ -41,7 +41,7 @@ compact_cell config width text =
 -- the vertical line before a column, and a text in the column
 unfoldable pub compact_piece : CompactSheet → ℕ → List ℕ → List ℕ
 compact_piece t column text =
-    let f = (columns_of t).frame in
+    let f = (compact_columns t).frame in
     piece (has_bar f column) f.inner.main
     ++ compact_cell t.config (slice_index t.widths column) text
 
@@ -52,9 +52,9 @@ pieces t row n =
 
 -- the beginning of the line of a row: its left edge, and its first columns
 unfoldable pub row_front : CompactSheet → List (List ℕ) → ℕ → List ℕ
-row_front t row n = let f = (columns_of t).frame in left_edge f f.left.main ++ pieces t row n
+row_front t row n = let f = (compact_columns t).frame in left_edge f f.left.main ++ pieces t row n
 
 -- the line of a row: its cells between the edges; cells after the last column are ignored
 unfoldable pub compact_row : CompactSheet → List (List ℕ) → List ℕ
 compact_row t row =
-    let f = (columns_of t).frame in row_front t row t.count ++ right_edge f f.right.main
+    let f = (compact_columns t).frame in row_front t row t.count ++ right_edge f f.right.main

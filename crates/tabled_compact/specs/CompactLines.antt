@@ -9,11 +9,11 @@ use Rattle.tabled_line.specs.Apart.{line_total}
 use Rattle.tabled_line.specs.Fill.{fill}
 use Rattle.tabled_line.specs.Leading.{begun_after, break, lines_after}
 use Rattle.tabled_line.specs.Row.{rule_if}
-use Rattle.tabled_compact.specs.CompactCells.{CompactSheet, columns_of, compact_row, row_front}
+use Rattle.tabled_compact.specs.CompactCells.{CompactSheet, compact_columns, compact_row, row_front}
 
 -- the total width: all widths, the vertical lines and the side margins
 abbrev pub compact_width : CompactSheet → ℕ
-compact_width t = line_total (columns_of t)
+compact_width t = line_total (compact_columns t)
 
 -- the horizontal line between two rows: there is one if the inner line has any character; its ends
 -- are the characters of the left and right vertical lines
@@ -29,18 +29,18 @@ margin_lines t side = replicate side.size (fill side.fill (compact_width t))
 -- the lines above the first row: the margin and the top line
 unfoldable pub head_lines : CompactSheet → List (List ℕ)
 head_lines t =
-    margin_lines t t.config.margin.top ++ rule_if (columns_of t) (if_any (top_line t.config.borders))
+    margin_lines t t.config.margin.top ++ rule_if (compact_columns t) (if_any (top_line t.config.borders))
 
 -- the lines below the last row: the bottom line and the margin
 unfoldable pub tail_lines : CompactSheet → List (List ℕ)
 tail_lines t =
-    rule_if (columns_of t) (if_any (bottom_line t.config.borders))
+    rule_if (compact_columns t) (if_any (bottom_line t.config.borders))
     ++ margin_lines t t.config.margin.bottom
 
 -- the lines above a row: the head for the first, else a separator
 unfoldable pub above : CompactSheet → Bool → List (List ℕ)
 above t false = head_lines t
-above t true = rule_if (columns_of t) (separator t.config.borders)
+above t true = rule_if (compact_columns t) (separator t.config.borders)
 
 -- a row with the lines above it; `follows` if it is after another row
 unfoldable pub row_part : CompactSheet → Bool → List (List ℕ) → List (List ℕ)

@@ -9,18 +9,18 @@ use Rattle.tabled_line.specs.StopsBelow.{StopsBelow}
 use Rattle.tabled_line.specs.WriterSent.{known_since, writer_after, writer_before}
 use Rattle.tabled_compact.specs.CompactCells.{CompactSheet}
 use Rattle.tabled_compact.specs.CompactLines.{compact_text, compact_width, rows_lines, rows_text}
-use Rattle.tabled_compact.specs.Shown.{AreEnough, AreWanted, has_rows, in_window, shown, spanned}
+use Rattle.tabled_compact.specs.Shown.{AreEnough, AreWanted, has_rows, in_window, shown_rows, spanned}
 use Rattle.tabled_compact.specs.declared.columns.Window.{Window}
 
 -- why printing a table that shows a row fails: a width is missing; or none is, and the total width
 -- exceeds the greatest `usize`
-abbrev pub IsFailure : CompactSheet → TableError → Type 0
-IsFailure t ShortWidths = length t.widths < t.count
-IsFailure t Range = (t.count ≤ length t.widths) × (2 ^ 64 ≤ compact_width t)
-IsFailure t _ = ⊥
+abbrev pub FailsToPrintCompact : CompactSheet → TableError → Type 0
+FailsToPrintCompact t ShortWidths = length t.widths < t.count
+FailsToPrintCompact t Range = (t.count ≤ length t.widths) × (2 ^ 64 ≤ compact_width t)
+FailsToPrintCompact t _ = ⊥
 
 -- the table can be printed
-pub record IsPrintable (t : CompactSheet) : Type 0 where
+pub record IsPrintableCompact (t : CompactSheet) : Type 0 where
   pub sized : t.count ≤ length t.widths
   pub in_range : compact_width t < 2 ^ 64
 
@@ -32,14 +32,14 @@ pub record IsPrinted (t : CompactSheet) (w : Window) (comes : List (List (List �
   pub came : comes rows whole
   pub taken : AreWanted t.count w rows
   pub enough : AreEnough t.count w rows whole
-  pub printable : (shown t.count w rows ≡ []) ⊎ IsPrintable t
-  pub sends : Sends old new (compact_text t (shown t.count w rows))
+  pub printable : (shown_rows t.count w rows ≡ []) ⊎ IsPrintableCompact t
+  pub sends : Sends old new (compact_text t (shown_rows t.count w rows))
 
--- an error before the first byte: the first row that is shown was read, and the table can't be
+-- an error before the first byte: the first row that is shown_rows was read, and the table can't be
 -- printed
 pub record FailsEarly (t : CompactSheet) (w : Window) (rows : List (List (List ℕ))) (old : Sent) (error : TableError) (new : Sent) : Type 0 where
   pub first : length rows ≡ w.skip + 1
-  pub cause : IsFailure t error
+  pub cause : FailsToPrintCompact t error
   pub same : new ≡ old
 
 -- the sink failed in the last row that was read, or in the horizontal line or margin above it. The
@@ -54,22 +54,22 @@ pub record StopsInRow (text : List (List (List ℕ)) → List ℕ) (rows : List 
 -- lines of all rows were written
 pub record StopsAtEnd (t : CompactSheet) (w : Window) (rows : List (List (List ℕ))) (whole : Bool) (old : Sent) (error : TableError) (new : Sent) : Type 0 where
   pub enough : AreEnough t.count w rows whole
-  pub stops : StopsBelow (rows_text t (shown t.count w rows)) old error new (compact_text t (shown t.count w rows))
+  pub stops : StopsBelow (rows_text t (shown_rows t.count w rows)) old error new (compact_text t (shown_rows t.count w rows))
 
 -- the table can be printed, and the sink failed. No row was read after the one whose lines it
 -- didn't take
-pub record IsStopped (t : CompactSheet) (w : Window) (rows : List (List (List ℕ))) (whole : Bool) (old : Sent) (error : TableError) (new : Sent) : Type 0 where
-  pub printable : IsPrintable t
-  pub stops : StopsInRow (λ some. rows_text t (shown t.count w some)) rows old error new ⊎ StopsAtEnd t w rows whole old error new
+pub record StopsPrinting (t : CompactSheet) (w : Window) (rows : List (List (List ℕ))) (whole : Bool) (old : Sent) (error : TableError) (new : Sent) : Type 0 where
+  pub printable : IsPrintableCompact t
+  pub stops : StopsInRow (λ some. rows_text t (shown_rows t.count w some)) rows old error new ⊎ StopsAtEnd t w rows whole old error new
 
--- on `Err`: a row is shown, and one of these holds
+-- on `Err`: a row is shown_rows, and one of these holds
 pub record IsEnded (t : CompactSheet) (w : Window) (comes : List (List (List ℕ)) → Bool → Type 0) (old : Sent) (error : TableError) (new : Sent) : Type 0 where
   pub rows : List (List (List ℕ))
   pub whole : Bool
   pub came : comes rows whole
   pub taken : AreWanted t.count w rows
-  pub filled : has_rows (shown t.count w rows) ≡ true
-  pub ends : FailsEarly t w rows old error new ⊎ IsStopped t w rows whole old error new
+  pub filled : has_rows (shown_rows t.count w rows) ≡ true
+  pub ends : FailsEarly t w rows old error new ⊎ StopsPrinting t w rows whole old error new
 
 -- what a call that prints a compact table leaves
 abbrev pub PrintsCompact : {T : Type 0} → CompactSheet → Window → (List (List (List ℕ)) → Bool → Type 0) → Sent → Result T TableError → Sent → Type 0
@@ -85,7 +85,7 @@ BuildsCompact t w comes old result new =
 -- ---- Of private steps: no public call promises this.
 
 -- the rows were read, all of them or as many as the window spans, and their lines were written; or
--- the sink failed in the last of them, which is shown
+-- the sink failed in the last of them, which is shown_rows
 pub record PutsRows {T : Type 0} (t : CompactSheet) (w : Window) (old : Sent) (result : Result T TableError)
     (new : Sent) (begun : Bool) (rows : List (List (List ℕ))) (whole : Bool) : Type 0 where
   pub taken : IfSome (spanned w.skip w.limit) (λ most. length rows ≤ most)

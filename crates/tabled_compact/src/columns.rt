@@ -2,7 +2,7 @@
 ghost use Rattle.std.specs.Prelude.{Bool, IfErr, IfOk, IsTrue, List, OnOk, [], if◌then◌else◌};
 ghost use Rattle.std.specs.Prelude.{length, min, nat_lt, ℕ, ◌+◌, ◌<◌, ◌==◌, ◌↔◌, ◌≡◌, ◌≤◌};
 ghost use Rattle.tabled_base.specs.declared.error.TableError.TheVariants.{ShortWidths};
-ghost use Rattle.tabled_compact.specs.CompactCells.{CompactSheet, columns_of, compact_piece};
+ghost use Rattle.tabled_compact.specs.CompactCells.{CompactSheet, compact_columns, compact_piece};
 ghost use Rattle.tabled_compact.specs.CompactCells.{sheet_by};
 ghost use Rattle.tabled_compact.specs.CompactLines.{part_front, row_part};
 ghost use Rattle.tabled_config.specs.Frame.{frame_of};
@@ -142,7 +142,7 @@ impl<'a, D: Dimension> CompactColumns<'a, D> {
 }
 
 impl<'a, D: Dimension> TableColumns for CompactColumns<'a, D> {
-    ghost sheet = { λ c. columns_of c };
+    ghost sheet = { λ c. compact_columns c };
 
     fn count_columns(&self) -> usize {
         self.count

@@ -5,10 +5,10 @@ ghost use Rattle.std.specs.Iterator.{IsFiniteIterable};
 ghost use Rattle.std.specs.Prelude.{Bool, IfErr, IfOk, List, MatchResult, OnErr, OnOk, [], false};
 ghost use Rattle.std.specs.Prelude.{if◌then◌else◌, length, map, true, ℕ, ◌+◌, ◌==◌, ◌≡◌, ◌≤◌};
 ghost use Rattle.tabled_base.specs.Given.{Given};
-ghost use Rattle.tabled_compact.specs.CompactCells.{columns_of, sheet_by};
+ghost use Rattle.tabled_compact.specs.CompactCells.{compact_columns, sheet_by};
 ghost use Rattle.tabled_compact.specs.CompactLines.{above, compact_width, part_front, row_part};
 ghost use Rattle.tabled_compact.specs.CompactLines.{separator, tail_lines};
-ghost use Rattle.tabled_compact.specs.Printed.{IsFailure, IsPrintable, PrintsCompact, PutsRows};
+ghost use Rattle.tabled_compact.specs.Printed.{FailsToPrintCompact, IsPrintableCompact, PrintsCompact, PutsRows};
 ghost use Rattle.tabled_compact.specs.Shown.{Came, IsSpent, Taken, window_after};
 ghost use Rattle.tabled_line.specs.Leading.{WritesLines};
 ghost use Rattle.tabled_line.specs.LineCache.{IsCacheOf};
@@ -143,7 +143,7 @@ pub(crate) struct RowPrinter<'a, D: Dimension> {
     /// The total width in columns.
     total: usize,
     ghost whole: { total ≡ compact_width lines.columns },
-    ghost kept: { IsCacheOf (columns_of lines.columns) lines.kept } by { Prim.hlevel props },
+    ghost kept: { IsCacheOf (compact_columns lines.columns) lines.kept } by { Prim.hlevel props },
 }
 
 impl<'a, D: Dimension> RowPrinter<'a, D> {
@@ -159,9 +159,9 @@ impl<'a, D: Dimension> RowPrinter<'a, D> {
             ≡ sheet_by config.now (D.width_at dimension.now) count) }
         ensures begun { IfOk result (λ printer. printer.lines.begun ≡ false) }
         ensures printable { OnOk result
-            (IsPrintable (sheet_by config.now (D.width_at dimension.now) count)) }
+            (IsPrintableCompact (sheet_by config.now (D.width_at dimension.now) count)) }
         ensures err { IfErr result
-            (IsFailure (sheet_by config.now (D.width_at dimension.now) count)) }
+            (FailsToPrintCompact (sheet_by config.now (D.width_at dimension.now) count)) }
     {
         let columns = CompactColumns::new(config, dimension, count)?;
         match line_total(&columns) {
@@ -318,7 +318,7 @@ impl<'a, D: Dimension> RowPrinter<'a, D> {
         requires wanted { IsSpent window → ⊥ }
         requires begun { self.old.lines.begun ≡ false }
         requires columns { self.old.lines.columns.count ≡ 0 → ⊥ }
-        requires printable { IsPrintable self.old.lines.columns }
+        requires printable { IsPrintableCompact self.old.lines.columns }
         ensures { PrintsCompact self.old.lines.columns window
             (Taken I.next_gives W.into_iter_gives W.IntoIter.next_gives C.text rows.old rows.new)
             (S.sent sink.old) result (S.sent sink.new) }

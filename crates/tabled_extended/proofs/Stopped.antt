@@ -6,7 +6,7 @@ use Rattle.std.proofs.Math.Seq.{set-append_seam}
 use Rattle.std.proofs.Math.ListN.{set}
 use Rattle.std.proofs.lemmas.List.{map-set}
 use Rattle.std.proofs.lemmas.List.Elements.{AllZip-push, length_all_zip}
-use Rattle.tabled_extended.specs.Truncated.{IsStopped, AreTruncated}
+use Rattle.tabled_extended.specs.Truncated.{StopsInList, AreTruncated}
 use Rattle.std.proofs.Common.{None}
 use Rattle.tabled_extended.specs.declared.truncating.TextWidths.{TextWidths}
 
@@ -64,7 +64,7 @@ so_far-more {A} {change} {count} {old} {new} {new'} {x} {y} h l i c s =
 
 pub so_far-stopped : {A : Type 0} {change : A → A → Type 0} (stop : A → A → Type 0) {count : ℕ} {old new new' : List A} {x y : A}
     → ChangedSoFar change count old new
-    → count < length new → x ≡ get_or new count x → stop x y → new' ≡ set new count y → IsStopped change stop old new'
+    → count < length new → x ≡ get_or new count x → stop x y → new' ≡ set new count y → StopsInList change stop old new'
 so_far-stopped {A} {change} stop {count} {old} {new} {new'} {x} {y} h l i c s =
     let n = next new h.changed h.behind count x h.new_list h.many l i in
     let was : new ≡ h.changed ++ x ∷ n.rest = h.new_list ∙ ap (λ b. h.changed ++ b) n.found in

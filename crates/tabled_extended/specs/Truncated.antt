@@ -50,14 +50,14 @@ pub record TakesMemory (suffix : List ℕ) (n : ℕ) (text : List ℕ) : Type 0 
   pub some_left : 0 < length front + (missing_columns n front off + length suffix)
 
 -- an allocation failed, and the text is unchanged
-pub record IsFailure (suffix : List ℕ) (n : ℕ) (text answer : List ℕ) : Type 0 where
+pub record StopsAtText (suffix : List ℕ) (n : ℕ) (text answer : List ℕ) : Type 0 where
   pub takes : TakesMemory suffix n text
   pub stays : answer ≡ text
 
 -- ---- many texts
 
 -- the items before one are changed, the call stopped at this one, and those after it are unchanged
-pub record IsStopped {A : Type 0} (change stop : A → A → Type 0) (old new : List A) : Type 0 where
+pub record StopsInList {A : Type 0} (change stop : A → A → Type 0) (old new : List A) : Type 0 where
   pub before : List A
   pub changed : List A
   pub here : A
@@ -70,10 +70,10 @@ pub record IsStopped {A : Type 0} (change stop : A → A → Type 0) (old new : 
 
 -- the values of a record, and the records, up to a text for which an allocation failed
 abbrev pub StopsInRecord : List ℕ → ℕ → List (List ℕ) → List (List ℕ) → Type 0
-StopsInRecord suffix n old new = IsStopped (IsTruncated suffix n) (IsFailure suffix n) old new
+StopsInRecord suffix n old new = StopsInList (IsTruncated suffix n) (StopsAtText suffix n) old new
 
 abbrev pub StopsInRecords : List ℕ → ℕ → List (List (List ℕ)) → List (List (List ℕ)) → Type 0
-StopsInRecords suffix n old new = IsStopped (AllZip (IsTruncated suffix n)) (StopsInRecord suffix n) old new
+StopsInRecords suffix n old new = StopsInList (AllZip (IsTruncated suffix n)) (StopsInRecord suffix n) old new
 
 -- ---- the table
 

@@ -3,7 +3,7 @@ ghost use Rattle.std.specs.Prelude.{◌≡◌, IfOk, MatchOption, OnErr, OnOk, s
 ghost use Rattle.std.specs.List.{AllZip};
 ghost use Rattle.tabled_base.specs.Cells.{row_texts};
 ghost use Rattle.tabled_set.specs.Truncated.{suffix_columns};
-ghost use Rattle.tabled_extended.specs.Truncated.{AreTruncated, IsFailure, IsTruncated};
+ghost use Rattle.tabled_extended.specs.Truncated.{AreTruncated, StopsAtText, IsTruncated};
 ghost use Rattle.tabled_extended.specs.Truncated.{StopsInRecord, StopsInRecords, StopsTruncating};
 ghost use Rattle.tabled_extended.specs.Truncated.{TakesMemory, Truncates, least_columns};
 ghost use Rattle.tabled_extended.specs.Truncated.{text_widths_in};
@@ -81,7 +81,7 @@ fn truncate_text(
     suffix: &str,
 ) -> Result<(), AllocError>
     ensures ok { OnOk result (IsTruncated suffix.now width_limit text.old text.new) }
-    ensures err { OnErr result (IsFailure suffix.now width_limit text.old text.new) }
+    ensures err { OnErr result (StopsAtText suffix.now width_limit text.old text.new) }
 {
     if let Some(answer) = truncated(alloc, text.text(), width_limit, suffix)? {
         *text = Text::new(answer);

@@ -1,6 +1,6 @@
 -- Each line of a picture takes the table's columns, whatever texts the cells are.
-use Rattle.tabled_grid.proofs.Names.{EachLineTakes, Holds, HorizontalLine, IsPlainRule, IsRectangular, Sheet, [], arith, cell_at, columns}
-use Rattle.tabled_grid.proofs.Names.{columns_of, filled_width, get_or, length, line_columns, line_total, picture, plain_rule_line, row_line}
+use Rattle.tabled_grid.proofs.Names.{EachLineTakes, Holds, HorizontalLine, IsAdditiveRule, IsRectangular, Sheet, [], arith, cell_at, columns}
+use Rattle.tabled_grid.proofs.Names.{sheet_columns, filled_width, get_or, length, line_columns, line_total, picture, plain_rule_line, row_line}
 use Rattle.tabled_grid.proofs.Names.{fill, frame, plain-fill, row_of, rule_line, slice_index, total_width, ℕ, ◌<◌, ◌≡◌}
 use Rattle.std.specs.Str.{IsUtf8}
 use Rattle.tabled_text.specs.Plain.{IsAdditiveColumn}
@@ -33,10 +33,10 @@ row_takes : (t : Sheet) (row index : ℕ) → IsApartSheet t → row < length t.
 unfolding filled_width line_total
 row_takes t row index p r m = row_line_takes (row_of t row) index (apart-row t row p r) (holds-row t row p r) m
 
-rule_takes : (t : Sheet) (line : HorizontalLine) → IsApartSheet t → IsPlainRule line
-    → line_columns (rule_line (columns_of t) line) ≡ filled_width t.config (columns t.cells) t.widths
+rule_takes : (t : Sheet) (line : HorizontalLine) → IsApartSheet t → IsAdditiveRule line
+    → line_columns (rule_line (sheet_columns t) line) ≡ filled_width t.config (columns t.cells) t.widths
 unfolding filled_width line_total
-rule_takes t line p q = (plain_rule_line (columns_of t) line p.config.frame.margin_left.additive p.config.frame.margin_right.additive q).columns
+rule_takes t line p q = (plain_rule_line (sheet_columns t) line p.config.frame.margin_left.additive p.config.frame.margin_right.additive q).columns
 
 fill_takes : (t : Sheet) (c : ℕ) → IsAdditiveColumn c → line_columns (fill c (filled_width t.config (columns t.cells) t.widths))
     ≡ filled_width t.config (columns t.cells) t.widths

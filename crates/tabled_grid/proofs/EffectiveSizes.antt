@@ -1,5 +1,5 @@
 -- The sizes that stand: those that a dimension stores, and estimates where it stores none.
-use Rattle.tabled_grid.proofs.Names.{Bool, Err, Holds, IfErr, IsErrAnd, IsFailure, IsOutOfRange, IsSized, List, Memory, Narrow, None, Ok}
+use Rattle.tabled_grid.proofs.Names.{Bool, Err, Holds, IfErr, IsErrAnd, FailsToPrint, IsOutOfRange, IsSized, List, Memory, Narrow, None, Ok}
 use Rattle.tabled_grid.proofs.Names.{Option, Range, Result, Sheet, ShortHeights, ShortWidths, Some, SpannedConfig, TableError, Writer, ap}
 use Rattle.tabled_grid.proofs.Names.{arith, columns, effective, estimated, estimated_heights, estimated_widths, false, filled_height}
 use Rattle.tabled_grid.proofs.Names.{filled_width, heights_length, heights_of, inl, inr, is_some, is_stored, length, reached, refl}
@@ -57,12 +57,12 @@ handed_on Q P (Err d) e i h = subst P (sym i) h
 -- what a check of stored sizes returns
 pub high_refused : {T : Type 0} (r : Result T TableError) (t : Sheet) (P Q : Type 0) → (P → IsSized t) → Holds t
     → (Q → (columns t.cells ≤ length t.widths) × (length t.heights < length t.cells)) → OnOk r P → IfErr r (λ d. (d ≡ ShortHeights) × Q)
-    → MatchResult r (λ _. IsSized t × Holds t) (IsFailure t)
+    → MatchResult r (λ _. IsSized t × Holds t) (FailsToPrint t)
 high_refused (Ok x) t P Q f held g p h = (f p, held)
-high_refused (Err d) t P Q f held g p h = subst (IsFailure t) (sym h.0) (g h.1)
+high_refused (Err d) t P Q f held g p h = subst (FailsToPrint t) (sym h.0) (g h.1)
 
 pub narrow_refused : {T : Type 0} (r : Result T TableError) (t : Sheet) → IsSized t → OnOk r (Holds t) → IfErr r (IsNarrow t)
-    → MatchResult r (λ _. IsSized t × Holds t) (IsFailure t)
+    → MatchResult r (λ _. IsSized t × Holds t) (FailsToPrint t)
 narrow_refused (Ok x) t s p h = (s, p)
 narrow_refused (Err (Narrow row column)) t s p h = (s, h)
 narrow_refused (Err Memory) t s p h = absurd h
@@ -159,11 +159,11 @@ module _ (cells : List (List (List ℕ))) (config : SpannedConfig) where
 
   pub refused_unestimated : (sizes copy : CompleteDimension) (e : TableError) → widths_of copy ≡ widths_of sizes → heights_of copy ≡ heights_of sizes
       → IsSized (effective cells config sizes) → Holds (effective cells config sizes)
-      → (e ≡ Memory) ⊎ ((e ≡ Range) × HasNoEstimate copy cells config) → (e ≡ Memory) ⊎ IsFailure (effective cells config sizes) e
+      → (e ≡ Memory) ⊎ ((e ≡ Range) × HasNoEstimate copy cells config) → (e ≡ Memory) ⊎ FailsToPrint (effective cells config sizes) e
   refused_unestimated sizes copy e w h sized held cause =
       let same : HasNoEstimate copy cells config → HasNoEstimate sizes cells config = ⊎_elim (λ x. inl (sym w ∙ x.0, x.1)) (λ x. inr (sym h ∙ x.0, x.1)) in
       ⊎_elim (λ m. inl m)
-      (λ x. inr (subst (IsFailure (effective cells config sizes)) (sym x.0) (sized, held, passes_effective sizes (same x.1)))) cause
+      (λ x. inr (subst (FailsToPrint (effective cells config sizes)) (sym x.0) (sized, held, passes_effective sizes (same x.1)))) cause
 
   -- stored widths that are as large as the estimates hold the cells
   pub held_enough : (sizes : CompleteDimension) (list : List ℕ) → widths_of sizes ≡ Some list

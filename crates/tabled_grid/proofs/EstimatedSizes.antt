@@ -1,5 +1,5 @@
 -- Tables with estimated sizes: they hold their cells, so that the range alone can refuse them.
-use Rattle.tabled_grid.proofs.Names.{Holds, IsFailure, IsOutOfRange, IsSized, List, Memory, Narrow, Range, ShortHeights, ShortWidths}
+use Rattle.tabled_grid.proofs.Names.{Holds, FailsToPrint, IsOutOfRange, IsSized, List, Memory, Narrow, Range, ShortHeights, ShortWidths}
 use Rattle.tabled_grid.proofs.Names.{SpannedConfig, TableError, Writer, arith, columns, estimated, estimated_heights, estimated_widths, inl}
 use Rattle.tabled_grid.proofs.Names.{inr, length, length-map-range_with_len, refl, too_high_passes, too_wide_passes, width_at, width_ge, ℕ}
 use Rattle.tabled_grid.proofs.Names.{◌≡◌}
@@ -18,7 +18,7 @@ pub holds_estimated : (cells : List (List (List ℕ))) (config : SpannedConfig) 
 holds_estimated cells config row column r c = rw (width_at cells config column c) (width_ge cells config row column r)
 
 -- so that a table with them is refused for the range alone
-pub refused_estimated : (cells : List (List (List ℕ))) (config : SpannedConfig) (e : TableError) → IsFailure (estimated cells config) e → (e ≡ Range) × IsOutOfRange (estimated cells config)
+pub refused_estimated : (cells : List (List (List ℕ))) (config : SpannedConfig) (e : TableError) → FailsToPrint (estimated cells config) e → (e ≡ Range) × IsOutOfRange (estimated cells config)
 refused_estimated cells config Memory h = absurd h
 refused_estimated cells config Writer h = absurd h
 refused_estimated cells config ShortWidths h = let sized = (sized_estimated cells config).columns in absurd (omega arith)

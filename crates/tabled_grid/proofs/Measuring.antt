@@ -1,6 +1,6 @@
 -- The columns of what is made of plain pieces.
-use Rattle.tabled_grid.proofs.Names.{AreAdditive, Holds, HorizontalLine, IsPlainConfig, IsPlainRule, IsPlainStyle, IsRectangular, List}
-use Rattle.tabled_grid.proofs.Names.{Sheet, [], arith, cases_lt, cell_at, columns, columns_of, filled_width, flat_map, frame, get_or}
+use Rattle.tabled_grid.proofs.Names.{AreAdditive, Holds, HorizontalLine, IsAdditiveConfig, IsAdditiveRule, IsAdditiveStyle, IsRectangular, List}
+use Rattle.tabled_grid.proofs.Names.{Sheet, [], arith, cases_lt, cell_at, columns, sheet_columns, filled_width, flat_map, frame, get_or}
 use Rattle.tabled_grid.proofs.Names.{length, line_columns, line_total, one_if, plain-fill, plain_rule_line, range_with_len, row_line}
 use Rattle.tabled_grid.proofs.Names.{row_of, rule_line, slice_index, style_at, subst, sum_below, sym, ℕ, ⊎_elim, ◌+◌, ◌<◌, ◌≡◌, ◌≤◌}
 use Rattle.std.proofs.Common.{◌-◌, ◌*◌}
@@ -26,7 +26,7 @@ additive_cells cells h row d within column e inside =
 
 -- what the columns of a picture rest on
 pub record IsPlainSheet (t : Sheet) : Type 0 where
-  pub config : IsPlainConfig t.config (length t.cells) (columns t.cells)
+  pub config : IsAdditiveConfig t.config (length t.cells) (columns t.cells)
   pub texts : AreAdditive t.cells
   pub rectangular : IsRectangular t.cells
   pub holds : Holds t
@@ -40,7 +40,7 @@ plain-cell t row column p r c =
 
 -- a column holds a cell's text and its padding
 record IsPlainCell (s : CellStyle) (w : ℕ) (text : List ℕ) : Type 0 where
-  style : IsPlainStyle s
+  style : IsAdditiveStyle s
   plain : IsAdditive text
   fits : text_columns text + (s.padding.left.size + s.padding.right.size) ≤ w
 
@@ -108,7 +108,7 @@ plain-row_line t row index p l m =
     plain_line-append (plain-left f f.left.main q.margin_left q.left)
     (plain_line-append (plain-cells t row index p l m) (plain-right f f.right.main q.margin_right q.right))
 
-pub plain-rule_line : (t : Sheet) (line : HorizontalLine) → IsPlainSheet t → IsPlainRule line
-    → IsAdditiveLine (rule_line (columns_of t) line) (filled_width t.config (columns t.cells) t.widths)
+pub plain-rule_line : (t : Sheet) (line : HorizontalLine) → IsPlainSheet t → IsAdditiveRule line
+    → IsAdditiveLine (rule_line (sheet_columns t) line) (filled_width t.config (columns t.cells) t.widths)
 unfolding filled_width line_total
-plain-rule_line t line p q = plain_rule_line (columns_of t) line p.config.frame.margin_left p.config.frame.margin_right q
+plain-rule_line t line p q = plain_rule_line (sheet_columns t) line p.config.frame.margin_left p.config.frame.margin_right q

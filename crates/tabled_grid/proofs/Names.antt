@@ -16,17 +16,17 @@ pub use Rattle.tabled_config.specs.Settings.{frame, rule_at, style_at}
 pub use Rattle.tabled_config.specs.declared.borders.HorizontalLine.{HorizontalLine}
 pub use Rattle.tabled_config.specs.declared.spanned.SpannedConfig.{SpannedConfig}
 pub use Rattle.tabled_grid.specs.ColumnStyles.{columns_in}
-pub use Rattle.tabled_grid.specs.Picture.{columns_of, row_of}
+pub use Rattle.tabled_grid.specs.Picture.{sheet_columns, row_of}
 unfoldable pub use Rattle.tabled_grid.specs.Picture.{filled_picture, picture, row_part, rule}
-pub use Rattle.tabled_grid.specs.PlainSheet.{IsPlainConfig}
-pub use Rattle.tabled_grid.specs.Printed.{IsFailure, IsOutOfRange, Prints}
+pub use Rattle.tabled_grid.specs.AdditiveSheet.{IsAdditiveConfig}
+pub use Rattle.tabled_grid.specs.Printed.{FailsToPrint, IsOutOfRange, Prints}
 pub use Rattle.tabled_line.proofs.Each.{each-more}
 pub use Rattle.tabled_line.proofs.Plains.{plain-fill, plain_rule_line}
 unfoldable pub use Rattle.tabled_line.specs.Apart.{line_total}
 pub use Rattle.tabled_line.specs.Fill.{fill}
 pub use Rattle.tabled_line.specs.Leading.{LineSends}
 pub use Rattle.tabled_line.specs.Placements.{IsPlaceable, cell_placement}
-pub use Rattle.tabled_line.specs.Plain.{EachLineTakes, IsPlainRule, IsPlainStyle}
+pub use Rattle.tabled_line.specs.Additive.{EachLineTakes, IsAdditiveRule, IsAdditiveStyle}
 pub use Rattle.tabled_line.specs.Row.{rule_line}
 unfoldable pub use Rattle.tabled_line.specs.Row.{row_line, row_lines}
 pub use Rattle.tabled_line.specs.declared.placement.Placement.{Placement}

@@ -1,6 +1,6 @@
 -- The lines of a picture have no line feed, so they are the lines of its text.
-use Rattle.tabled_grid.proofs.Names.{All, Bool, HorizontalLine, IsPlainConfig, IsPlainRule, IsPlainStyle, List, Sheet, [], ap, arith, cases_lt}
-use Rattle.tabled_grid.proofs.Names.{cell_at, columns, columns_of, each-more, fill, flat_map, frame, get_or, length, picture, plain-fill}
+use Rattle.tabled_grid.proofs.Names.{All, Bool, HorizontalLine, IsAdditiveConfig, IsAdditiveRule, IsAdditiveStyle, List, Sheet, [], ap, arith, cases_lt}
+use Rattle.tabled_grid.proofs.Names.{cell_at, columns, sheet_columns, each-more, fill, flat_map, frame, get_or, length, picture, plain-fill}
 use Rattle.tabled_grid.proofs.Names.{plain_rule_line, range_with_len, refl, row_line, row_of, rule_line, slice_index, style_at, subst, suc, sym}
 use Rattle.tabled_grid.proofs.Names.{true, zero, ℕ, ⊎_elim, ◌++◌, ◌+◌, ◌<◌, ◌∙◌, ◌∷◌, ◌≡◌, ◌≤◌}
 use Rattle.std.proofs.lemmas.Bool.{and_from}
@@ -65,7 +65,7 @@ one_line-of_text : (text : List ℕ) (k : ℕ) → k < length (lines_of text) �
 one_line-of_text text k h =
     record { lines = lines_of-feedless (get_or (lines_of text) k []) (each_in_lines is_no_feed text (feed_or_not text) k [] h) }
 
-one_line-cell_line : (s : CellStyle) (w : ℕ) (text : List ℕ) (j : ℕ) → IsPlainStyle s → j < length (lines_of text)
+one_line-cell_line : (s : CellStyle) (w : ℕ) (text : List ℕ) (j : ℕ) → IsAdditiveStyle s → j < length (lines_of text)
     → IsOneLine (cell_line s w text (get_or (lines_of text) j []))
 unfolding cell_line
 one_line-cell_line s w text j p l =
@@ -76,7 +76,7 @@ one_line-cell_line s w text j p l =
 
 -- ---- a line of a block, by its index
 
-one_line-at_text : (s : CellStyle) (w h k : ℕ) (text : List ℕ) → IsPlainStyle s → k < h → fill_above s h text ≤ k
+one_line-at_text : (s : CellStyle) (w h k : ℕ) (text : List ℕ) → IsAdditiveStyle s → k < h → fill_above s h text ≤ k
     → IsOneLine (get_or (block s w h text) k [])
 one_line-at_text s w h k text p l m =
     let P : List ℕ → Type 0 = λ bs. IsOneLine bs in
@@ -89,7 +89,7 @@ one_line-at_text s w h k text p l m =
     (λ x. subst P (sym (block-below s w h text k l m (sym x.1))) (one_line-fill s.padding.bottom.fill w p.bottom))
     (slice_get_cases (lines_of text) j).1
 
-one_line-block : (s : CellStyle) (w h k : ℕ) (text : List ℕ) → IsPlainStyle s → k < h → IsOneLine (get_or (block s w h text) k [])
+one_line-block : (s : CellStyle) (w h k : ℕ) (text : List ℕ) → IsAdditiveStyle s → k < h → IsOneLine (get_or (block s w h text) k [])
 one_line-block s w h k text p l =
     let P : List ℕ → Type 0 = λ bs. IsOneLine bs in
     ⊎_elim
@@ -99,7 +99,7 @@ one_line-block s w h k text p l =
 
 -- ---- lines of a table
 
-module _ (t : Sheet) (p : IsPlainConfig t.config (length t.cells) (columns t.cells)) where
+module _ (t : Sheet) (p : IsAdditiveConfig t.config (length t.cells) (columns t.cells)) where
   one_line-cells : (row index : ℕ) → row < length t.cells → index < slice_index t.heights row
       → IsOneLine (flat_map (cell_piece (row_of t row) index) (range_with_len 0 (columns t.cells)))
   unfolding cell_piece
@@ -116,8 +116,8 @@ module _ (t : Sheet) (p : IsPlainConfig t.config (length t.cells) (columns t.cel
       one_line-append (one_line-plain (plain-left f f.left.main p.frame.margin_left p.frame.left))
       (one_line-append (one_line-cells row index l m) (one_line-plain (plain-right f f.right.main p.frame.margin_right p.frame.right)))
 
-  one_line-rule : (line : HorizontalLine) → IsPlainRule line → IsOneLine (rule_line (columns_of t) line)
-  one_line-rule line q = one_line-plain (plain_rule_line (columns_of t) line p.frame.margin_left p.frame.margin_right q)
+  one_line-rule : (line : HorizontalLine) → IsAdditiveRule line → IsOneLine (rule_line (sheet_columns t) line)
+  one_line-rule line q = one_line-plain (plain_rule_line (sheet_columns t) line p.frame.margin_left p.frame.margin_right q)
 
   one_lines : All (λ line. IsOneLine line) (picture t)
   one_lines = each-line (λ line. IsOneLine line) t (record {
@@ -133,7 +133,7 @@ module _ (t : Sheet) (p : IsPlainConfig t.config (length t.cells) (columns t.cel
       lines_of-join (picture t) (omega (arith, picture_lines t)) (λ k d h. ap length (one_lines k d h).lines)
 
 -- settings that separate the cells are additive
-pub plain_apart : (config : SpannedConfig) (rows count : ℕ) → IsApartConfig config rows count → IsPlainConfig config rows count
+pub plain_apart : (config : SpannedConfig) (rows count : ℕ) → IsApartConfig config rows count → IsAdditiveConfig config rows count
 plain_apart config rows count p = record {
   frame = record {
     vertical = p.frame.inner;

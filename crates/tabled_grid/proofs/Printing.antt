@@ -1,9 +1,9 @@
 -- Tables with estimated sizes that are printed, or refused before the first byte.
-use Rattle.tabled_grid.proofs.Names.{Err, IfErr, IsErrAnd, IsFailure, List, Memory, Narrow, Ok, Prints, Range, Result, Sheet, ShortHeights}
+use Rattle.tabled_grid.proofs.Names.{Err, IfErr, IsErrAnd, FailsToPrint, List, Memory, Narrow, Ok, Prints, Range, Result, Sheet, ShortHeights}
 use Rattle.tabled_grid.proofs.Names.{ShortWidths, SpannedConfig, TableError, Writer, [], estimated, false, inl, inr, is_empty, picture}
 use Rattle.tabled_grid.proofs.Names.{refl, subst, sym, true, ℕ, ⊎_elim, ◌≡◌, ◌⊎◌}
 use Rattle.tabled_grid.specs.Picture.{table_text}
-use Rattle.tabled_grid.specs.Printed.{Ends, IsPrintable}
+use Rattle.tabled_grid.specs.Printed.{Ends, IsPrintableSheet}
 use Rattle.tabled_line.specs.Sent.{Sends, Sent, Stops}
 use Rattle.tabled_grid.proofs.EstimatedSizes.{refused_estimated}
 use Rattle.tabled_line.proofs.Sending.{sends-none, sends-along}
@@ -13,15 +13,15 @@ unfolding picture
 picture_none t e = rw e refl
 
 -- an empty table prints nothing
-pub prints_nothing : (t : Sheet) (a : Sent) → is_empty t.cells ≡ true → ((is_empty t.cells ≡ true) ⊎ IsPrintable t) × Sends a a (table_text t)
+pub prints_nothing : (t : Sheet) (a : Sent) → is_empty t.cells ≡ true → ((is_empty t.cells ≡ true) ⊎ IsPrintableSheet t) × Sends a a (table_text t)
 prints_nothing t a e = (inl e, sends-along a a [] (table_text t) (sends-none a) (sym (picture_none t e)))
 
 -- refused before anything was written
-refused_early : (t : Sheet) (a : Sent) (e : TableError) → is_empty t.cells ≡ false → (e ≡ Memory) ⊎ IsFailure t e → (is_empty t.cells ≡ false) × Ends true t a e a
+refused_early : (t : Sheet) (a : Sent) (e : TableError) → is_empty t.cells ≡ false → (e ≡ Memory) ⊎ FailsToPrint t e → (is_empty t.cells ≡ false) × Ends true t a e a
 refused_early t a e filled cause = (filled, ⊎_elim (λ m. inr (inl (refl, m, refl))) (λ r. inl (r, refl)) cause)
 
 -- the same, of a function that hands a refusal on
-pub refused_so : {T : Type 0} (t : Sheet) (a : Sent) (r : Result T TableError) (e : TableError) → is_empty t.cells ≡ false → (e ≡ Memory) ⊎ IsFailure t e → IsErrAnd r (λ d. d ≡ e) → Prints true t a r a
+pub refused_so : {T : Type 0} (t : Sheet) (a : Sent) (r : Result T TableError) (e : TableError) → is_empty t.cells ≡ false → (e ≡ Memory) ⊎ FailsToPrint t e → IsErrAnd r (λ d. d ≡ e) → Prints true t a r a
 refused_so t a (Ok x) e filled cause h = absurd h
 refused_so t a (Err d) e filled cause h =
     let P : TableError → Type 0 = λ k. (is_empty t.cells ≡ false) × Ends true t a k a in

@@ -1,6 +1,6 @@
 -- The columns and the lines of a whole picture.
-use Rattle.tabled_grid.proofs.Names.{AreAdditive, Bool, EachLineTakes, Holds, HorizontalLine, IsPlainConfig, IsRectangular, List, None}
-use Rattle.tabled_grid.proofs.Names.{Option, Sheet, Some, [], ap, arith, columns, columns_of, each-more, false, fill, filled_height}
+use Rattle.tabled_grid.proofs.Names.{AreAdditive, Bool, EachLineTakes, Holds, HorizontalLine, IsAdditiveConfig, IsRectangular, List, None}
+use Rattle.tabled_grid.proofs.Names.{Option, Sheet, Some, [], ap, arith, columns, sheet_columns, each-more, false, fill, filled_height}
 use Rattle.tabled_grid.proofs.Names.{filled_picture, filled_width, flat_map, frame, is_empty, is_some, length, length-map-range_with_len}
 use Rattle.tabled_grid.proofs.Names.{line_columns, map, one_if, picture, plain-fill, range_with_len, refl, replicate, row_line, row_lines}
 use Rattle.tabled_grid.proofs.Names.{row_of, row_part, rule, rule_at, rule_line, slice_index, suc, sum_below, total_width, true, zero, ℕ}
@@ -22,7 +22,7 @@ full_width t = filled_width t.config (columns t.cells) t.widths
 -- what holds of the lines of rows, of the horizontal lines and of the lines of margins
 pub record OfParts (P : List ℕ → Type 0) (t : Sheet) : Type 0 where
   pub row : (row index : ℕ) → row < length t.cells → index < slice_index t.heights row → P (row_line (row_of t row) index)
-  pub rule : (i : ℕ) (line : HorizontalLine) → i ≤ length t.cells → rule_at t.config (length t.cells) i ≡ Some line → P (rule_line (columns_of t) line)
+  pub rule : (i : ℕ) (line : HorizontalLine) → i ≤ length t.cells → rule_at t.config (length t.cells) i ≡ Some line → P (rule_line (sheet_columns t) line)
   pub margin_top : P (fill (frame t.config).margin.top.fill (full_width t))
   pub margin_bottom : P (fill (frame t.config).margin.bottom.fill (full_width t))
 
@@ -41,7 +41,7 @@ each-flat P f (suc k) h =
     (All-append P (flat_map f (range_with_len 0 k)) (f k) (each-flat P f k (λ i l. h i (omega arith))) (h k (omega arith)))
 
 module _ (P : List ℕ → Type 0) (t : Sheet) (p : OfParts P t) where
-  each-rule_if : (o : Option HorizontalLine) (i : ℕ) → i ≤ length t.cells → rule_at t.config (length t.cells) i ≡ o → All P (rule_if (columns_of t) o)
+  each-rule_if : (o : Option HorizontalLine) (i : ℕ) → i ≤ length t.cells → rule_at t.config (length t.cells) i ≡ o → All P (rule_if (sheet_columns t) o)
   each-rule_if None i b e = All-nil P
   each-rule_if (Some l) i b e = All-cons P _ [] (p.rule i l b e) (All-nil P)
 
@@ -80,7 +80,7 @@ unfolding picture
 picture_takes t p = either-takes (is_empty t.cells) (full_width t) (filled_picture t (full_width t)) (each-filled (Takes (full_width t)) t p)
 
 -- each line of the picture of a plain table that holds its cells takes the table's columns
-pub picture_columns : (t : Sheet) → IsPlainConfig t.config (length t.cells) (columns t.cells) → AreAdditive t.cells → IsRectangular t.cells → Holds t
+pub picture_columns : (t : Sheet) → IsAdditiveConfig t.config (length t.cells) (columns t.cells) → AreAdditive t.cells → IsRectangular t.cells → Holds t
     → EachLineTakes (total_width t) (picture t)
 picture_columns t config texts rectangular holds =
     let p : IsPlainSheet t = record { config = config; texts = texts; rectangular = rectangular; holds = holds } in
@@ -93,7 +93,7 @@ picture_columns t config texts rectangular holds =
 
 -- ---- how many lines
 
-length-rule_if : (t : Sheet) (o : Option HorizontalLine) → length (rule_if (columns_of t) o) ≡ one_if (is_some o)
+length-rule_if : (t : Sheet) (o : Option HorizontalLine) → length (rule_if (sheet_columns t) o) ≡ one_if (is_some o)
 length-rule_if t None = refl
 length-rule_if t (Some l) = refl
 

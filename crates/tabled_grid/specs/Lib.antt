@@ -3,6 +3,6 @@ pub mod ColumnStyles
 pub mod Grid
 pub mod Narrow
 pub mod Picture
-pub mod PlainSheet
+pub mod AdditiveSheet
 pub mod Printed
 pub mod Shown

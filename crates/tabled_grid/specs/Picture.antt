@@ -9,16 +9,16 @@ use Rattle.tabled_size.specs.Sheet.{Sheet, is_empty}
 use Rattle.tabled_size.specs.Totals.{filled_width}
 
 -- the columns of a table, with its frame
-abbrev pub columns_of : Sheet → ColumnSheet
-columns_of t = record { count = columns t.cells; width = slice_index t.widths; frame = frame t.config }
+abbrev pub sheet_columns : Sheet → ColumnSheet
+sheet_columns t = record { count = columns t.cells; width = slice_index t.widths; frame = frame t.config }
 
 -- a row of a table
 abbrev pub row_of : Sheet → ℕ → RowSheet
-row_of t row = record { columns = columns_of t; height = slice_index t.heights row; text = cell_at t.cells row; style = style_at t.config row }
+row_of t row = record { columns = sheet_columns t; height = slice_index t.heights row; text = cell_at t.cells row; style = style_at t.config row }
 
 -- the horizontal line above a row or below the last one, if there is one
 unfoldable pub rule : Sheet → ℕ → List (List ℕ)
-rule t i = rule_if (columns_of t) (rule_at t.config (length t.cells) i)
+rule t i = rule_if (sheet_columns t) (rule_at t.config (length t.cells) i)
 
 -- a row, after the horizontal line above it
 unfoldable pub row_part : Sheet → ℕ → List (List ℕ)

@@ -22,12 +22,12 @@ IsOutOfRange t =
     (2 ^ 64 ≤ filled_width t.config (columns t.cells) t.widths) ⊎ (2 ^ 64 ≤ filled_height t.config (length t.cells) t.heights)
 
 -- why a table with a row and a column fails: the errors in the order in which they are checked
-abbrev pub IsFailure : Sheet → TableError → Type 0
-IsFailure t ShortWidths = length t.widths < columns t.cells
-IsFailure t ShortHeights = (columns t.cells ≤ length t.widths) × (length t.heights < length t.cells)
-IsFailure t (Narrow row column) = IsSized t × IsFirstNarrow t row column
-IsFailure t Range = IsSized t × Holds t × IsOutOfRange t
-IsFailure t _ = ⊥
+abbrev pub FailsToPrint : Sheet → TableError → Type 0
+FailsToPrint t ShortWidths = length t.widths < columns t.cells
+FailsToPrint t ShortHeights = (columns t.cells ≤ length t.widths) × (length t.heights < length t.cells)
+FailsToPrint t (Narrow row column) = IsSized t × IsFirstNarrow t row column
+FailsToPrint t Range = IsSized t × Holds t × IsOutOfRange t
+FailsToPrint t _ = ⊥
 
 -- what a call leaves that writes the picture of a table, with margins of `whole` columns
 abbrev pub WritesPicture : {T : Type 0} → Sheet → ℕ → Sent → Result T TableError → Sent → Type 0
@@ -40,7 +40,7 @@ pub record IsChecked (t : Sheet) : Type 0 where
   pub holds : Holds t
 
 -- the table can be printed
-pub record IsPrintable (t : Sheet) : Type 0 where
+pub record IsPrintableSheet (t : Sheet) : Type 0 where
   pub sized : IsSized t
   pub holds : Holds t
   pub in_range : IsInRange t
@@ -50,12 +50,12 @@ pub record IsPrintable (t : Sheet) : Type 0 where
 -- text
 abbrev pub Ends : Bool → Sheet → Sent → TableError → Sent → Type 0
 Ends estimates t old error new =
-    (IsFailure t error × (new ≡ old))
-    ⊎ (((estimates ≡ true) × (error ≡ Memory) × (new ≡ old)) ⊎ (IsPrintable t × Stops old error new (table_text t)))
+    (FailsToPrint t error × (new ≡ old))
+    ⊎ (((estimates ≡ true) × (error ≡ Memory) × (new ≡ old)) ⊎ (IsPrintableSheet t × Stops old error new (table_text t)))
 
 -- what a call that prints a table leaves, by its result; it allocates if `estimates` is true. On
 -- `Ok` the text of the table was added, and the table is empty or can be printed. A table with no
 -- row or no column never fails
 abbrev pub Prints : {T : Type 0} → Bool → Sheet → Sent → Result T TableError → Sent → Type 0
-Prints estimates t old (Ok _) new = ((is_empty t.cells ≡ true) ⊎ IsPrintable t) × Sends old new (table_text t)
+Prints estimates t old (Ok _) new = ((is_empty t.cells ≡ true) ⊎ IsPrintableSheet t) × Sends old new (table_text t)
 Prints estimates t old (Err error) new = (is_empty t.cells ≡ false) × Ends estimates t old error new

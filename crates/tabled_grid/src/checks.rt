@@ -11,8 +11,8 @@ ghost use Rattle.tabled_size.specs.Stored.{is_stored};
 ghost use Rattle.tabled_size.specs.Totals.{filled_width};
 ghost use Rattle.tabled_size.specs.Holds.{Holds, IsHeld, IsSized};
 ghost use Rattle.tabled_grid.specs.Narrow.{IsHeldIn, IsNarrow, IsNarrowIn};
-ghost use Rattle.tabled_grid.specs.Picture.{columns_of};
-ghost use Rattle.tabled_grid.specs.Printed.{IsInRange, IsFailure};
+ghost use Rattle.tabled_grid.specs.Picture.{sheet_columns};
+ghost use Rattle.tabled_grid.specs.Printed.{IsInRange, FailsToPrint};
 
 use crate::column_styles::placement_buffer;
 use crate::grid::Grid;
@@ -68,7 +68,7 @@ fn narrow_by_placements<R: ContentRecords, D: Dimension>(
 ) -> Option<usize>
     requires sized { columns grid.now.cells ≤ length grid.now.widths }
     requires row_in { row < length grid.now.cells }
-    requires placements { ArePlacements (style_at grid.now.config row) (columns_of grid.now)
+    requires placements { ArePlacements (style_at grid.now.config row) (sheet_columns grid.now)
         placements.now }
     ensures { MatchOption result (IsHeldIn grid.now row) (IsNarrowIn grid.now row) }
 {
@@ -155,7 +155,7 @@ pub(crate) fn check_sizes<R: ContentRecords, D: Dimension>(
     grid: &Grid<'_, R, D>,
 ) -> Result<(), TableError>
     ensures ok { OnOk result (IsSized grid.now) }
-    ensures err { IfErr result (IsFailure grid.now) }
+    ensures err { IfErr result (FailsToPrint grid.now) }
 {
     check_widths(grid.dimension, grid.records.count_columns())?;
     check_heights(grid.dimension, grid.records.count_rows())
@@ -170,7 +170,7 @@ pub(crate) fn check_totals<R: ContentRecords, D: Dimension>(
     ensures width { IfOk result (λ n. n ≡ filled_width grid.now.config
         (columns grid.now.cells) grid.now.widths) }
     ensures in_range { OnOk result (IsInRange grid.now) }
-    ensures err { IfErr result (IsFailure grid.now) }
+    ensures err { IfErr result (FailsToPrint grid.now) }
 {
     let width = filled_width(grid.config, grid.records.count_columns(), grid.dimension);
     let height = filled_height(grid.config, grid.records.count_rows(), grid.dimension);
@@ -194,7 +194,7 @@ pub(crate) fn check_stored<R: ContentRecords>(
 ) -> Result<(), TableError>
     requires { is_stored stored.now ≡ false }
     ensures { let t = effective (R.cells records.now) config.now stored.now in
-        MatchResult result (λ _. IsSized t × Holds t) (IsFailure t) }
+        MatchResult result (λ _. IsSized t × Holds t) (FailsToPrint t) }
 {
     match stored.get_widths() {
         Some(_) => {

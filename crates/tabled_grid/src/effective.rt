@@ -8,7 +8,7 @@ ghost use Rattle.tabled_size.specs.Effective.{effective};
 ghost use Rattle.tabled_size.specs.FilledIn.{IsFilledIn};
 ghost use Rattle.tabled_size.specs.Holds.{Holds, IsSized};
 ghost use Rattle.tabled_size.specs.Stored.{is_stored};
-ghost use Rattle.tabled_grid.specs.Printed.{IsFailure, Prints};
+ghost use Rattle.tabled_grid.specs.Printed.{FailsToPrint, Prints};
 ghost use Rattle.tabled_line.specs.Sent.{Sent};
 
 use crate::checks::check_stored;
@@ -67,7 +67,7 @@ fn complete<R: ContentRecords>(
     requires { is_stored stored.now ≡ false }
     ensures { let t = effective (R.cells records.now) config.now stored.now in
         MatchResult result (λ sizes. IsFilledIn stored.now (R.cells records.now) config.now sizes
-        × IsSized t × Holds t) (λ e. (e ≡ Memory) ⊎ IsFailure t e) }
+        × IsSized t × Holds t) (λ e. (e ≡ Memory) ⊎ FailsToPrint t e) }
 {
     if let Some(sizes) = with_heights(records, config, stored) {
         return Ok(sizes);

@@ -7,7 +7,7 @@ ghost use Rattle.tabled_config.specs.RowStyles.{style_in};
 ghost use Rattle.tabled_config.specs.Settings.{frame, rule_at, style_at};
 ghost use Rattle.tabled_grid.specs.ColumnStyles.{AreStyles};
 ghost use Rattle.tabled_grid.specs.Grid.{sheet_by};
-ghost use Rattle.tabled_grid.specs.Picture.{columns_of, row_of};
+ghost use Rattle.tabled_grid.specs.Picture.{sheet_columns, row_of};
 ghost use Rattle.tabled_line.specs.Placements.{AreKnown, ArePlacements, IsUniform};
 ghost use Rattle.tabled_size.specs.Holds.{IsSized};
 ghost use Rattle.tabled_size.specs.Reached.{reached};
@@ -122,7 +122,7 @@ impl<'a, R: ContentRecords, D: Dimension> Grid<'a, R, D> {
     #[inline(always)]
     pub fn placements(&self, row: usize) -> Option<&[Placement]>
         ensures { IfSome result (λ placements. ArePlacements (style_at self.now.config row)
-            (columns_of self.now) placements.now) }
+            (sheet_columns self.now) placements.now) }
     {
         self.by_column.as_ref()?.placements_in_row(self.config, row)
     }
@@ -156,7 +156,7 @@ pub(crate) struct GridColumns<'a, R: ContentRecords, D: Dimension> {
 }
 
 impl<'a, R: ContentRecords, D: Dimension> TableColumns for GridColumns<'a, R, D> {
-    ghost sheet = { λ c. columns_of c.grid.now };
+    ghost sheet = { λ c. sheet_columns c.grid.now };
 
     fn count_columns(&self) -> usize {
         let grid = self.grid;

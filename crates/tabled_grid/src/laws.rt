@@ -11,18 +11,18 @@ ghost use Rattle.tabled_size.specs.Holds.{Holds};
 ghost use Rattle.tabled_grid.specs.Picture.{picture, table_text};
 ghost use Rattle.tabled_grid.specs.Shown.{AreShownIn, shown_lines};
 ghost use Rattle.tabled_size.specs.PlainCells.{AreAdditive, ArePlain};
-ghost use Rattle.tabled_line.specs.Plain.{EachLineTakes};
+ghost use Rattle.tabled_line.specs.Additive.{EachLineTakes};
 ghost use Rattle.tabled_size.specs.TextCells.{AreTexts};
 ghost use Rattle.tabled_grid.specs.ApartSheet.{IsApartConfig};
-ghost use Rattle.tabled_grid.specs.PlainSheet.{IsPlainConfig};
+ghost use Rattle.tabled_grid.specs.AdditiveSheet.{IsAdditiveConfig};
 
 /// A picture has as many lines as the total height of its table.
 ///
 /// All lines are exactly as wide as the total width if the records are rectangular, the widths hold
 /// the cells, and one of these holds:
 /// - The settings separate the cells (`is_apart_config`). The cells may contain any text.
-/// - Borders, fills and margins are additive characters of one column (`is_plain_config`), and the
-///   cells contain additive text, such as plain text.
+/// - Borders, fills and margins are additive characters of one column (`is_additive_config`), and
+///   the cells contain additive text, such as plain text.
 ///
 /// No line of a picture contains a line feed under either kind of settings, whatever the cells
 /// contain. So the pieces of the printed text between line feeds are these lines, if there is one.
@@ -31,15 +31,15 @@ pub fn pictures()
     ensures texts { (t : Sheet) → IsApartConfig t.config (length t.cells) (columns t.cells)
         → AreTexts t.cells → IsRectangular t.cells → Holds t
         → EachLineTakes (total_width t) (picture t) }
-    ensures columns { (t : Sheet) → IsPlainConfig t.config (length t.cells) (columns t.cells)
+    ensures columns { (t : Sheet) → IsAdditiveConfig t.config (length t.cells) (columns t.cells)
         → AreAdditive t.cells → IsRectangular t.cells → Holds t
         → EachLineTakes (total_width t) (picture t) }
     ensures plain { (cells : List (List (List ℕ))) → ArePlain cells → AreAdditive cells }
     ensures lines { (t : Sheet) → length (picture t) ≡ total_height t }
-    ensures printed { (t : Sheet) → IsPlainConfig t.config (length t.cells) (columns t.cells)
+    ensures printed { (t : Sheet) → IsAdditiveConfig t.config (length t.cells) (columns t.cells)
         → 0 < total_height t → lines_of (table_text t) ≡ picture t }
     ensures apart { (config : SpannedConfig) (rows count : ℕ) → IsApartConfig config rows count
-        → IsPlainConfig config rows count }
+        → IsAdditiveConfig config rows count }
 {}
 
 /// The lines of a cell's text are shown in the picture, one below the other: each is a part of its

@@ -22,6 +22,6 @@ mod plain;
 mod print;
 
 pub use effective::{print_estimated, print_standing};
-pub use plain::{is_apart_config, is_plain_config, is_plain_records};
+pub use plain::{is_additive_config, is_apart_config, is_plain_records};
 pub use print::print_grid;
 pub use tabled_line::{IoSink, TextSink};

@@ -8,17 +8,17 @@ ghost use Rattle.tabled_config.specs.declared.borders.HorizontalLine.{Horizontal
 ghost use Rattle.tabled_size.specs.PlainCells.{ArePlain};
 ghost use Rattle.tabled_line.specs.Apart.{AreApartCells, ArePaddedLeft, HasSeparators, HasSteadyBars};
 ghost use Rattle.tabled_line.specs.Apart.{IsApartFrame, IsApartStyle};
-ghost use Rattle.tabled_line.specs.Plain.{IsPlainFrame, IsPlainRule, IsPlainStyle};
+ghost use Rattle.tabled_line.specs.Additive.{IsAdditiveFrame, IsAdditiveRule, IsAdditiveStyle};
 ghost use Rattle.tabled_grid.specs.ApartSheet.{IsApartConfig};
-ghost use Rattle.tabled_grid.specs.PlainSheet.{IsPlainConfig};
+ghost use Rattle.tabled_grid.specs.AdditiveSheet.{IsAdditiveConfig};
 
 use tabled_base::{PeekableRecords, Position};
 use tabled_config::{Frame, SpannedConfig};
 use tabled_text::{is_additive_column, is_plain, is_separator_column};
 
-fn is_plain_rule_at(config: &SpannedConfig, rows: usize, index: usize) -> bool
+fn is_additive_rule_at(config: &SpannedConfig, rows: usize, index: usize) -> bool
     ensures { IsTrue result ↔ ((line : HorizontalLine) → rule_at config.now rows index ≡ Some line
-        → IsPlainRule line) }
+        → IsAdditiveRule line) }
 {
     config.rule_at(rows, index).is_none_or(|line| {
         is_additive_column(line.main.unwrap_or(' '))
@@ -28,20 +28,20 @@ fn is_plain_rule_at(config: &SpannedConfig, rows: usize, index: usize) -> bool
     })
 }
 
-fn are_plain_rules(config: &SpannedConfig, rows: usize) -> bool
+fn are_additive_rules(config: &SpannedConfig, rows: usize) -> bool
     ensures { IsTrue result ↔ ((i : ℕ) → i ≤ rows → (line : HorizontalLine)
-        → rule_at config.now rows i ≡ Some line → IsPlainRule line) }
+        → rule_at config.now rows i ≡ Some line → IsAdditiveRule line) }
 {
     'lines: for index in 0..rows {
-        if !is_plain_rule_at(config, rows, index) {
+        if !is_additive_rule_at(config, rows, index) {
             return false;
         }
     }
-    is_plain_rule_at(config, rows, rows)
+    is_additive_rule_at(config, rows, rows)
 }
 
-fn is_plain_style_at(config: &SpannedConfig, row: usize, column: usize) -> bool
-    ensures { IsTrue result ↔ IsPlainStyle (style_at config.now row column) }
+fn is_additive_style_at(config: &SpannedConfig, row: usize, column: usize) -> bool
+    ensures { IsTrue result ↔ IsAdditiveStyle (style_at config.now row column) }
 {
     let padding = config.style_at(row, column).padding;
     is_additive_column(padding.left.fill)
@@ -50,27 +50,27 @@ fn is_plain_style_at(config: &SpannedConfig, row: usize, column: usize) -> bool
         && is_additive_column(padding.bottom.fill)
 }
 
-fn are_plain_styles_in(config: &SpannedConfig, row: usize, columns: usize) -> bool
+fn are_additive_styles_in(config: &SpannedConfig, row: usize, columns: usize) -> bool
     ensures { IsTrue result ↔ ((column : ℕ) → column < columns
-        → IsPlainStyle (style_at config.now row column)) }
+        → IsAdditiveStyle (style_at config.now row column)) }
 {
-    (0..columns).all(|column| is_plain_style_at(config, row, column))
+    (0..columns).all(|column| is_additive_style_at(config, row, column))
 }
 
-fn are_plain_styles(config: &SpannedConfig, rows: usize, columns: usize) -> bool
+fn are_additive_styles(config: &SpannedConfig, rows: usize, columns: usize) -> bool
     ensures { IsTrue result ↔ ((row column : ℕ) → row < rows → column < columns
-        → IsPlainStyle (style_at config.now row column)) }
+        → IsAdditiveStyle (style_at config.now row column)) }
 {
     'rows: for row in 0..rows {
-        if !are_plain_styles_in(config, row, columns) {
+        if !are_additive_styles_in(config, row, columns) {
             return false;
         }
     }
     true
 }
 
-fn is_plain_frame(frame: Frame) -> bool
-    ensures { IsTrue result ↔ IsPlainFrame frame }
+fn is_additive_frame(frame: Frame) -> bool
+    ensures { IsTrue result ↔ IsAdditiveFrame frame }
 {
     is_additive_column(frame.inner.main)
         && is_additive_column(frame.left.main)
@@ -86,12 +86,12 @@ fn is_plain_frame(frame: Frame) -> bool
 ///
 /// Characters that aren't drawn count too, and a missing character is a space. Horizontal lines and
 /// paddings past the last row or column don't count.
-pub fn is_plain_config(config: &SpannedConfig, rows: usize, columns: usize) -> bool
-    ensures { IsTrue result ↔ IsPlainConfig config.now rows columns }
+pub fn is_additive_config(config: &SpannedConfig, rows: usize, columns: usize) -> bool
+    ensures { IsTrue result ↔ IsAdditiveConfig config.now rows columns }
 {
-    is_plain_frame(config.frame())
-        && are_plain_rules(config, rows)
-        && are_plain_styles(config, rows, columns)
+    is_additive_frame(config.frame())
+        && are_additive_rules(config, rows)
+        && are_additive_styles(config, rows, columns)
 }
 
 fn is_plain_row<R: PeekableRecords>(records: &R, row: usize) -> bool
@@ -206,6 +206,6 @@ pub fn is_apart_config(config: &SpannedConfig, rows: usize, columns: usize) -> b
     ensures { IsTrue result ↔ IsApartConfig config.now rows columns }
 {
     is_apart_around(config.frame())
-        && are_plain_rules(config, rows)
+        && are_additive_rules(config, rows)
         && are_apart_rows(config, rows, columns)
 }

@@ -4,7 +4,7 @@ use Rattle.tabled_line.proofs.Names.{has_bar, left_edge, line_total, one_if, pie
 use Rattle.tabled_line.proofs.Names.{subst, suc, sum_below, sym, true, unwrap_or, zero, ℕ, ◌*◌, ◌+◌, ◌-◌, ◌<◌, ◌∙◌, ◌≡◌}
 use Rattle.tabled_text.specs.Plain.{IsAdditiveLine}
 use Rattle.tabled_text.proofs.PlainLines.{plain_line-nil, plain_line-append, plain_line-as, plain_line-one}
-use Rattle.tabled_line.specs.Plain.{IsPlainRule}
+use Rattle.tabled_line.specs.Additive.{IsAdditiveRule}
 use Rattle.tabled_line.proofs.Bars.{bar-sum}
 use Rattle.tabled_line.proofs.Each.{each-more}
 
@@ -25,7 +25,7 @@ plain-each f w (suc n) h =
     let more = sym (each-more f n) ∙ ap (λ k. flat_map f (range_with_len 0 k)) e in
     subst P more (plain_line-append (plain-each f w n (λ i l. h i (omega arith))) (h n (omega arith)))
 
-plain-rules : (columns : ColumnSheet) (line : HorizontalLine) → IsPlainRule line
+plain-rules : (columns : ColumnSheet) (line : HorizontalLine) → IsAdditiveRule line
     → IsAdditiveLine (flat_map (rule_piece columns line) (range_with_len 0 columns.count))
     (sum_below columns.width columns.count + (columns.count - 1) * one_if columns.frame.inner.there)
 unfolding rule_piece
@@ -48,7 +48,7 @@ plain-right f c p q = plain_line-append (plain-piece f.right.there c q) (plain-f
 
 -- a horizontal line of plain characters takes the columns of any line
 pub plain_rule_line : (columns : ColumnSheet) (line : HorizontalLine) → IsAdditiveColumn columns.frame.margin.left.fill
-    → IsAdditiveColumn columns.frame.margin.right.fill → IsPlainRule line → IsAdditiveLine (rule_line columns line) (line_total columns)
+    → IsAdditiveColumn columns.frame.margin.right.fill → IsAdditiveRule line → IsAdditiveLine (rule_line columns line) (line_total columns)
 unfolding rule_line line_total
 plain_rule_line columns line left right q =
     let f = columns.frame in

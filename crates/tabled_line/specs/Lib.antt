@@ -8,7 +8,7 @@ pub mod BlankRow
 pub mod Leading
 pub mod NewConfig
 pub mod PlacedText
-pub mod Plain
+pub mod Additive
 pub mod Buffers
 pub mod Copied
 pub mod Row

@@ -1,6 +1,6 @@
 -- Owners of positions in parts that tile a rectangle.
 use Rattle.tabled_pool.proofs.Names.{AreTiles, List, None, Part, Piece, Rectangle, Some, [], add-one, ap, arith, contains, covering, drop}
-use Rattle.tabled_pool.proofs.Names.{drop-cons, get_or, length, map, nat_tests, option_map, owner, refl, shown, slice_get, slice_get-get_or}
+use Rattle.tabled_pool.proofs.Names.{drop-cons, get_or, length, map, nat_tests, option_map, owner, refl, drawn_part, slice_get, slice_get-get_or}
 use Rattle.tabled_pool.proofs.Names.{slice_get-map, slice_get_read, subst, suc, sym, true, within, zero, ℕ, ⊎_elim, ◌+◌, ◌<◌, ◌∙◌, ◌∷◌, ◌≡◌}
 use Rattle.tabled_pool.proofs.Names.{◌≤◌, ◌⊎◌}
 use Rattle.tabled_pool.proofs.Owners.{within-inside, within-le, owner-here, owner-behind, item-counts, item-owns, is-1}
@@ -38,18 +38,18 @@ number-unique (q ∷ ps) (suc j) zero x y p h i w c =
 number-unique (q ∷ ps) (suc j) (suc k) x y p h i w c = ap suc (number-unique ps j k x y p h i w (omega arith))
 
 -- a listed piece that contains a position is its owner
-pub listed_owns : (ps : List Piece) (r : Rectangle) (k x y : ℕ) (p : Piece) → AreTiles (map shown ps) r → k < length ps → p ≡ get_or ps k p
-    → contains p.place x y ≡ true → Some (shown p) ≡ owner (map shown ps) x y
+pub listed_owns : (ps : List Piece) (r : Rectangle) (k x y : ℕ) (p : Piece) → AreTiles (map drawn_part ps) r → k < length ps → p ≡ get_or ps k p
+    → contains p.place x y ≡ true → Some (drawn_part p) ≡ owner (map drawn_part ps) x y
 listed_owns ps r k x y p d h e c =
-    sym (piece_owns (map shown ps) r k x y (shown p) d
-    (slice_get-map shown ps k ∙ ap (option_map shown) (slice_get_read ps (length ps) k p refl h e)) c)
+    sym (piece_owns (map drawn_part ps) r k x y (drawn_part p) d
+    (slice_get-map drawn_part ps k ∙ ap (option_map drawn_part) (slice_get_read ps (length ps) k p refl h e)) c)
 
 -- the first piece that contains a position
 pub found-first : (ps : List Piece) (k x y : ℕ) (d : Piece) → k < length ps → contains (get_or ps k d).place x y ≡ true
-    → owner (map shown (drop k ps)) x y ≡ owner (map shown ps) x y → slice_get (map shown ps) k ≡ owner (map shown ps) x y
+    → owner (map drawn_part (drop k ps)) x y ≡ owner (map drawn_part ps) x y → slice_get (map drawn_part ps) k ≡ owner (map drawn_part ps) x y
 found-first ps k x y d h c i =
     let q = get_or ps k d in
     let cons : drop k ps ≡ q ∷ drop (k + 1) ps = rw (add-one, drop-cons ps k d) refl in
-    slice_get-map shown ps k ∙ ap (option_map shown) (slice_get-get_or ps k d h)
-    ∙ sym (owner-here (shown q) (map shown (drop (k + 1) ps)) x y (grind (arith, nat_tests)))
-    ∙ ap (λ zs. owner (map shown zs) x y) (sym cons) ∙ i
+    slice_get-map drawn_part ps k ∙ ap (option_map drawn_part) (slice_get-get_or ps k d h)
+    ∙ sym (owner-here (drawn_part q) (map drawn_part (drop (k + 1) ps)) x y (grind (arith, nat_tests)))
+    ∙ ap (λ zs. owner (map drawn_part zs) x y) (sym cons) ∙ i

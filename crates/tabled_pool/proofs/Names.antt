@@ -26,7 +26,7 @@ pub use Rattle.tabled_line.specs.Block.{columns_before, inner_width}
 unfoldable pub use Rattle.tabled_line.specs.Block.{cell_line}
 pub use Rattle.tabled_line.specs.Fill.{fill, indent}
 pub use Rattle.tabled_line.specs.Leading.{LineSends}
-pub use Rattle.tabled_line.specs.Plain.{EachLineTakes}
+pub use Rattle.tabled_line.specs.Additive.{EachLineTakes}
 pub use Rattle.tabled_line.specs.Sent.{Sends}
 pub use Rattle.tabled_pool.specs.Around.{across, around_at, around_part, around_text, beside, is_last_row, run_side}
 pub use Rattle.tabled_pool.specs.Block.{text_line, without_sides}
@@ -34,7 +34,7 @@ unfoldable pub use Rattle.tabled_pool.specs.Block.{leaf_line, pool_block}
 pub use Rattle.tabled_pool.specs.Boxes.{Box, IsSize, Part, behind_border, border_kind, border_part, border_size, box_across}
 pub use Rattle.tabled_pool.specs.Boxes.{box_along, box_of, box_step, first_part, given_size, is_line_kind, joined_box, leaf_box}
 pub use Rattle.tabled_pool.specs.Boxes.{list_box, needed_by, part_of, pick, place_along, rest_part, sized, AreLeft}
-pub use Rattle.tabled_pool.specs.Boxes.{boxes_left, contains, is_border, is_border_above, is_border_before, is_line, owner, Fits, shown}
+pub use Rattle.tabled_pool.specs.Boxes.{boxes_left, contains, is_border, is_border_above, is_border_before, is_line, owner, Fits, drawn_part}
 pub use Rattle.tabled_pool.specs.Boxes.{AreTiles, covering, within}
 pub use Rattle.tabled_pool.specs.Plain.{EachCharacter, EachFill}
 pub use Rattle.tabled_pool.specs.Colours.{Mark, coloured, line_marks_of, marks_of, no_mark, Around, nothing_around, within_marks}

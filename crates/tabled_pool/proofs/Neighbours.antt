@@ -2,7 +2,7 @@
 use Rattle.tabled_pool.proofs.Names.{AreSized, AreTiles, Around, Before, Behind, Bool, DrawingPlan, IsSized, List, None, Option, Outside}
 use Rattle.tabled_pool.proofs.Names.{Part, Piece, Rectangle, RunSide, Some, [], across, ap, arith, around_at, around_part, around_text}
 use Rattle.tabled_pool.proofs.Names.{beside, cond, contains, drop, false, get_or, has_top, inl, inr, is_last_row, is_line_kind, length, map}
-use Rattle.tabled_pool.proofs.Names.{nat_tests, option_map, refl, run_side, shown, slice_get, slice_get-get_or, slice_get-map, subst, suc}
+use Rattle.tabled_pool.proofs.Names.{nat_tests, option_map, refl, run_side, drawn_part, slice_get, slice_get-get_or, slice_get-map, subst, suc}
 use Rattle.tabled_pool.proofs.Names.{sym, true, unwrap_or, zero, ℕ, ⊎_elim, ◌+◌, ◌-◌, ◌<◌, ◌∙◌, ◌∷◌, ◌≡◌, ◌≤◌, ◌⊎◌}
 use Rattle.tabled_pool.specs.declared.color_marks.First.{First}
 use Rattle.tabled_pool.specs.declared.color_marks.RunSide.TheVariants.{Inside as Within}
@@ -109,26 +109,26 @@ around-here t x y (q ∷ ps) zero p a h e =
     ap (λ o. unwrap_or o (around_at t ps x y)) (e ∙ ap (λ z. around_part t z x y) (sym s))
 around-here t x y (q ∷ ps) (suc n) p a h e = around-here t x y ps n p a h e
 
-listed : (ps : List Piece) (n : ℕ) (d : Piece) → n < length ps → slice_get (map shown ps) n ≡ Some (shown (get_or ps n d))
-listed ps n d l = slice_get-map shown ps n ∙ ap (option_map shown) (slice_get-get_or ps n d l)
+listed : (ps : List Piece) (n : ℕ) (d : Piece) → n < length ps → slice_get (map drawn_part ps) n ≡ Some (drawn_part (get_or ps n d))
+listed ps n d l = slice_get-map drawn_part ps n ∙ ap (option_map drawn_part) (slice_get-get_or ps n d l)
 
 -- the marks of the piece of a number are those of the pieces from it on
 pub piece_marks : (t : DrawingPlan) (x y : ℕ) (ps : List Piece) (n : ℕ) (d : Piece) (a : Around) → n < length ps
-    → Some a ≡ around_part t (shown (get_or ps n d)) x y → a ≡ around_at t (drop n (map shown ps)) x y
-piece_marks t x y ps n d a l e = around-here t x y (map shown ps) n (shown (get_or ps n d)) a (listed ps n d l) e
+    → Some a ≡ around_part t (drawn_part (get_or ps n d)) x y → a ≡ around_at t (drop n (map drawn_part ps)) x y
+piece_marks t x y ps n d a l e = around-here t x y (map drawn_part ps) n (drawn_part (get_or ps n d)) a (listed ps n d l) e
 
 pub no_marks_here : (t : DrawingPlan) (x y : ℕ) (ps : List Piece) (n : ℕ) (d : Piece) (p : Part) → n < length ps
-    → None ≡ around_part t (shown (get_or ps n d)) x y → slice_get (map shown ps) n ≡ Some p → around_part t p x y ≡ None
+    → None ≡ around_part t (drawn_part (get_or ps n d)) x y → slice_get (map drawn_part ps) n ≡ Some p → around_part t p x y ≡ None
 no_marks_here t x y ps n d p l e h =
-    let s : shown (get_or ps n d) ≡ p = cc (listed ps n d l) in
+    let s : drawn_part (get_or ps n d) ≡ p = cc (listed ps n d l) in
     subst (λ z. around_part t z x y ≡ None) s (sym e)
 
 -- a position has one number
-pub one_number : (ps : List Piece) (r : Rectangle) (u v k n : ℕ) (q : Part) → AreTiles (map shown ps) r → IsNumber ps u v (Some n)
-    → slice_get (map shown ps) k ≡ Some q → contains q.place u v ≡ true → (k ≡ n) × (slice_get (map shown ps) n ≡ Some q)
+pub one_number : (ps : List Piece) (r : Rectangle) (u v k n : ℕ) (q : Part) → AreTiles (map drawn_part ps) r → IsNumber ps u v (Some n)
+    → slice_get (map drawn_part ps) k ≡ Some q → contains q.place u v ≡ true → (k ≡ n) × (slice_get (map drawn_part ps) n ≡ Some q)
 one_number ps r u v k n q d i h c =
-    let e = i.1 ∙ piece_owns (map shown ps) r k u v q d h c in
-    (number-unique (map shown ps) k n u v q h e (grind (arith, nat_tests)) (omega (arith, d u v, within-le r u v)), e)
+    let e = i.1 ∙ piece_owns (map drawn_part ps) r k u v q d h c in
+    (number-unique (map drawn_part ps) k n u v q h e (grind (arith, nat_tests)) (omega (arith, d u v, within-le r u v)), e)
 
 -- the marks of the first piece of those on three lines
 pub marks_known : (t : DrawingPlan) (x y : ℕ) (f0 f1 f2 f3 : First) → AreSized t.parts → f0.x ≡ x → IsEarlier t y f0 f1 → IsEarlier t y f1 f2

@@ -145,8 +145,8 @@ is_line_kind Rule = true
 -- ---- Of private steps: no public call promises this.
 -- Pieces as parts, and which rectangles are large enough for a box
 
-abbrev pub shown : Piece → Part
-shown p = part_of p.kind p.place (piece_text p.kind p.value.now)
+abbrev pub drawn_part : Piece → Part
+drawn_part p = part_of p.kind p.place (piece_text p.kind p.value.now)
 
 pub record Fits (b : Box) (r : Rectangle) : Type 0 where
   pub wide : b.width ≤ r.width
@@ -178,7 +178,7 @@ pub record AreLeft (d : Direction) (g : BoxSpacing) (boxes : List Box) (left : B
   pub count : left.count ≡ length boxes
 
 pub record Placing (whole now : Box) (r place : Rectangle) (before pieces : List Piece) : Type 0 where
-  pub parts : map shown pieces ++ now.parts place ≡ map shown before ++ whole.parts r
+  pub parts : map drawn_part pieces ++ now.parts place ≡ map drawn_part before ++ whole.parts r
   pub fits : Fits now place
 
 -- ---- which parts cover a position

@@ -6,7 +6,7 @@ use Rattle.std.specs.List.{range_with_len, flat_map}
 use Rattle.tabled_pool.specs.declared.rectangle.Rectangle.{Rectangle}
 use Rattle.tabled_pool.specs.declared.kind.Kind.{Kind}
 use Rattle.tabled_pool.specs.declared.kind.Kind.TheVariants.{Leaf, Bar, Rule}
-use Rattle.tabled_pool.specs.Boxes.{Part, is_line_kind, owner, is_border, is_border_before, is_border_above, shown, covering}
+use Rattle.tabled_pool.specs.Boxes.{Part, is_line_kind, owner, is_border, is_border_before, is_border_above, drawn_part, covering}
 use Rattle.tabled_config.specs.Frame.{has_right}
 use Rattle.tabled_config.specs.Junction.{junction}
 use Rattle.tabled_pool.specs.Block.{leaf_line}
@@ -94,13 +94,13 @@ pub record IsRun (t : DrawingPlan) (x y count c : ℕ) (p : Part) : Type 0 where
 -- the piece at a column, whether a border is before it, and which are above and below from there on
 pub record IsAt (t : DrawingPlan) (y : ℕ) (at : Cursor) : Type 0 where
   pub within : at.x ≤ t.width
-  pub piece : option_map (λ p. shown p.now) at.piece ≡ owner t.parts at.x y
+  pub piece : option_map (λ p. drawn_part p.now) at.piece ≡ owner t.parts at.x y
   pub left : at.left ≡ is_border_before t.parts at.x y
   pub up : (v : ℕ) → at.x ≤ v → v < at.up.end → is_border_above t.parts v y ≡ at.up.border
   pub down : (v : ℕ) → at.x ≤ v → v < at.down.end → is_border t.parts v (y + 1) ≡ at.down.border
 
 -- the run from a column on, and the column after it
 pub record RunsFrom (t : DrawingPlan) (y : ℕ) (at : Cursor) (r : Run) (after : Cursor) : Type 0 where
-  pub run : IsRun t at.x y r.count r.c (shown r.piece.now)
+  pub run : IsRun t at.x y r.count r.c (drawn_part r.piece.now)
   pub next : IsAt t y after
   pub behind : after.x ≡ at.x + r.count

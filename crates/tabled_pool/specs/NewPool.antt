@@ -51,7 +51,7 @@ abbrev pub no_records : EmptyRecords
 no_records = record { rows = 0; columns = 0 }
 
 -- the settings before and after an option, related by its change, its promise or its error
-pub record IsApplied (changes : EmptyRecords → CompactMultilineConfig → PoolTableDimension → EmptyRecords
+pub record IsAppliedToPool (changes : EmptyRecords → CompactMultilineConfig → PoolTableDimension → EmptyRecords
     → CompactMultilineConfig → PoolTableDimension → Type 0) (old new : PoolTable) : Type 0 where
   pub after : EmptyRecords
   pub changed : changes no_records old.config old.dimension after new.config new.dimension

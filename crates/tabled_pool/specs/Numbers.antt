@@ -4,13 +4,13 @@ use Rattle.std.specs.Prelude.{◌≡◌, ℕ, ◌<◌, ◌≤◌, ◌+◌, false
 use Rattle.tabled_pool.specs.declared.color_marks.First.{First}
 use Rattle.tabled_pool.specs.declared.piece.Piece.{Piece}
 use Rattle.tabled_pool.specs.Around.{around_at, around_part}
-use Rattle.tabled_pool.specs.Boxes.{Part, is_line_kind, contains, owner, shown}
+use Rattle.tabled_pool.specs.Boxes.{Part, is_line_kind, contains, owner, drawn_part}
 use Rattle.tabled_pool.specs.Plan.{DrawingPlan, around_of}
 
 -- the number of the piece at a position
 abbrev pub IsNumber : List Piece → ℕ → ℕ → Option ℕ → Type 0
-IsNumber ps x y None = owner (map shown ps) x y ≡ None
-IsNumber ps x y (Some k) = (k < length ps) × (slice_get (map shown ps) k ≡ owner (map shown ps) x y)
+IsNumber ps x y None = owner (map drawn_part ps) x y ≡ None
+IsNumber ps x y (Some k) = (k < length ps) × (slice_get (map drawn_part ps) k ≡ owner (map drawn_part ps) x y)
 
 -- a text with at least one column and one line
 pub record IsSized (p : Part) : Type 0 where

@@ -3,7 +3,7 @@ use Rattle.std.specs.Prelude.{ℕ, List, Bool, ◌||◌, is_some, map}
 use Rattle.tabled_config.specs.declared.borders.Borders.{Borders}
 use Rattle.tabled_config.specs.declared.sides.Sides.{Sides}
 use Rattle.tabled_config.specs.declared.spanned.CellStyle.{CellStyle}
-use Rattle.tabled_pool.specs.Boxes.{Part, shown}
+use Rattle.tabled_pool.specs.Boxes.{Part, drawn_part}
 use Rattle.tabled_pool.specs.Colours.{LineMarks, Mark, Around, line_marks_of, marks_of}
 use Rattle.tabled_pool.specs.declared.rectangle.Rectangle.{Rectangle}
 use Rattle.tabled_pool.specs.declared.color_marks.Marks.{Marks}
@@ -32,7 +32,7 @@ has_bottom b = is_some b.bottom || (is_some b.bottom_left || (is_some b.bottom_i
 
 abbrev pub plan_of : Drawing → DrawingPlan
 plan_of d = record {
-  parts = map shown d.pieces.now;
+  parts = map drawn_part d.pieces.now;
   width = d.width;
   height = d.height;
   borders = d.borders;

@@ -11,7 +11,7 @@ use Rattle.tabled_pool.specs.Drawn.{drawn, drawn_line}
 use Rattle.tabled_pool.specs.Inherited.{BlockSheet, block_sheet_of}
 use Rattle.tabled_pool.specs.Numbers.{AreSized}
 use Rattle.tabled_pool.specs.Plan.{plan_of}
-use Rattle.tabled_pool.specs.Boxes.{shown}
+use Rattle.tabled_pool.specs.Boxes.{drawn_part}
 use Rattle.tabled_pool.specs.TallTexts.{AreTall}
 use Rattle.tabled_pool.specs.declared.sweep.Sweep.{Sweep}
 
@@ -21,7 +21,7 @@ sheet_of (Drawn b) = block_sheet_of b.now
 
 -- the texts of placed pieces have columns and lines
 abbrev pub AreSizedLines : TableLines → Type 0
-AreSizedLines (Placed d) = AreSized (map shown d.now.pieces.now)
+AreSizedLines (Placed d) = AreSized (map drawn_part d.now.pieces.now)
 AreSizedLines (Drawn b) = Unit {0}
 
 -- the texts of several lines have their cursors in line y

@@ -4,7 +4,7 @@ ghost use Rattle.tabled_line.specs.Fill.{fill};
 ghost use Rattle.tabled_line.specs.Sent.{Sent, Writes};
 ghost use Rattle.tabled_pool.specs.Around.{across, around_at, around_part, beside, is_last_column};
 ghost use Rattle.tabled_pool.specs.Around.{main_around, right_around, run_side, written_corner};
-ghost use Rattle.tabled_pool.specs.Boxes.{shown};
+ghost use Rattle.tabled_pool.specs.Boxes.{drawn_part};
 ghost use Rattle.tabled_pool.specs.Colours.{alone, begun, coloured, ended, mark_of, nothing_around};
 ghost use Rattle.tabled_pool.specs.Colours.{used_after};
 ghost use Rattle.tabled_pool.specs.Numbers.{IsEarlier, IsFirst, Skips, SkipsBeside};
@@ -236,7 +236,7 @@ fn around_piece(drawing: &Drawing<'_, '_>, piece: &Piece<'_>, x: usize, y: usize
     requires across { x < 2 ^ 64 - 1 }
     requires down { y < 2 ^ 64 - 1 }
     ensures { option_map around_of result
-        ≡ around_part (plan_of drawing.now) (shown piece.now) x y }
+        ≡ around_part (plan_of drawing.now) (drawn_part piece.now) x y }
 {
     if is_line_kind(piece.kind) {
         return None;

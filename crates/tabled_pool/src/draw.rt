@@ -6,7 +6,7 @@ ghost use Rattle.tabled_base.specs.Content.{content_text};
 ghost use Rattle.tabled_line.specs.Block.{columns_before, inner_width};
 ghost use Rattle.tabled_line.specs.Sent.{Sent, Writes};
 ghost use Rattle.tabled_pool.specs.Block.{leaf_line, text_line};
-ghost use Rattle.tabled_pool.specs.Boxes.{is_line_kind, part_of, shown};
+ghost use Rattle.tabled_pool.specs.Boxes.{is_line_kind, part_of, drawn_part};
 ghost use Rattle.tabled_pool.specs.Colours.{marks_of, within_marks};
 ghost use Rattle.tabled_pool.specs.Drawn.{IsRun, drawn_line, part_text, place_text};
 ghost use Rattle.tabled_pool.specs.Plan.{around_of, plan_of};
@@ -162,7 +162,7 @@ fn draw_border<S: TextSink>(
 ) -> Result<(), TableError>
     requires kind { is_line_kind run.now.piece.now.kind ≡ true }
     requires run { IsRun (plan_of line.now.drawing.now) x line.now.y run.now.count run.now.c
-        (shown run.now.piece.now) }
+        (drawn_part run.now.piece.now) }
     ensures { Writes (S.sent sink.old) result (S.sent sink.new)
         (flat_map (place_text (plan_of line.now.drawing.now) line.now.y)
         (range_with_len x run.now.count)) }
@@ -183,7 +183,7 @@ fn draw_run<S: TextSink>(
     x: usize,
 ) -> Result<(), TableError>
     requires { IsRun (plan_of line.now.drawing.now) x line.now.y run.now.count run.now.c
-        (shown run.now.piece.now) }
+        (drawn_part run.now.piece.now) }
     ensures { Writes (S.sent sink.old) result (S.sent sink.new)
         (flat_map (place_text (plan_of line.now.drawing.now) line.now.y)
         (range_with_len x run.now.count)) }

@@ -1,7 +1,7 @@
 //! `Drawing`: the pieces of a table and their settings.
 ghost use Rattle.std.specs.Prelude.{map, true, ◌<◌, ◌^◌, ◌≡◌};
 ghost use Rattle.tabled_config.specs.Compact.{each_side};
-ghost use Rattle.tabled_pool.specs.Boxes.{AreTiles, shown};
+ghost use Rattle.tabled_pool.specs.Boxes.{AreTiles, drawn_part};
 ghost use Rattle.tabled_pool.specs.Colours.{AreNoMarks, line_marks_of, marks_of, no_mark};
 
 use crate::piece::Piece;
@@ -36,6 +36,6 @@ pub struct Drawing<'d, 'a> {
         → marks_of padding_colors ≡ each_side no_mark },
     ghost bare_borders: { uncolored_borders ≡ true → AreNoMarks (line_marks_of colors) },
     /// Each position is in exactly one piece.
-    ghost tiles: { AreTiles (map shown pieces.now)
+    ghost tiles: { AreTiles (map drawn_part pieces.now)
         (record { x = 0; y = 0; width = width; height = height }) },
 }

@@ -5,7 +5,7 @@ ghost use Rattle.std.specs.Prelude.{IfSome, MatchOption, ◌⊎◌};
 ghost use Rattle.tabled_base.specs.Content.{content_text};
 ghost use Rattle.tabled_pool.specs.Boxes.{Part, is_border, is_border_above, is_line, is_line_kind};
 ghost use Rattle.tabled_pool.specs.Boxes.{owner};
-ghost use Rattle.tabled_pool.specs.Boxes.{shown};
+ghost use Rattle.tabled_pool.specs.Boxes.{drawn_part};
 ghost use Rattle.tabled_pool.specs.Drawn.{IsAt, RunsFrom};
 ghost use Rattle.tabled_pool.specs.Numbers.{AreSized};
 ghost use Rattle.tabled_pool.specs.Plan.{plan_of};
@@ -24,7 +24,7 @@ pub struct Line<'l, 's, 'd, 'a> {
     pub sweep: &'s Sweep<'a>,
     pub y: usize,
     ghost inside: { y < drawing.now.height },
-    ghost sized: { AreSized (map shown drawing.now.pieces.now) },
+    ghost sized: { AreSized (map drawn_part drawing.now.pieces.now) },
     ghost tall: { AreTall (plan_of drawing.now) y sweep.now.texts } by { Prim.hlevel props },
 }
 
@@ -145,7 +145,7 @@ impl<'l, 's, 'd, 'a> Line<'l, 's, 'd, 'a> {
     fn lone_run(&self, piece: &'d Piece<'a>, at: &mut Cursor<'d, 'a>) -> Option<Run<'d, 'a>>
         requires at { IsAt (plan_of self.now.drawing.now) self.now.y at.old }
         requires here { owner (plan_of self.now.drawing.now).parts at.old.x self.now.y
-            ≡ Some (shown piece.now) }
+            ≡ Some (drawn_part piece.now) }
         requires kind { is_line_kind piece.now.kind ≡ true }
         ensures { MatchOption result (at.new ≡ at.old)
             (λ run. RunsFrom (plan_of self.now.drawing.now) self.now.y at.old run at.new) }
@@ -177,7 +177,7 @@ impl<'l, 's, 'd, 'a> Line<'l, 's, 'd, 'a> {
         requires at { IsAt (plan_of self.now.drawing.now) self.now.y at.old }
         requires kind { is_line_kind piece.now.kind ≡ true }
         requires here { owner (plan_of self.now.drawing.now).parts at.old.x self.now.y
-            ≡ Some (shown piece.now) }
+            ≡ Some (drawn_part piece.now) }
         ensures { RunsFrom (plan_of self.now.drawing.now) self.now.y at.old result at.new }
     {
         let up = self.above(at);
@@ -229,8 +229,8 @@ impl<'l, 's, 'd, 'a> Line<'l, 's, 'd, 'a> {
     /// comes with it, unless there was no memory for that.
     #[inline(always)]
     pub fn text(&self, piece: &Piece<'a>, x: usize) -> BoxText<'s, 'a>
-        requires { owner (plan_of self.now.drawing.now).parts x self.now.y ≡ Some (shown piece.now) }
-        ensures text { content_text result.content ≡ (shown piece.now).text }
+        requires { owner (plan_of self.now.drawing.now).parts x self.now.y ≡ Some (drawn_part piece.now) }
+        ensures text { content_text result.content ≡ (drawn_part piece.now).text }
         ensures cursor { IsInLine self.now.drawing.now.style piece.now.place
             (self.now.y - piece.now.place.y) result }
     {
@@ -252,7 +252,7 @@ impl<'l, 's, 'd, 'a> Line<'l, 's, 'd, 'a> {
     pub fn next_run(&self, piece: &'d Piece<'a>, at: &mut Cursor<'d, 'a>) -> Run<'d, 'a>
         requires at { IsAt (plan_of self.now.drawing.now) self.now.y at.old }
         requires here { owner (plan_of self.now.drawing.now).parts at.old.x self.now.y
-            ≡ Some (shown piece.now) }
+            ≡ Some (drawn_part piece.now) }
         ensures { RunsFrom (plan_of self.now.drawing.now) self.now.y at.old result at.new }
     {
         if is_line_kind(piece.kind) {

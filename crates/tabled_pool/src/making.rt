@@ -4,7 +4,7 @@ ghost use Rattle.std.specs.Iterator.{IsFiniteIterable};
 ghost use Rattle.std.specs.Prelude.{IfErr, IfOk, List, OnOk, map, ◌≡◌, ◌⊎◌};
 ghost use Rattle.tabled_base.specs.Given.{Given};
 ghost use Rattle.tabled_base.specs.declared.error.TableError.TheVariants.{Memory, Range};
-ghost use Rattle.tabled_pool.specs.NewPool.{IsApplied, IsCopy, IsPoolOfRows, WasOutOfRange};
+ghost use Rattle.tabled_pool.specs.NewPool.{IsAppliedToPool, IsCopy, IsPoolOfRows, WasOutOfRange};
 ghost use Rattle.tabled_pool.specs.Tree.{across, leaf, tree_of, tree_of_row, trees};
 
 use crate::pool_table::PoolTable;
@@ -54,9 +54,9 @@ impl PoolTable {
         &mut self,
         option: O,
     ) -> Result<(), TableError>
-        ensures ok { OnOk result (IsApplied (O.changes option) self.old self.new) }
-        ensures promised { OnOk result (IsApplied (O.promises option) self.old self.new) }
-        ensures err { IfErr result (λ e. IsApplied (O.fails option e) self.old self.new) }
+        ensures ok { OnOk result (IsAppliedToPool (O.changes option) self.old self.new) }
+        ensures promised { OnOk result (IsAppliedToPool (O.promises option) self.old self.new) }
+        ensures err { IfErr result (λ e. IsAppliedToPool (O.fails option e) self.old self.new) }
         ensures only { IfErr result (λ e. (e ≡ Memory) ⊎ (e ≡ Range)) }
         ensures range { IfErr result (λ e. e ≡ Range
             → WasOutOfRange (O.out_of_range option) self.old) }
@@ -78,10 +78,10 @@ impl PoolTable {
         option: O,
     ) -> Result<&mut Self, TableError>
         ensures* rests { sem 𝓛 (RestsIfErr the_row self.entry (λ table. table.ghost_name) result
-            (λ last. IfErr result (λ e. IsApplied (O.fails option e) self.old last))) }
+            (λ last. IfErr result (λ e. IsAppliedToPool (O.fails option e) self.old last))) }
         ensures same_reference { IfOk result (λ table. table.ghost_name ≡ self.entry.ghost_name) }
-        ensures ok { IfOk result (λ table. IsApplied (O.changes option) self.old table.now) }
-        ensures promised { IfOk result (λ table. IsApplied (O.promises option) self.old table.now) }
+        ensures ok { IfOk result (λ table. IsAppliedToPool (O.changes option) self.old table.now) }
+        ensures promised { IfOk result (λ table. IsAppliedToPool (O.promises option) self.old table.now) }
         ensures only { IfErr result (λ e. (e ≡ Memory) ⊎ (e ≡ Range)) }
         ensures range { IfErr result (λ e. e ≡ Range
             → WasOutOfRange (O.out_of_range option) self.old) }

@@ -1,6 +1,6 @@
 //! `PieceList`: the pieces of a drawing, by the line that they begin on.
 ghost use Rattle.std.specs.Prelude.{IfOk, [], length, map, ◌++◌, ◌<◌, ◌∷◌, ◌≡◌};
-ghost use Rattle.tabled_pool.specs.Boxes.{part_of, shown};
+ghost use Rattle.tabled_pool.specs.Boxes.{part_of, drawn_part};
 ghost use Rattle.tabled_pool.specs.PieceText.{piece_text};
 ghost use Rattle.tabled_text.specs.Measure.{lines_of, text_columns};
 
@@ -61,8 +61,8 @@ impl<'a> PieceList<'a> {
     ) -> Result<(), AllocError>
         requires { columns < 65535 → (columns ≡ text_columns (piece_text kind value.now))
             × (1 ≡ length (lines_of (piece_text kind value.now))) }
-        ensures { IfOk result (λ _. map shown self.new.pieces.items
-            ≡ map shown self.old.pieces.items
+        ensures { IfOk result (λ _. map drawn_part self.new.pieces.items
+            ≡ map drawn_part self.old.pieces.items
             ++ (part_of kind place (piece_text kind value.now) ∷ [])) }
     {
         let earlier = self.link(place);

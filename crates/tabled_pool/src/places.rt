@@ -4,7 +4,7 @@ ghost use Rattle.std.specs.Prelude.{IfOk, Some, [], length, map, vec_len, ◌++�
 ghost use Rattle.std.specs.Prelude.{◌∷◌, ◌≡◌};
 ghost use Rattle.tabled_base.specs.Content.{content_text};
 ghost use Rattle.tabled_pool.specs.Boxes.{Fits, IsSize, border_kind, box_of, framed, leaf_box};
-ghost use Rattle.tabled_pool.specs.Boxes.{list_box, part_of, shown};
+ghost use Rattle.tabled_pool.specs.Boxes.{list_box, part_of, drawn_part};
 ghost use Rattle.tabled_pool.specs.PieceText.{own_text};
 ghost use Rattle.tabled_pool.specs.Sizes.{EndsWith, sizes_of_all, sizes_within};
 ghost use Rattle.tabled_pool.specs.declared.kind.Kind.TheVariants.{Leaf};
@@ -47,7 +47,7 @@ fn place_text<'a>(
     list: &mut PieceList<'a>,
 ) -> Result<(), AllocError>
     requires { IsSize (Some whole.now.own) (leaf_box spacing.now (own_text value.now)) }
-    ensures { IfOk result (λ _. map shown list.new.pieces.items ≡ map shown list.old.pieces.items
+    ensures { IfOk result (λ _. map drawn_part list.new.pieces.items ≡ map drawn_part list.old.pieces.items
         ++ (part_of Leaf whole.now.place (own_text value.now) ∷ [])) }
 {
     let content = leaf_content(own_text(value), whole.own, spacing);
@@ -65,7 +65,7 @@ fn place_border<'a>(
     value: &'a TableValue,
     list: &mut PieceList<'a>,
 ) -> Result<(), AllocError>
-    ensures { IfOk result (λ _. map shown list.new.pieces.items ≡ map shown list.old.pieces.items
+    ensures { IfOk result (λ _. map drawn_part list.new.pieces.items ≡ map drawn_part list.old.pieces.items
         ++ (part_of (border_kind direction) place [] ∷ [])) }
 {
     match direction {
@@ -100,8 +100,8 @@ fn place_list<'a>(
         (list_box boxes.direction spacing.now (map (box_of spacing.now) boxes.children.now)) }
     requires fits { Fits (list_box boxes.direction spacing.now (map (box_of spacing.now) boxes.children.now))
         whole.now.place }
-    ensures pieces { IfOk result (λ _. map shown placer.new.list.pieces.items
-        ≡ map shown placer.old.list.pieces.items
+    ensures pieces { IfOk result (λ _. map drawn_part placer.new.list.pieces.items
+        ≡ map drawn_part placer.old.list.pieces.items
         ++ (list_box boxes.entry.direction spacing.now (map (box_of spacing.now) boxes.entry.children.now)).parts
         whole.now.place) }
     ensures sizes { IfOk result (λ _. placer.old.sizes.items
@@ -148,8 +148,8 @@ pub fn place_value<'a>(
     requires sizes { EndsWith placer.old.sizes.items (sizes_within spacing.now value.now) }
     requires own { IsSize (Some whole.now.own) (box_of spacing.now value.now) }
     requires fits { Fits (box_of spacing.now value.now) whole.now.place }
-    ensures pieces { IfOk result (λ _. map shown placer.new.list.pieces.items
-        ≡ map shown placer.old.list.pieces.items
+    ensures pieces { IfOk result (λ _. map drawn_part placer.new.list.pieces.items
+        ≡ map drawn_part placer.old.list.pieces.items
         ++ (box_of spacing.now value.now).parts whole.now.place) }
     ensures sizes { IfOk result (λ _. placer.old.sizes.items
         ≡ placer.new.sizes.items ++ sizes_within spacing.now value.now) }
@@ -192,8 +192,8 @@ pub fn place_tree<'a>(
         ≡ frame.now.top + (box_of spacing.now value.now).height + frame.now.bottom }
     requires right { whole.x + whole.width < 2 ^ 64 }
     requires low { whole.y + whole.height < 2 ^ 64 }
-    ensures { IfOk result (λ _. map shown placer.new.list.pieces.items
-        ≡ map shown placer.old.list.pieces.items
+    ensures { IfOk result (λ _. map drawn_part placer.new.list.pieces.items
+        ≡ map drawn_part placer.old.list.pieces.items
         ++ framed (frame.now) (box_of spacing.now value.now) whole) }
 {
     let rest = whole.rest_part(Direction::Across, frame.left);

@@ -3,9 +3,9 @@ ghost use Rattle.std.specs.Prelude.{IfErr, IfOk, IfSome, MatchOption, [], length
 ghost use Rattle.std.specs.Prelude.{string_bytes, true, ◌++◌, ◌<◌, ◌≡◌, ◌⊎◌};
 ghost use Rattle.tabled_base.specs.declared.error.TableError.TheVariants.{Memory, Range};
 ghost use Rattle.tabled_config.specs.Styles.{ascii};
-ghost use Rattle.tabled_line.specs.Plain.{EachLineTakes};
+ghost use Rattle.tabled_line.specs.Additive.{EachLineTakes};
 ghost use Rattle.tabled_line.specs.Sent.{Sent, Writes};
-ghost use Rattle.tabled_pool.specs.Boxes.{IsSize, box_of, shown};
+ghost use Rattle.tabled_pool.specs.Boxes.{IsSize, box_of, drawn_part};
 ghost use Rattle.tabled_pool.specs.Colours.{marks_of};
 ghost use Rattle.tabled_pool.specs.Drawn.{Tiled, drawn};
 ghost use Rattle.tabled_pool.specs.Inherited.{block_sheet_of, has_zero_width};
@@ -210,7 +210,7 @@ impl PoolTable {
             → measured.sizes.items ≡ sizes_within (spacing_of self.now) value.now }
         requires width { size.width ≡ framed_width self.now }
         requires height { size.height ≡ framed_height self.now }
-        ensures { IfOk result (λ list. map shown list.pieces.items ≡ (plan self.now).parts) }
+        ensures { IfOk result (λ list. map drawn_part list.pieces.items ≡ (plan self.now).parts) }
     {
         let sizes = measured.all()?;
         let list = PieceList::new(self.value.allocator(), size.height, sizes.len());
@@ -229,7 +229,7 @@ impl PoolTable {
     fn drawing<'d, 'a>(&self, list: &'d PieceList<'a>, size: Size) -> Drawing<'d, 'a>
         requires width { size.width ≡ framed_width self.now }
         requires height { size.height ≡ framed_height self.now }
-        requires places { map shown list.now.pieces.items ≡ (plan self.now).parts }
+        requires places { map drawn_part list.now.pieces.items ≡ (plan self.now).parts }
         ensures plan { plan_of result ≡ plan self.now }
         ensures spacing { result.spacing ≡ spacing_of self.now }
         ensures width { result.width ≡ size.width }
@@ -255,7 +255,7 @@ impl PoolTable {
 
     /// Whether each text has at least one column. Side padding gives it one.
     fn has_columns(&self, pieces: &[Piece<'_>]) -> bool
-        requires { map shown pieces.now ≡ (plan self.now).parts }
+        requires { map drawn_part pieces.now ≡ (plan self.now).parts }
         ensures { has_zero_width (plan self.now).parts ≡ not result }
     {
         let padding = self.config.get_padding();

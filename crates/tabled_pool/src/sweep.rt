@@ -1,7 +1,7 @@
 //! `Sweep`: where to look first for the pieces on a line and on the lines next to it; and the piece
 //! at a position.
 ghost use Rattle.std.specs.Prelude.{map, option_map, true, ◌+◌, ◌-◌, ◌<◌, ◌≡◌, ◌≤◌};
-ghost use Rattle.tabled_pool.specs.Boxes.{contains, owner, shown, within};
+ghost use Rattle.tabled_pool.specs.Boxes.{contains, owner, drawn_part, within};
 ghost use Rattle.tabled_pool.specs.Numbers.{IsNumber};
 ghost use Rattle.tabled_pool.specs.Plan.{plan_of};
 ghost use Rattle.tabled_pool.specs.TallTexts.{AreTall};
@@ -153,7 +153,7 @@ pub fn piece_at<'d, 'a>(
     x: usize,
     y: usize,
 ) -> Option<&'d Piece<'a>>
-    ensures { option_map (λ p. shown p.now) result ≡ owner (map shown drawing.now.pieces.now) x y }
+    ensures { option_map (λ p. drawn_part p.now) result ≡ owner (map drawn_part drawing.now.pieces.now) x y }
 {
     let number = number_at(drawing, line, x, y)?;
     Some(&drawing.pieces[number])

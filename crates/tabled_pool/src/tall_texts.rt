@@ -4,7 +4,7 @@ ghost use Rattle.std.specs.List.{All};
 ghost use Rattle.std.specs.Prelude.{IfSome, length, option_map, slice_get, ℕ, ◌+◌, ◌-◌, ◌<◌, ◌≡◌};
 ghost use Rattle.tabled_base.specs.Content.{content_text};
 ghost use Rattle.tabled_line.specs.Block.{fill_above};
-ghost use Rattle.tabled_pool.specs.Boxes.{shown};
+ghost use Rattle.tabled_pool.specs.Boxes.{drawn_part};
 ghost use Rattle.tabled_pool.specs.Plan.{DrawingPlan, plan_of};
 ghost use Rattle.tabled_pool.specs.TallTexts.{AreTall, HasLine, IsIn, IsTall};
 ghost use Rattle.tabled_text.specs.Measure.{line_columns, lines_of};
@@ -102,7 +102,7 @@ impl<'a> TallText<'a> {
     /// the text begins above that line.
     fn new(style: &CellStyle, piece: &Piece<'a>, number: usize, y: usize) -> Option<TallText<'a>>
         ensures { IfSome result (λ text. (text.number ≡ number)
-            × IsIn style.now (shown piece.now) y text) }
+            × IsIn style.now (drawn_part piece.now) y text) }
     {
         let place = piece.place;
         let content = piece.content();

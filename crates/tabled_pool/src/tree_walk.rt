@@ -1,7 +1,7 @@
 //! The walk over a tree that is drawn box by box, and where a box is in it.
 ghost use Rattle.std.specs.Prelude.{IfOk, None, Some, [], if◌then◌else◌, length, map, string_bytes};
 ghost use Rattle.std.specs.Prelude.{◌++◌, ◌+◌, ◌<◌, ◌^◌, ◌∷◌, ◌≡◌, ◌≤◌};
-ghost use Rattle.tabled_pool.specs.Boxes.{Fits, IsSize, box_of, list_box, shown};
+ghost use Rattle.tabled_pool.specs.Boxes.{Fits, IsSize, box_of, list_box, drawn_part};
 ghost use Rattle.tabled_pool.specs.Inherited.{block_sheet_of, drawer, first_flags, has_zero_width};
 ghost use Rattle.tabled_pool.specs.Inherited.{inherited_block, inheriting_box, is_bottom, is_left};
 ghost use Rattle.tabled_pool.specs.Inherited.{is_right, is_top, later_flags, list_drawer};
@@ -145,7 +145,7 @@ pub fn own_sides(own: &Borders<char>) -> Sides<bool>
 }
 
 pub fn has_zero_width(pieces: &[Piece<'_>]) -> bool
-    ensures { result ≡ has_zero_width (map shown pieces.now) }
+    ensures { result ≡ has_zero_width (map drawn_part pieces.now) }
 {
     for piece in pieces {
         if !is_line_kind(piece.kind) && piece.place.width == 0 {

@@ -16,7 +16,7 @@ pub use Rattle.tabled_priority.specs.Laws.Sums.{sum-below, sum_below-le, sum_bel
 pub use Rattle.tabled_priority.specs.Numbers.{greatest_usize}
 pub use Rattle.tabled_priority.specs.Peak.{place_at}
 pub use Rattle.tabled_priority.specs.Permitted.{IsPermitted, IsTakenFrom, at, low, spare, spare_total, taken}
-pub use Rattle.tabled_priority.specs.Schedule.{CanChange, IsBase, IsChanged, IsReached, IsScheduled, IsSpan, IsSpanBy, amount, columns_of}
+pub use Rattle.tabled_priority.specs.Schedule.{CanChange, IsBase, IsChanged, IsReached, IsScheduled, IsSpan, IsSpanBy, amount, ramp_count}
 pub use Rattle.tabled_priority.specs.Schedule.{first_level, first_of, is_open, last_level, last_of, open_count, open_of, share, start_of}
 pub use Rattle.tabled_priority.specs.Schedule.{total_amount}
 pub use Rattle.tabled_priority.specs.Shrunk.{IsBefore, IsMaxShrunk, IsMinShrunk, IsRoundShrunk, IsSideShrunk, ceiling, is_met, place_after}

@@ -41,8 +41,8 @@ abbrev pub open_count : (ℕ → ℕ) → (ℕ → ℕ) → ℕ → ℕ → ℕ
 open_count from to n level = sum_below (λ i. one_if (is_open from to level i)) n
 
 -- ---- the same of columns that are borrowed
-abbrev pub columns_of : Ramps → ℕ
-columns_of ramps = length ramps.values.now
+abbrev pub ramp_count : Ramps → ℕ
+ramp_count ramps = length ramps.values.now
 
 abbrev pub first_of : Ramps → ℕ → ℕ
 first_of ramps = first_level ramps.schedule ramps.values.now ramps.mins.now
@@ -51,7 +51,7 @@ abbrev pub last_of : Ramps → ℕ → ℕ
 last_of ramps = last_level ramps.schedule ramps.values.now ramps.mins.now
 
 abbrev pub total_of : Ramps → ℕ → ℕ
-total_of ramps = total_amount (first_of ramps) (last_of ramps) (columns_of ramps)
+total_of ramps = total_amount (first_of ramps) (last_of ramps) (ramp_count ramps)
 
 abbrev pub open_of : Ramps → ℕ → ℕ → ℕ
 open_of ramps = open_count (first_of ramps) (last_of ramps)

@@ -5,7 +5,7 @@ ghost use Rattle.std.specs.Prelude.{◌≤◌};
 ghost use Rattle.tabled_priority.specs.Least.{HasLeastGreatest, IsHighest, IsLevel};
 ghost use Rattle.tabled_priority.specs.Permitted.{FitsMinimums, IsPermitted, at};
 ghost use Rattle.tabled_priority.specs.Schedule.{CanChange, IsChanged, IsScheduled, IsSpan};
-ghost use Rattle.tabled_priority.specs.Schedule.{IsSpanBy, StaysInRange, amount_by, columns_of};
+ghost use Rattle.tabled_priority.specs.Schedule.{IsSpanBy, StaysInRange, amount_by, ramp_count};
 ghost use Rattle.tabled_priority.specs.Schedule.{first_level, first_of, last_level, last_of};
 ghost use Rattle.tabled_priority.specs.Schedule.{open_of, share};
 ghost use Rattle.tabled_priority.specs.Shrunk.{is_met, place_after, start};
@@ -165,14 +165,14 @@ impl Span {
 /// Returns the span of a schedule that has as many open columns as are missing.
 fn find_span(ramps: &Ramps, reached: Reached, steps: &mut Steps) -> Span
     requires some { 0 < reached.rest }
-    requires enough { reached.rest ≤ open_of ramps.now (columns_of ramps.now) reached.level }
-    ensures span { IsSpan (first_of ramps.now) (last_of ramps.now) (columns_of ramps.now)
+    requires enough { reached.rest ≤ open_of ramps.now (ramp_count ramps.now) reached.level }
+    ensures span { IsSpan (first_of ramps.now) (last_of ramps.now) (ramp_count ramps.now)
         reached.level reached.rest result.first result.last }
     ensures level { result.level ≡ reached.level }
     ensures side { IsSpanBy ramps.now.schedule (first_of ramps.now) (last_of ramps.now)
-        (columns_of ramps.now) reached.level result.first result.last }
+        (ramp_count ramps.now) reached.level result.first result.last }
     ensures fewest { steps.old.count ≤ steps.new.count }
-    ensures most { steps.new.count ≤ counted steps.old.count (3 * columns_of ramps.now) }
+    ensures most { steps.new.count ≤ counted steps.old.count (3 * ramp_count ramps.now) }
 {
     let Reached { level, rest } = reached;
     let count = ramps.values.len();

@@ -3,7 +3,7 @@ ghost use Rattle.std.specs.Prelude.{◌≡◌, ℕ, ◌+◌, ◌-◌, ◌<◌, �
 ghost use Rattle.std.specs.Prelude.{true, ◌*◌};
 ghost use Rattle.tabled_priority.specs.Permitted.{at};
 ghost use Rattle.tabled_priority.specs.Schedule.{CanChange, IsBase, IsChanged, IsReached, last_of};
-ghost use Rattle.tabled_priority.specs.Schedule.{StaysInRange, amount_by, columns_of, first_level};
+ghost use Rattle.tabled_priority.specs.Schedule.{StaysInRange, amount_by, ramp_count, first_level};
 ghost use Rattle.tabled_priority.specs.Schedule.{first_of, is_from_right, is_open, last_level};
 ghost use Rattle.tabled_priority.specs.Schedule.{open_of, start_of, total_amount, total_of};
 ghost use Rattle.tabled_priority.specs.Shrunk.{start};
@@ -154,7 +154,7 @@ pub(crate) fn amount_by(
 impl Levels for Ramps<'_> {
     ghost total = { total_of };
 
-    ghost columns = { columns_of };
+    ghost columns = { ramp_count };
 
     fn total(&self, level: usize, steps: &mut Steps) -> usize {
         total_amount(self.schedule, self.mins, self.values, level, steps)
@@ -164,7 +164,7 @@ impl Levels for Ramps<'_> {
 impl Ramps<'_> {
     /// Reads a column, and returns it with its levels.
     pub(crate) fn visit(&self, place: usize, steps: &mut Steps) -> Ramp
-        requires { place < columns_of self.now }
+        requires { place < ramp_count self.now }
         ensures value { result.value ≡ at self.now.values.now place }
         ensures from { result.from ≡ first_of self.now place }
         ensures to { result.to ≡ last_of self.now place }
@@ -185,7 +185,7 @@ impl Ramps<'_> {
     /// Returns how many of the columns before `end` take one more at a level.
     #[tactic(auto, using(crate::proofs::Sums::sum_step))]
     pub(crate) fn count_open(&self, end: usize, level: usize, steps: &mut Steps) -> usize
-        requires { end ≤ columns_of self.now }
+        requires { end ≤ ramp_count self.now }
         ensures count { result ≡ open_of self.now end level }
         ensures steps { steps.new.count ≡ counted steps.old.count end }
     {
@@ -202,12 +202,12 @@ impl Ramps<'_> {
     #[tactic(auto, using(crate::proofs::Sums::sum_step))]
     pub(crate) fn nth_open(&self, level: usize, nth: usize, steps: &mut Steps) -> usize
         requires some { 0 < nth }
-        requires enough { nth ≤ open_of self.now (columns_of self.now) level }
-        ensures inside { result < columns_of self.now }
+        requires enough { nth ≤ open_of self.now (ramp_count self.now) level }
+        ensures inside { result < ramp_count self.now }
         ensures opened { is_open (first_of self.now) (last_of self.now) level result ≡ true }
         ensures nth { open_of self.now result level + 1 ≡ nth }
         ensures fewest { steps.old.count ≤ steps.new.count }
-        ensures most { steps.new.count ≤ counted steps.old.count (columns_of self.now) }
+        ensures most { steps.new.count ≤ counted steps.old.count (ramp_count self.now) }
     {
         let mut before: usize = 0;
         for place in 0..self.values.len() {
@@ -311,10 +311,10 @@ pub(crate) struct Reached {
 fn find_base(ramps: &Ramps, wanted: usize, steps: &mut Steps) -> usize
     requires some { 0 < wanted }
     requires enough { wanted ≤ total_of ramps.now usize.MAX }
-    ensures base { IsBase (first_of ramps.now) (last_of ramps.now) (columns_of ramps.now) wanted
+    ensures base { IsBase (first_of ramps.now) (last_of ramps.now) (ramp_count ramps.now) wanted
         result }
     ensures fewest { steps.old.count ≤ steps.new.count }
-    ensures most { let n = columns_of ramps.now in
+    ensures most { let n = ramp_count ramps.now in
         steps.new.count ≤ counted steps.old.count (n * (4 * n + 1)) }
 {
     let mut bracket = Bracket {
@@ -334,11 +334,11 @@ fn find_base(ramps: &Ramps, wanted: usize, steps: &mut Steps) -> usize
 pub(crate) fn reach(ramps: &Ramps, wanted: usize, steps: &mut Steps) -> Reached
     requires some { 0 < wanted }
     requires enough { wanted ≤ total_of ramps.now usize.MAX }
-    ensures reached { IsReached (first_of ramps.now) (last_of ramps.now) (columns_of ramps.now)
+    ensures reached { IsReached (first_of ramps.now) (last_of ramps.now) (ramp_count ramps.now)
         wanted result.level result.rest }
     ensures below { result.level < usize.MAX }
     ensures fewest { steps.old.count ≤ steps.new.count }
-    ensures most { let n = columns_of ramps.now in
+    ensures most { let n = ramp_count ramps.now in
         steps.new.count ≤ counted steps.old.count (n * (4 * n + 1) + 2 * n) }
 {
     let base = find_base(ramps, wanted, steps);

@@ -15,7 +15,7 @@ use Rattle.tabled_text.proofs.Pieces.{IsAscii-printable, parted-printable}
 use Rattle.tabled_text.proofs.PlainLines.{plain_line-lines, plain_line-printable, text_columns-plain_line}
 use Rattle.tabled_records.proofs.SizedRows.{cell-sized, inside-sized}
 use Rattle.tabled_records.specs.CutLentRows.{IsCutKnown, cut_cell, cut_rows, cuts, tells_cut}
-use Rattle.tabled_base.specs.Printable.{IsPrintable}
+use Rattle.tabled_base.specs.Printable.{IsPrintableAscii}
 use Rattle.tabled_records.specs.NarrowedTexts.{AreKnown}
 use Rattle.tabled_records.specs.declared.narrowed_texts.NarrowedTexts.{NarrowedTexts}
 use Rattle.tabled_base.specs.Cells.{IsInside}
@@ -24,11 +24,11 @@ use Rattle.tabled_text.specs.Cut.{IsCut, cut_behind, cut_text}
 -- ---- one text
 
 -- a printable text has as many columns as bytes
-pub printable-columns : (text : List ℕ) → IsPrintable text → text_columns text ≡ length text
+pub printable-columns : (text : List ℕ) → IsPrintableAscii text → text_columns text ≡ length text
 printable-columns text h = text_columns-plain_line (plain_line-printable text h)
 
 -- and is cut in front of any byte
-pub printable-boundary : (text : List ℕ) (n : ℕ) → IsPrintable text → n ≤ length text → IsCharBoundary text n
+pub printable-boundary : (text : List ℕ) (n : ℕ) → IsPrintableAscii text → n ≤ length text → IsCharBoundary text n
 printable-boundary text n h l = (
   l,
   λ below wide.
@@ -36,12 +36,12 @@ printable-boundary text n h l = (
       grind (arith, nat_tests),
 )
 
-pub printable-cut : (text : List ℕ) (n : ℕ) → IsPrintable text → IsPrintable (take n text)
+pub printable-cut : (text : List ℕ) (n : ℕ) → IsPrintableAscii text → IsPrintableAscii (take n text)
 printable-cut text n h =
     list_all-from_AllPass (is_in_range 0x20 0x7E) (take n text) (All-take (λ b. is_in_range 0x20 0x7E b ≡ true) n text (AllPass-from_list_all (is_in_range 0x20 0x7E) text h))
 
 -- a printable text is one line
-pub printable-lines : (text : List ℕ) → IsPrintable text → length (lines_of text) ≡ 1
+pub printable-lines : (text : List ℕ) → IsPrintableAscii text → length (lines_of text) ≡ 1
 printable-lines text h = ap length (plain_line-lines (plain_line-printable text h))
 
 pub front-bytes : (n : ℕ) (text : List ℕ) → slice_range text 0 n ≡ take n text
@@ -55,7 +55,7 @@ pub cuts-wide : (n : ℕ) (text : List ℕ) → n < text_columns text → cuts n
 cuts-wide n text l = ap (λ b. cond b (cut_text n text) text) (lt-ltb n (text_columns text) l)
 
 -- a printable text is cut to its first n bytes
-pub cuts-printable : (n : ℕ) (text : List ℕ) → IsPrintable text → n < text_columns text → cuts n text ≡ take n text
+pub cuts-printable : (n : ℕ) (text : List ℕ) → IsPrintableAscii text → n < text_columns text → cuts n text ≡ take n text
 cuts-printable n text h l =
     let front = take n text in
     let all = printable-cut text n h in

@@ -15,7 +15,7 @@ use Rattle.std.proofs.lemmas.List.Elements.{All-drop, All-from_get_or, All-repli
 use Rattle.std.proofs.lemmas.List.Sums.{list_all-from_AllPass}
 use Rattle.tabled_base.specs.Cells.{longest}
 use Rattle.tabled_records.specs.CutLentRows.{ArePrintable}
-use Rattle.tabled_base.specs.Printable.{IsPrintable}
+use Rattle.tabled_base.specs.Printable.{IsPrintableAscii}
 use Rattle.tabled_records.specs.Joined.{AreJoined, IsLent}
 use Rattle.tabled_records.proofs.Joining.{behind-next, kept-next, length-texts, texts-next}
 use Rattle.tabled_records.proofs.Rows.{part-last, parts-append, ranges-grown, ranges-next}
@@ -217,7 +217,7 @@ within-more text start at h tab feed =
 
 -- a run of printable bytes is printable
 pub printable-run : (text : List ℕ) (start end : ℕ) → end ≤ length text
-    → ((k : ℕ) → start ≤ k → k < end → is_in_range 0x20 0x7E (get_or text k 0) ≡ true) → IsPrintable (slice_range text start end)
+    → ((k : ℕ) → start ≤ k → k < end → is_in_range 0x20 0x7E (get_or text k 0) ≡ true) → IsPrintableAscii (slice_range text start end)
 printable-run text start end l run =
     list_all-from_AllPass (is_in_range 0x20 0x7E) (slice_range text start end) (all-range (λ b. is_in_range 0x20 0x7E b ≡ true) text start end l run)
 
@@ -226,7 +226,7 @@ pub record IsSplit (text : List ℕ) (cells ranges : List (ℕ × ℕ)) (start f
   pub inside : at ≤ length text
   pub cut : IsCut text cells ranges start first
   pub within : IsWithin text start at
-  pub printable : plain ≡ true → IsPrintable (slice_range text start at)
+  pub printable : plain ≡ true → IsPrintableAscii (slice_range text start at)
 
 -- a run of printable bytes is all of a cell so far
 pub split-begun : (text bytes : List ℕ) (cells ranges : List (ℕ × ℕ)) (start first at : ℕ) (plain : Bool) → bytes ≡ text
@@ -246,13 +246,13 @@ split-begun text bytes cells ranges start first at plain same cut from ends run 
 
 -- a further cell is printable if its part of the text is
 pub plain-next : (text : List ℕ) (cells : List (ℕ × ℕ)) (columns start at : ℕ) (all own : Bool) → start ≡ behind 1 0 cells
-    → (all ≡ true → All IsPrintable (texts_from 1 text 0 cells)) → (all ≡ true → own ≡ true)
-    → (own ≡ true → IsPrintable (slice_range text start at))
-    → all ≡ true → All IsPrintable (texts_from 1 text 0 (cells ++ (at, columns) ∷ []))
+    → (all ≡ true → All IsPrintableAscii (texts_from 1 text 0 cells)) → (all ≡ true → own ≡ true)
+    → (own ≡ true → IsPrintableAscii (slice_range text start at))
+    → all ≡ true → All IsPrintableAscii (texts_from 1 text 0 (cells ++ (at, columns) ∷ []))
 plain-next text cells columns start at all own s h this last plain =
-    subst (All IsPrintable) (sym (cells-next text cells columns start at s))
-    (All-append IsPrintable (texts_from 1 text 0 cells) (slice_range text start at ∷ []) (h plain)
-    (All-cons IsPrintable (slice_range text start at) [] (last (this plain)) (All-nil IsPrintable)))
+    subst (All IsPrintableAscii) (sym (cells-next text cells columns start at s))
+    (All-append IsPrintableAscii (texts_from 1 text 0 cells) (slice_range text start at ∷ []) (h plain)
+    (All-cons IsPrintableAscii (slice_range text start at) [] (last (this plain)) (All-nil IsPrintableAscii)))
 
 -- an item of a list, or one for where it ends
 all-or : {X : Type 0} (P : X → Type 0) (xs : List X) (d : X) → P d → All P xs → (i : ℕ) → P (get_or xs i d)
@@ -275,8 +275,8 @@ rows-all P texts ranges none h row column =
     all-or P (get_or (rows_in texts ranges) row []) [] none (all-or (All P) (rows_in texts ranges) [] (All-nil P) each row) column
 
 -- the cells of rows are printable if all texts are
-pub rows-printable : (texts : List (List ℕ)) (ranges : List (ℕ × ℕ)) → All IsPrintable texts → ArePrintable (rows_in texts ranges)
-rows-printable texts ranges h = rows-all IsPrintable texts ranges refl h
+pub rows-printable : (texts : List (List ℕ)) (ranges : List (ℕ × ℕ)) → All IsPrintableAscii texts → ArePrintable (rows_in texts ranges)
+rows-printable texts ranges h = rows-all IsPrintableAscii texts ranges refl h
 
 -- ---- cells that are texts
 

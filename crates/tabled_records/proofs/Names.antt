@@ -25,6 +25,6 @@ pub use Rattle.tabled_records.specs.Joined.{AreKept, AreLines, AreRanges, HasNo,
 pub use Rattle.tabled_records.specs.Joined.{texts_from}
 unfoldable pub use Rattle.tabled_records.specs.Joined.{begin}
 pub use Rattle.tabled_records.specs.Reading.{MayGive, Reads, ReadsTo, Walked}
-pub use Rattle.tabled_records.specs.TextRows.{cells_of, most_cells}
+pub use Rattle.tabled_records.specs.TextRows.{tab_separated, most_cells}
 pub use Rattle.tabled_records.specs.Views.{AreChanged, changed_of, cut_cells_steps, first_cells_steps, with_widths}
 pub use Rattle.tabled_text.specs.Measure.{greatest, lines_of, text_columns}

@@ -1,6 +1,6 @@
 -- Rows whose texts stand in one list.
 use Rattle.tabled_records.proofs.Names.{All-append, All-cons, All-head, All-nil, All-tail, AreRanges, IsRectangular, List, [], ap, arith}
-use Rattle.tabled_records.proofs.Names.{cell_at, cells_of, columns, drop, drop-append-le, drop-append_seam, get_or, get_or-drop}
+use Rattle.tabled_records.proofs.Names.{cell_at, tab_separated, columns, drop, drop-append-le, drop-append_seam, get_or, get_or-drop}
 use Rattle.tabled_records.proofs.Names.{get_or-take, get_or_append_left, greatest, length, length-append, length-drop, length-lengthened}
 use Rattle.tabled_records.proofs.Names.{length-map, length-take, lengthened, lengthened_rows, longest_range, map, map-append, max}
 use Rattle.tabled_records.proofs.Names.{most_cells, part, parts, refl, replicate, rows_in, suc, sym, take, take-append-le, take-length}
@@ -118,10 +118,10 @@ pub rectangular-same : (rows : List (List (List ℕ))) → IsRectangular rows �
 rectangular-same rows h = lengthened-rectangular (longest rows) rows h (longest-columns rows h)
 
 -- the cells of lines are lengthened to those of the longest line
-pub rows-lines : (lines : List (List ℕ)) → lengthened_rows (map cells_of lines) ≡ map (λ line. lengthened (most_cells lines) (cells_of line)) lines
+pub rows-lines : (lines : List (List ℕ)) → lengthened_rows (map tab_separated lines) ≡ map (λ line. lengthened (most_cells lines) (tab_separated line)) lines
 rows-lines lines =
-    map-map (lengthened (longest (map cells_of lines))) cells_of lines
-    ∙ ap (λ n. map (λ line. lengthened n (cells_of line)) lines) (ap greatest (map-map length cells_of lines))
+    map-map (lengthened (longest (map tab_separated lines))) tab_separated lines
+    ∙ ap (λ n. map (λ line. lengthened n (tab_separated line)) lines) (ap greatest (map-map length tab_separated lines))
 
 -- a cell that doesn't only lengthen its row
 pub cell-there : (texts : List (List ℕ)) (ranges : List (ℕ × ℕ)) (row column : ℕ) (d : ℕ × ℕ) → AreRanges (length texts) ranges

@@ -1,6 +1,6 @@
 -- The cells of a text are texts.
 use Rattle.tabled_records.proofs.Names.{All, All-append, All-cons, All-map, All-nil, Bool, IsCharBoundary-after_ascii, IsUtf8, List, []}
-use Rattle.tabled_records.proofs.Names.{arith, cases_lt, cells_of, cond, drop, get_or, inl, inr, length, length-drop, lengthened, lines_of}
+use Rattle.tabled_records.proofs.Names.{arith, cases_lt, tab_separated, cond, drop, get_or, inl, inr, length, length-drop, lengthened, lines_of}
 use Rattle.tabled_records.proofs.Names.{most_cells, replicate, slice_split_none, subst, suc, sym, take, zero, ℕ, ◌+◌, ◌-◌, ◌<◌, ◌==◌, ◌≡◌}
 use Rattle.tabled_records.proofs.Names.{◌≤◌}
 use Rattle.std.specs.List.{position_or_len, slice_index, slice_split}
@@ -57,15 +57,15 @@ rows_utf8 text u =
       | inr other ↦ subst (λ b. All IsUtf8 (cond b [] (lines_of (without_last_feed text)))) (sym other) (utf8_lines (without_last_feed text) (whole_utf8 text u))
     ]
 
-row_utf8 : (n : ℕ) (line : List ℕ) → IsUtf8 line → All IsUtf8 (lengthened n (cells_of line))
+row_utf8 : (n : ℕ) (line : List ℕ) → IsUtf8 line → All IsUtf8 (lengthened n (tab_separated line))
 row_utf8 n line u =
-    All-append IsUtf8 (cells_of line) (replicate (n - length (cells_of line)) [])
-    (split_utf8 9 (omega arith) (length line) line (omega arith) u) (All-replicate IsUtf8 (n - length (cells_of line)) [] IsUtf8-nil)
+    All-append IsUtf8 (tab_separated line) (replicate (n - length (tab_separated line)) [])
+    (split_utf8 9 (omega arith) (length line) line (omega arith) u) (All-replicate IsUtf8 (n - length (tab_separated line)) [] IsUtf8-nil)
 
 -- each cell of a text is a text
 pub text_cells : (text : List ℕ) → IsUtf8 text → All (All IsUtf8) (text_rows text)
 unfolding text_rows
 text_cells text u =
     let n = most_cells (row_lines text) in
-    All-map (All IsUtf8) (λ line. lengthened n (cells_of line)) (row_lines text)
+    All-map (All IsUtf8) (λ line. lengthened n (tab_separated line)) (row_lines text)
     (λ k d h. row_utf8 n (get_or (row_lines text) k d) (rows_utf8 text u k d h))

@@ -15,13 +15,13 @@ use Rattle.tabled_text.specs.Walk.{append_all, pending}
 use Rattle.tabled_text.specs.declared.line_ends.LineEnds.{LineEnds}
 use Rattle.tabled_text.specs.declared.line_ends.LineEnds.TheVariants.{Bytes, Columns}
 use Rattle.tabled_records.proofs.SizedRows.{cell-sized, inside-sized}
-use Rattle.tabled_base.specs.Printable.{IsPrintable}
+use Rattle.tabled_base.specs.Printable.{IsPrintableAscii}
 use Rattle.tabled_records.specs.NarrowedTexts.{AreKnown}
 use Rattle.tabled_records.specs.WrappedLentRows.{IsKnown, tells_wrapped, wrapped_cell, wrapped_rows, wraps}
 use Rattle.tabled_records.specs.declared.narrowed_texts.NarrowedTexts.{NarrowedTexts}
 
 -- printable ASCII of no more bytes than the width is wrapped to itself
-pub wrapped-short : (n : ℕ) (words : Bool) (text : List ℕ) → IsPrintable text → length text ≤ n → wrapped_text n words text ≡ text
+pub wrapped-short : (n : ℕ) (words : Bool) (text : List ℕ) → IsPrintableAscii text → length text ≤ n → wrapped_text n words text ≡ text
 wrapped-short zero words [] h l = refl
 wrapped-short zero words (c ∷ text) h l = absurd (omega (arith, l))
 wrapped-short (suc n) words text h l =
@@ -62,7 +62,7 @@ pub ended-in_place : {ends : LineEnds} {n : ℕ} {P : Type 0} (text : List ℕ) 
 ended-in_place text (inl e) = ap (λ ends. ended_text ends text) e
 ended-in_place text (inr e) = ap (λ ends. ended_text ends text) e.0
 
-pub ends-in_place : {ends : LineEnds} {n : ℕ} {P : Type 0} (text : List ℕ) → (P → IsPrintable text) → (ends ≡ Columns n) ⊎ ((ends ≡ Bytes n) × P)
+pub ends-in_place : {ends : LineEnds} {n : ℕ} {P : Type 0} (text : List ℕ) → (P → IsPrintableAscii text) → (ends ≡ Columns n) ⊎ ((ends ≡ Bytes n) × P)
     → AreEnds (Columns n) text → AreEnds ends text
 ends-in_place text plain (inl e) h = subst (λ ends. AreEnds ends text) (sym e) h
 ends-in_place {n} text plain (inr e) h =

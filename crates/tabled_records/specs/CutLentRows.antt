@@ -1,7 +1,7 @@
 -- Rows of texts in which each text is cut to the width of its column, in columns.
 use Rattle.std.specs.Prelude.{◌≡◌, ◌<◌, ◌==◌, ℕ, List, MatchBool, Option, Some, None, length, nat_lt, if◌then◌else◌}
 use Rattle.tabled_base.specs.Cells.{cell_at}
-use Rattle.tabled_base.specs.Printable.{IsPrintable}
+use Rattle.tabled_base.specs.Printable.{IsPrintableAscii}
 use Rattle.tabled_records.specs.NarrowedTexts.{AreKnown}
 use Rattle.tabled_records.specs.SizedRows.{sized_rows, sized_text}
 use Rattle.tabled_records.specs.declared.narrowed_texts.NarrowedTexts.{NarrowedTexts}
@@ -22,7 +22,7 @@ cut_rows widths rows = sized_rows cuts widths rows
 
 -- each cell is printable ASCII
 abbrev pub ArePrintable : List (List (List ℕ)) → Type 0
-ArePrintable rows = (row column : ℕ) → IsPrintable (cell_at rows row column)
+ArePrintable rows = (row column : ℕ) → IsPrintableAscii (cell_at rows row column)
 
 -- a number of bytes, and 1, describe a text that is cut without a copy. Another second number
 -- describes one of which U+FFFD alone is left. One that isn't wider needs no numbers

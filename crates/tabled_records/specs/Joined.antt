@@ -4,7 +4,7 @@ use Rattle.std.specs.Prelude.{◌≡◌, ⊤, ℕ, zero, suc, ◌+◌, ◌<◌, 
 use Rattle.std.specs.Prelude.{Bool, true, ◌++◌}
 use Rattle.std.specs.List.{slice_range, All}
 use Rattle.std.specs.Str.{IsCharBoundary}
-use Rattle.tabled_base.specs.Printable.{IsPrintable}
+use Rattle.tabled_base.specs.Printable.{IsPrintableAscii}
 use Rattle.tabled_text.specs.Measure.{lines_of, text_columns, greatest}
 use Rattle.tabled_base.specs.Cells.{lengthened_rows}
 
@@ -126,4 +126,4 @@ pub record AreWritten (texts : List (List ℕ)) (ranges : List (ℕ × ℕ)) (en
 pub record AreLentRows (text : List ℕ) (cells rows : List (ℕ × ℕ)) (printable : Bool) : Type 0 where
   pub kept : AreKept 1 text cells []
   pub ranges : AreRanges (length cells) rows
-  pub plain : printable ≡ true → All IsPrintable (texts_from 1 text 0 cells)
+  pub plain : printable ≡ true → All IsPrintableAscii (texts_from 1 text 0 cells)

@@ -15,7 +15,7 @@ abbrev pub Tells : Type 1
 Tells = ℕ → List ℕ → ℕ × ℕ → Type 0
 
 -- the narrowed line, which was made
-pub record IsMade (makes : Makes) (n : ℕ) (line out : List ℕ) (columns lines : ℕ) : Type 0 where
+pub record IsNarrowedAnew (makes : Makes) (n : ℕ) (line out : List ℕ) (columns lines : ℕ) : Type 0 where
   pub same : out ≡ makes n line
   pub columns_are : columns ≡ text_columns (makes n line)
   pub lines_are : lines ≡ length (lines_of (makes n line))
@@ -23,7 +23,7 @@ pub record IsMade (makes : Makes) (n : ℕ) (line out : List ℕ) (columns lines
 -- a line is narrowed to n columns
 abbrev pub IsNarrowed : Makes → Tells → ℕ → List ℕ → List ℕ → Narrowed → Type 0
 IsNarrowed makes tells n line out (Told first second) = (0 < second) × tells n line (first, second)
-IsNarrowed makes tells n line out (Made columns lines) = IsMade makes n line out columns lines
+IsNarrowed makes tells n line out (Made columns lines) = IsNarrowedAnew makes n line out columns lines
 
 -- the numbers that describe a text that is narrowed to n columns are right
 abbrev pub IsTold : Makes → Tells → ℕ → List ℕ → ℕ × ℕ → List (List ℕ) → Type 0

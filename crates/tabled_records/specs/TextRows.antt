@@ -14,14 +14,14 @@ abbrev pub row_lines : List ℕ → List (List ℕ)
 row_lines text = if length text == 0 then [] else lines_of (without_last_feed text)
 
 -- the pieces between tabs
-abbrev pub cells_of : List ℕ → List (List ℕ)
-cells_of line = slice_split (λ b. b == 9) line
+abbrev pub tab_separated : List ℕ → List (List ℕ)
+tab_separated line = slice_split (λ b. b == 9) line
 
 -- the number of cells in the longest row
 abbrev pub most_cells : List (List ℕ) → ℕ
-most_cells lines = greatest (map (λ line. length (cells_of line)) lines)
+most_cells lines = greatest (map (λ line. length (tab_separated line)) lines)
 
 -- the rows of a text; short ones are filled up with empty cells
 unfoldable pub text_rows : List ℕ → List (List (List ℕ))
 text_rows text =
-    map (λ line. lengthened (most_cells (row_lines text)) (cells_of line)) (row_lines text)
+    map (λ line. lengthened (most_cells (row_lines text)) (tab_separated line)) (row_lines text)

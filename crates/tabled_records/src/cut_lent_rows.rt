@@ -3,7 +3,7 @@ ghost use Rattle.std.specs.Prelude.{IfErr, IfOk, IfSome, OnErr, OnOk, length, st
 ghost use Rattle.std.specs.Prelude.{◌≡◌};
 ghost use Rattle.tabled_base.specs.declared.error.TableError.TheVariants.{Memory};
 ghost use Rattle.tabled_records.specs.CutLentRows.{cut_rows, cuts, tells_cut};
-ghost use Rattle.tabled_base.specs.Printable.{IsPrintable};
+ghost use Rattle.tabled_base.specs.Printable.{IsPrintableAscii};
 ghost use Rattle.tabled_text.specs.Cut.{cut_text};
 ghost use Rattle.tabled_text.specs.Measure.{lines_of, text_columns};
 

@@ -9,11 +9,11 @@ ghost use Rattle.tabled_base.specs.Cells.{IsInside, cell_at, columns, lengthened
 ghost use Rattle.tabled_base.specs.Content.{content_text};
 ghost use Rattle.tabled_base.specs.Given.{Given};
 ghost use Rattle.tabled_base.specs.declared.error.TableError.TheVariants.{Memory};
-ghost use Rattle.tabled_records.specs.TextRows.{cells_of, most_cells, text_rows};
+ghost use Rattle.tabled_records.specs.TextRows.{tab_separated, most_cells, text_rows};
 ghost use Rattle.tabled_text.specs.Measure.{lines_of, text_columns};
 ghost use Rattle.tabled_records.specs.CutLentRows.{ArePrintable};
 ghost use Rattle.tabled_records.specs.Joined.{AreLentRows, AreMeasures, AreRanges, HasNo, IsLent};
-ghost use Rattle.tabled_base.specs.Printable.{IsPrintable};
+ghost use Rattle.tabled_base.specs.Printable.{IsPrintableAscii};
 ghost use Rattle.tabled_records.specs.Joined.{rows_in, texts_from};
 
 use crate::row_ranges::{Pairs, RowRanges, text_at};
@@ -152,7 +152,7 @@ pub fn text_rows(alloc: Global, text: &str) -> Result<LentRows<'_>, TableError>
 
 fn split_rows(alloc: Global, text: &str) -> Result<LentRows<'_>, TableError>
     ensures ok { IfOk result (λ rows. rows
-        ≡ map (λ line. lengthened (most_cells (lines_of text.now)) (cells_of line))
+        ≡ map (λ line. lengthened (most_cells (lines_of text.now)) (tab_separated line))
         (lines_of text.now)) }
     ensures only { IfErr result (λ e. e ≡ Memory) }
 {
@@ -206,7 +206,7 @@ fn cell_columns(text: &str, start: usize, end: usize, printable: bool) -> usize
     requires begins { IsCharBoundary text.now start }
     requires ends { IsCharBoundary text.now end }
     requires line { HasNo 10 (slice_range text.now start end) }
-    requires printable { printable ≡ true → IsPrintable (slice_range text.now start end) }
+    requires printable { printable ≡ true → IsPrintableAscii (slice_range text.now start end) }
     ensures { IsLent text.now start (end, result) }
 {
     if printable {

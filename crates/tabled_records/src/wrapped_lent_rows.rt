@@ -5,7 +5,7 @@ ghost use Rattle.std.specs.Prelude.{length, slice_index_or, string_bytes, ◌+�
 ghost use Rattle.tabled_base.specs.Content.{content_text};
 ghost use Rattle.tabled_base.specs.declared.error.TableError.TheVariants.{Memory};
 ghost use Rattle.tabled_records.specs.CutLentRows.{ArePrintable};
-ghost use Rattle.tabled_base.specs.Printable.{IsPrintable};
+ghost use Rattle.tabled_base.specs.Printable.{IsPrintableAscii};
 ghost use Rattle.tabled_records.specs.WrappedLentRows.{tells_wrapped, wrapped_cell, wrapped_rows, wraps};
 ghost use Rattle.tabled_text.specs.Measure.{lines_of, text_columns};
 ghost use Rattle.tabled_text.specs.declared.line_ends.LineEnds.TheVariants.{Bytes, Columns};
@@ -76,7 +76,7 @@ impl<'r, 'a> Model for WrappedLentRows<'r, 'a> {
 /// Returns printable ASCII as it is wrapped to n columns.
 #[inline(always)]
 fn printable_content(text: &str, n: usize) -> Content<'_>
-    requires { IsPrintable text.now }
+    requires { IsPrintableAscii text.now }
     ensures { content_text result ≡ wrapped_cell false (Some n) text.now }
 {
     let bytes = text.len();

@@ -13,7 +13,7 @@ use Rattle.tabled_set.specs.Common.{FitsMinimums, IsTooWide}
 use Rattle.tabled_set.specs.CellChanges.{NeedsMemoryIn, if_taken, CellFilter}
 use Rattle.tabled_set.specs.Increased.{StopsFilling}
 use Rattle.tabled_set.specs.declared.narrowing.ColumnWidths.{ColumnWidths}
-use Rattle.tabled_set.specs.Narrowed.{AreShrunk, content_of, FitsAlready, HasWidths, StopsEarly, StopsNarrowing, WiderOutOfRange, is_permitted}
+use Rattle.tabled_set.specs.Narrowed.{AreShrunk, content_of, FitsAlready, HasWidths, StopsBeforeNarrowing, StopsNarrowing, WiderOutOfRange, is_permitted}
 use Rattle.tabled_set.specs.Narrowed.{needs_for_content_size, IsFound, MustNarrow, content_width, less_padding}
 use Rattle.tabled_config.specs.Settings.{style_at}
 use Rattle.tabled_entity.specs.Changes.{shared}
@@ -236,7 +236,7 @@ module _ (n k : ℕ) (cells : List (List (List ℕ))) (config : SpannedConfig) (
 
   -- an error of a table that is wider
   pub early-wider : {T : Type 0} (r : Result T TableError) → OnErr r (k < total_width (effective cells config mid))
-      → IfErr r (λ e. StopsEarly n e cells config old mid)
+      → IfErr r (λ e. StopsBeforeNarrowing n e cells config old mid)
   early-wider (Ok x) h = tt
   early-wider (Err e) h =
       let wide = subst (λ t. k < total_width t) (effective-filled cells config old mid filled) h in
@@ -251,7 +251,7 @@ module _ {P : Type 0} (shrinks : Shrinks P) (priority : P) (change : ℕ → Lis
       (λ _ left. match-true _ _ (le-leb (total_width (effective cells config old)) n left.0) (refl, left.1))
 
   -- an error before a cell has changed
-  pub stops-early : (cell_filter : CellFilter) (in_place : ℕ → List ℕ → Type 0) (e : TableError) → StopsEarly n e cells config old mid
+  pub stops-early : (cell_filter : CellFilter) (in_place : ℕ → List ℕ → Type 0) (e : TableError) → StopsBeforeNarrowing n e cells config old mid
       → (is_empty cells ≡ false) × StopsNarrowing shrinks priority cell_filter in_place change n e cells config old cells mid
   stops-early cell_filter in_place e h = (
     h.some,
@@ -261,7 +261,7 @@ module _ {P : Type 0} (shrinks : Shrinks P) (priority : P) (change : ℕ → Lis
 -- an error once the widths are found
 pub early-found : {P : Type 0} (shrinks : Shrinks P) (priority : P) (n : ℕ) (cells : List (List (List ℕ))) (config : SpannedConfig)
     (old mid : CompleteDimension) (widths : ColumnWidths) (e : TableError) → HasWidths shrinks priority n cells config old mid widths
-    → StopsEarly n e cells config old mid
+    → StopsBeforeNarrowing n e cells config old mid
 early-found shrinks priority n cells config old mid widths e h =
     let wide = subst (λ t. n < total_width t) (effective-filled cells config old mid h.filled) h.found.wider in
     record { some = h.some; left = inr (wide, h.filled) }

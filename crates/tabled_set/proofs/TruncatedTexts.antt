@@ -178,13 +178,13 @@ additive = record {
   joined = λ n lines some each. StaysWithin-join lines some each;
 }
 
-plain_lines : (text : List ℕ) → IsAdditive text → All IsAdditive (lines_of text)
-plain_lines text p k d l = subst IsAdditive (sym (get_or_default (lines_of text) k d [] l)) (plain_text-line (plain_line-each text p k l))
+additive_lines : (text : List ℕ) → IsAdditive text → All IsAdditive (lines_of text)
+additive_lines text p k d l = subst IsAdditive (sym (get_or_default (lines_of text) k d [] l)) (plain_text-line (plain_line-each text p k l))
 
 pub StaysWithin-truncated : (content_size : ℕ) (suffix : List ℕ) (limit : SuffixLimit) (multiline : Bool) (text answer : List ℕ)
     → IsAdditive suffix → IsAdditiveLimit limit → IsAdditive text → IsTruncated content_size suffix limit multiline text answer → StaysWithin content_size answer
 StaysWithin-truncated content_size suffix limit multiline text answer p q own h =
-    stays-truncated IsAdditive StaysWithin additive content_size suffix limit multiline text answer p q own (plain_lines text own) h
+    stays-truncated IsAdditive StaysWithin additive content_size suffix limit multiline text answer p q own (additive_lines text own) h
 
 -- ---- texts of any characters
 

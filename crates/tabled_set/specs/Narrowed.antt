@@ -151,7 +151,7 @@ pub record AreShrunk {P : Type 0} (shrinks : Shrinks P) (priority : P) (n : ℕ)
 
 -- what an error leaves while no cell has changed: the sizes unchanged while they are estimated, or
 -- filled in if the table is wider than n
-pub record StopsEarly (n : ℕ) (error : TableError) (cells : List (List (List ℕ))) (config : SpannedConfig)
+pub record StopsBeforeNarrowing (n : ℕ) (error : TableError) (cells : List (List (List ℕ))) (config : SpannedConfig)
     (sizes sizes' : CompleteDimension) : Type 0 where
   pub some : is_empty cells ≡ false
   pub left : StopsFilling error sizes sizes' ⊎ ((n < total_width (effective cells config sizes)) × IsFilledIn sizes cells config sizes')

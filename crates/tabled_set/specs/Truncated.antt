@@ -81,15 +81,15 @@ ended_text kept text = take kept.bytes text ++ kept.ending.now
 
 -- a suffix that leaves the text no column has to be allocated: for copies of a character, or for a
 -- beginning that is filled with U+FFFD
-abbrev pub IsMadeFor : ℕ → List ℕ → SuffixLimit → Type 0
-IsMadeFor content_size suffix Cut = NeedsFill content_size suffix
-IsMadeFor content_size suffix Ignore = ⊥
-IsMadeFor content_size suffix (Replace c) = Unit {0}
+abbrev pub NeedsNewSuffixFor : ℕ → List ℕ → SuffixLimit → Type 0
+NeedsNewSuffixFor content_size suffix Cut = NeedsFill content_size suffix
+NeedsNewSuffixFor content_size suffix Ignore = ⊥
+NeedsNewSuffixFor content_size suffix (Replace c) = Unit {0}
 
 -- whether a suffix has to be allocated: not if the content size is 0, as then it is left out, and
 -- not if it leaves the text a column
-abbrev pub IsMade : ℕ → List ℕ → SuffixLimit → Type 0
-IsMade content_size suffix limit = MatchBool (content_size == 0) ⊥ (MatchBool (nat_lt (suffix_columns suffix) content_size) ⊥ (IsMadeFor content_size suffix limit))
+abbrev pub NeedsNewSuffix : ℕ → List ℕ → SuffixLimit → Type 0
+NeedsNewSuffix content_size suffix limit = MatchBool (content_size == 0) ⊥ (MatchBool (nat_lt (suffix_columns suffix) content_size) ⊥ (NeedsNewSuffixFor content_size suffix limit))
 
 -- ---- the text
 
@@ -106,7 +106,7 @@ pub record IsTruncatedInPlace (content_size : ℕ) (suffix : List ℕ) (limit : 
   pub used : List ℕ
   pub left : ℕ
   pub suffix_used : IsUsed content_size suffix limit used left
-  pub lent : IsMade content_size suffix limit → ⊥
+  pub lent : NeedsNewSuffix content_size suffix limit → ⊥
   pub bytes : ℕ
   pub kept : IsCutAt left text bytes
   pub fits : FitsBehind bytes used

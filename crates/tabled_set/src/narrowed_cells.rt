@@ -5,7 +5,7 @@ ghost use Rattle.std.specs.Prelude.{unwrap_or};
 ghost use Rattle.tabled_entity.specs.Changes.{shared};
 ghost use Rattle.tabled_set.specs.CellChanges.{if_taken, if_wider, truncating, wrapping};
 ghost use Rattle.tabled_set.specs.Common.{IsRectangular, Memory, Range};
-ghost use Rattle.tabled_set.specs.Narrowed.{MustNarrow, NarrowingOutOfRange, Narrows, StopsEarly};
+ghost use Rattle.tabled_set.specs.Narrowed.{MustNarrow, NarrowingOutOfRange, Narrows, StopsBeforeNarrowing};
 ghost use Rattle.tabled_set.specs.NarrowedCells.{cells_of_or};
 
 use crate::measurement::{Measurement, Width};
@@ -60,7 +60,7 @@ pub(crate) fn narrowed_records<
     ensures wider { IfOk result (λ changed. OnSome changed (MustNarrow
         (W.measures option.size (R.cells records.now) config.now)
         (R.cells records.now) config.now sizes.old)) }
-    ensures err { IfErr result (λ e. StopsEarly
+    ensures err { IfErr result (λ e. StopsBeforeNarrowing
         (W.measures option.size (R.cells records.now) config.now) e
         (R.cells records.now) config.now sizes.old sizes.new) }
     ensures only { IfErr result (λ e. (e ≡ Memory) ⊎ ((e ≡ Range)
@@ -99,7 +99,7 @@ pub(crate) fn wrapped_rows<'r, 't, W: Measurement<Width> + Drop, P: Peaker + Dro
         config.now sizes.old (cells_of_or changed rows.now) sizes.new) }
     ensures wider { IfOk result (λ changed. OnSome changed (MustNarrow
         (W.measures option.size rows.now config.now) rows.now config.now sizes.old)) }
-    ensures err { IfErr result (λ e. StopsEarly (W.measures option.size rows.now config.now) e
+    ensures err { IfErr result (λ e. StopsBeforeNarrowing (W.measures option.size rows.now config.now) e
         rows.now config.now sizes.old sizes.new) }
     ensures only { IfErr result (λ e. (e ≡ Memory) ⊎ ((e ≡ Range)
         × NarrowingOutOfRange (W.out_of_range option.size rows.now config.now)
@@ -133,7 +133,7 @@ pub(crate) fn cut_rows<'r, 't, W: Measurement<Width> + Drop, P: Peaker + Drop>(
         config.now sizes.old (cells_of_or changed rows.now) sizes.new) }
     ensures wider { IfOk result (λ changed. OnSome changed (MustNarrow
         (W.measures option.entry.size rows.now config.now) rows.now config.now sizes.old)) }
-    ensures err { IfErr result (λ e. StopsEarly
+    ensures err { IfErr result (λ e. StopsBeforeNarrowing
         (W.measures option.entry.size rows.now config.now) e
         rows.now config.now sizes.old sizes.new) }
     ensures only { IfErr result (λ e. (e ≡ Memory) ⊎ ((e ≡ Range)

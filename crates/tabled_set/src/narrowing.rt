@@ -7,7 +7,7 @@ ghost use Rattle.tabled_set.specs.Common.{total_width, widths_of};
 ghost use Rattle.tabled_set.specs.CellChanges.{if_taken};
 ghost use Rattle.tabled_set.specs.Narrowed.{content_of, permitted_width, WiderOutOfRange};
 ghost use Rattle.tabled_set.specs.Narrowed.{NarrowingOutOfRange, Narrows, StopsNarrowing, IsFound};
-ghost use Rattle.tabled_set.specs.Narrowed.{FitsAlready, HasWidths, StopsEarly};
+ghost use Rattle.tabled_set.specs.Narrowed.{FitsAlready, HasWidths, StopsBeforeNarrowing};
 ghost use Rattle.tabled_set.specs.Minimums.{emptied, side_columns};
 
 use crate::measurement::{Measurement, Width};
@@ -132,7 +132,7 @@ pub(crate) fn wanted_widths<'a, W: Measurement<Width>, P: Peaker + Drop, R: Peek
         (R.cells records.now) config.now sizes.old sizes.new)) }
     ensures settings { IfOk result (λ answer.
         IfSome answer (λ found. found.config.now ≡ config.now)) }
-    ensures err { IfErr result (λ e. StopsEarly
+    ensures err { IfErr result (λ e. StopsBeforeNarrowing
         (W.measures size.now (R.cells records.now) config.now) e
         (R.cells records.now) config.now sizes.old sizes.new) }
     ensures only { IfErr result (λ e. (e ≡ Memory) ⊎ ((e ≡ Range)

@@ -5,9 +5,9 @@ ghost use Rattle.std.specs.Prelude.{◌≡◌, ◌-◌, [], IfErr, IfNone, IfOk,
 ghost use Rattle.std.specs.Prelude.{OnSome, Some, false, if◌then◌else◌, nat_lt, string_bytes, ◌⊎◌};
 ghost use Rattle.tabled_set.specs.Common.{effective, is_empty, IsCut, Memory, NeedsFill, Range};
 ghost use Rattle.tabled_set.specs.CellChanges.{truncating, if_wider, Wider};
-ghost use Rattle.tabled_set.specs.Narrowed.{MustNarrow, Narrows, NarrowingOutOfRange, StopsEarly};
+ghost use Rattle.tabled_set.specs.Narrowed.{MustNarrow, Narrows, NarrowingOutOfRange, StopsBeforeNarrowing};
 ghost use Rattle.tabled_set.specs.Narrowed.{StopsNarrowing};
-ghost use Rattle.tabled_set.specs.Truncated.{AddsEnded, Cut, HasEndedLines, IsMade, IsTruncated};
+ghost use Rattle.tabled_set.specs.Truncated.{AddsEnded, Cut, HasEndedLines, NeedsNewSuffix, IsTruncated};
 ghost use Rattle.tabled_set.specs.Truncated.{IsUsed, suffix_columns, truncating_in_place};
 ghost use Rattle.tabled_set.specs.NarrowedCells.{cells_of_or};
 ghost use Rattle.tabled_set.specs.Promised.{AfterClearing, TruncatesAsPromised};
@@ -129,8 +129,8 @@ fn borrowed_suffix(
 ) -> Option<UsedSuffix<&str>>
     ensures used { IfSome result (λ lent.
         IsUsed content_size suffix.now limit lent.text.now lent.left) }
-    ensures some { IfSome result (λ _. IsMade content_size suffix.now limit → ⊥) }
-    ensures none { IfNone result (IsMade content_size suffix.now limit) }
+    ensures some { IfSome result (λ _. NeedsNewSuffix content_size suffix.now limit → ⊥) }
+    ensures none { IfNone result (NeedsNewSuffix content_size suffix.now limit) }
 {
     let none = UsedSuffix {
         text: "",
@@ -294,7 +294,7 @@ impl<'a, W: Measurement<Width> + Drop, P: Peaker + Drop> Truncate<'a, W, P> {
             TruncatesAsPromised P.shrinks self.entry.priority by.suffix.now by.limit by.multiline
             (W.measures self.entry.size rows.now cfg.now) (effective rows.now cfg.now dims.old)
             (effective (cells_of_or changed rows.now) cfg.now left))) }
-        ensures err { IfErr result (λ e. StopsEarly (W.measures self.entry.size rows.now cfg.now) e
+        ensures err { IfErr result (λ e. StopsBeforeNarrowing (W.measures self.entry.size rows.now cfg.now) e
             rows.now cfg.now dims.old dims.new) }
         ensures only { IfErr result (λ e. (e ≡ Memory) ⊎ ((e ≡ Range)
             × NarrowingOutOfRange (W.out_of_range self.entry.size rows.now cfg.now)

@@ -2,7 +2,7 @@
 ghost use Rattle.std.specs.Prelude.{◌≡◌, IfErr, IfOk, OnSome, Some, false, unwrap_or, ◌⊎◌};
 ghost use Rattle.tabled_set.specs.Common.{effective, is_empty, Memory, Range, Row};
 ghost use Rattle.tabled_set.specs.CellChanges.{never_in_place, word_wrapping, Every, Wider};
-ghost use Rattle.tabled_set.specs.Narrowed.{MustNarrow, Narrows, NarrowingOutOfRange, StopsEarly};
+ghost use Rattle.tabled_set.specs.Narrowed.{MustNarrow, Narrows, NarrowingOutOfRange, StopsBeforeNarrowing};
 ghost use Rattle.tabled_set.specs.Narrowed.{StopsNarrowing};
 ghost use Rattle.tabled_set.specs.Promised.{AfterClearing, WordWrapsAsPromised};
 
@@ -106,7 +106,7 @@ impl<W: Measurement<Width> + Drop, P: Peaker + Drop> WordWrap<W, P> {
             WordWrapsAsPromised P.shrinks self.priority
             (W.measures self.size (R.cells records.now) cfg.now) t
             (effective (unwrap_or changed (R.cells records.now)) cfg.now left))) }
-        ensures err { IfErr result (λ e. StopsEarly
+        ensures err { IfErr result (λ e. StopsBeforeNarrowing
             (W.measures self.size (R.cells records.now) cfg.now) e
             (R.cells records.now) cfg.now dims.old dims.new) }
         ensures only { IfErr result (λ e. (e ≡ Memory) ⊎ ((e ≡ Range)

@@ -3,7 +3,7 @@ ghost use Rattle.std.specs.Prelude.{◌≡◌, ◌<◌, IfErr, IfOk, OnErr, OnSo
 ghost use Rattle.std.specs.Prelude.{string_bytes, unwrap_or, ◌⊎◌};
 ghost use Rattle.tabled_set.specs.Common.{effective, is_empty, Memory, Range, Row};
 ghost use Rattle.tabled_set.specs.CellChanges.{never_in_place, wrapping, Every, Wider};
-ghost use Rattle.tabled_set.specs.Narrowed.{MustNarrow, Narrows, NarrowingOutOfRange, StopsEarly};
+ghost use Rattle.tabled_set.specs.Narrowed.{MustNarrow, Narrows, NarrowingOutOfRange, StopsBeforeNarrowing};
 ghost use Rattle.tabled_set.specs.Narrowed.{StopsNarrowing};
 ghost use Rattle.tabled_set.specs.NarrowedCells.{cells_of_or};
 ghost use Rattle.tabled_set.specs.Promised.{AfterClearing, WrapsAsPromised};
@@ -104,7 +104,7 @@ impl<W: Measurement<Width> + Drop, P: Peaker + Drop> Wrap<W, P> {
             WrapsAsPromised P.shrinks self.priority self.transform.keep_words
             (W.measures self.size (R.cells records.now) cfg.now) t
             (effective (unwrap_or changed (R.cells records.now)) cfg.now left))) }
-        ensures err { IfErr result (λ e. StopsEarly
+        ensures err { IfErr result (λ e. StopsBeforeNarrowing
             (W.measures self.size (R.cells records.now) cfg.now) e
             (R.cells records.now) cfg.now dims.old dims.new) }
         ensures only { IfErr result (λ e. (e ≡ Memory) ⊎ ((e ≡ Range)
@@ -135,7 +135,7 @@ impl<W: Measurement<Width> + Drop, P: Peaker + Drop> Wrap<W, P> {
             WrapsAsPromised P.shrinks self.priority self.transform.keep_words
             (W.measures self.size rows.now cfg.now) t
             (effective (cells_of_or changed rows.now) cfg.now left))) }
-        ensures err { IfErr result (λ e. StopsEarly (W.measures self.size rows.now cfg.now) e
+        ensures err { IfErr result (λ e. StopsBeforeNarrowing (W.measures self.size rows.now cfg.now) e
             rows.now cfg.now dims.old dims.new) }
         ensures only { IfErr result (λ e. (e ≡ Memory) ⊎ ((e ≡ Range)
             × NarrowingOutOfRange (W.out_of_range self.size rows.now cfg.now)

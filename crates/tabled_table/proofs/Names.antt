@@ -27,16 +27,16 @@ pub use Rattle.tabled_config.specs.declared.borders.Frame.{Frame}
 pub use Rattle.tabled_config.specs.declared.spanned.CellStyle.{CellStyle}
 pub use Rattle.tabled_config.specs.declared.spanned.SpannedConfig.{SpannedConfig}
 pub use Rattle.tabled_grid.specs.ApartSheet.{IsApartConfig}
-pub use Rattle.tabled_grid.specs.Picture.{columns_of, table_text}
+pub use Rattle.tabled_grid.specs.Picture.{sheet_columns, table_text}
 unfoldable pub use Rattle.tabled_grid.specs.Picture.{filled_picture, picture, row_part, rule}
-pub use Rattle.tabled_grid.specs.PlainSheet.{IsPlainConfig}
+pub use Rattle.tabled_grid.specs.AdditiveSheet.{IsAdditiveConfig}
 pub use Rattle.tabled_line.proofs.Each.{each-more}
 pub use Rattle.tabled_line.proofs.Leading.{lines-finished, lines-stopped-first, lines_after-append, lines_after-joined}
 pub use Rattle.tabled_line.proofs.Sending.{sends-along}
 pub use Rattle.tabled_line.specs.Apart.{IsApartStyle}
 pub use Rattle.tabled_line.specs.Fill.{fill}
 pub use Rattle.tabled_line.specs.Leading.{LineSends, LineStops, WritesLines, lines_after}
-pub use Rattle.tabled_line.specs.Plain.{EachLineTakes, IsPlainStyle}
+pub use Rattle.tabled_line.specs.Additive.{EachLineTakes, IsAdditiveStyle}
 pub use Rattle.tabled_line.specs.Row.{ColumnSheet, row_lines, rule_if}
 pub use Rattle.tabled_line.specs.Sent.{Sends, Sent, Stops}
 pub use Rattle.tabled_priority.proofs.Sums.{sum_step}
@@ -54,7 +54,7 @@ pub use Rattle.tabled_size.specs.Totals.{total_height, total_width}
 unfoldable pub use Rattle.tabled_size.specs.Totals.{filled_width}
 pub use Rattle.tabled_table.specs.Applied.{ChangesEach}
 pub use Rattle.tabled_table.specs.Batches.{batches_left}
-pub use Rattle.tabled_table.specs.PrintedWith.{shown, shown_config}
+pub use Rattle.tabled_table.specs.PrintedWith.{overridden_sheet, shown_config}
 pub use Rattle.tabled_table.specs.Stream.Marked.{IsCutCell}
 pub use Rattle.tabled_table.specs.Stream.Printed.{StopsBelow, WritesBelow, lines_before}
 unfoldable pub use Rattle.tabled_table.specs.Stream.Printed.{lines_above}

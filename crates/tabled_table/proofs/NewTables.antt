@@ -1,13 +1,13 @@
 -- The settings of a new table are plain characters of one column, so its lines are straight.
-use Rattle.tabled_table.proofs.Names.{Bool, Holds, HorizontalLine, IsAdditiveColumn, IsApartConfig, IsApartStyle, IsPlainConfig}
-use Rattle.tabled_table.proofs.Names.{IsPlainStyle, IsSeparatorColumn, List, None, Option, Sheet, Some, SpannedConfig, Table, ap, arith}
+use Rattle.tabled_table.proofs.Names.{Bool, Holds, HorizontalLine, IsAdditiveColumn, IsApartConfig, IsApartStyle, IsAdditiveConfig}
+use Rattle.tabled_table.proofs.Names.{IsAdditiveStyle, IsSeparatorColumn, List, None, Option, Sheet, Some, SpannedConfig, Table, ap, arith}
 use Rattle.tabled_table.proofs.Names.{columns, cond, estimated_heights, estimated_widths, false, heights_of, inl, is_empty, length, refl}
 use Rattle.tabled_table.proofs.Names.{rule_at, sheet, style_at, subst, sum_below, sum_step, sym, total_height, true, widths_of, ℕ, ◌+◌, ◌<◌}
 use Rattle.tabled_table.proofs.Names.{◌==◌, ◌∙◌, ◌≡◌, ◌≤◌}
 use Rattle.tabled_text.proofs.PlainLines.{plain_column-printable, plain_column-space}
 use Rattle.tabled_size.specs.Effective.{effective_sizes}
 use Rattle.tabled_size.specs.Totals.{filled_height, part_height}
-use Rattle.tabled_line.specs.Plain.{IsPlainRule}
+use Rattle.tabled_line.specs.Additive.{IsAdditiveRule}
 use Rattle.tabled_grid.proofs.EstimatedSizes.{holds_estimated}
 use Rattle.tabled_table.specs.NewConfig.{new_config}
 use Rattle.tabled_table.specs.NewTable.{IsNew}
@@ -35,21 +35,21 @@ rule_new rows i = by_cases (i == 0) (i == rows)
     by_cases false true = refl
     by_cases false false = refl
 
-plain_ruled : IsPlainRule ruled
+plain_ruled : IsAdditiveRule ruled
 unfolding ruled
 plain_ruled = record { main = dash; left = plus; intersection = plus; right = plus }
 
-rule_plain : (rows i : ℕ) (line : HorizontalLine) → rule_at new_config rows i ≡ Some line → IsPlainRule line
+rule_plain : (rows i : ℕ) (line : HorizontalLine) → rule_at new_config rows i ≡ Some line → IsAdditiveRule line
 rule_plain rows i line h =
     let e : Some ruled ≡ Some line = sym (rule_new rows i) ∙ h in
     let same : ruled ≡ line = cc in
-    subst IsPlainRule same plain_ruled
+    subst IsAdditiveRule same plain_ruled
 
-style_plain : (row column : ℕ) → IsPlainStyle (style_at new_config row column)
+style_plain : (row column : ℕ) → IsAdditiveStyle (style_at new_config row column)
 unfolding style_at new_config
 style_plain row column = record { left = plain_column-space; right = plain_column-space; top = plain_column-space; bottom = plain_column-space }
 
-pub new_plain : (rows count : ℕ) → IsPlainConfig new_config rows count
+pub new_plain : (rows count : ℕ) → IsAdditiveConfig new_config rows count
 unfolding new_config
 new_plain rows count = record {
   frame = record {
@@ -128,8 +128,8 @@ new_stands cells table new =
     ∙ ap (λ o. built cells new_config None o) new.heights
 
 pub new_is_plain : (cells : List (List (List ℕ))) (table : Table) → IsNew cells table
-    → IsPlainConfig (sheet table).config (length cells) (columns cells)
-new_is_plain cells table new = subst (λ c. IsPlainConfig c (length cells) (columns cells)) (sym new.config) (new_plain (length cells) (columns cells))
+    → IsAdditiveConfig (sheet table).config (length cells) (columns cells)
+new_is_plain cells table new = subst (λ c. IsAdditiveConfig c (length cells) (columns cells)) (sym new.config) (new_plain (length cells) (columns cells))
 
 pub new_is_apart : (cells : List (List (List ℕ))) (table : Table) → IsNew cells table
     → IsApartConfig (sheet table).config (length cells) (columns cells)

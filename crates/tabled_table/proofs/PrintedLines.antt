@@ -24,7 +24,7 @@ use Rattle.tabled_grid.proofs.Whole.{picture_columns, picture_lines}
 use Rattle.tabled_line.specs.Sent.{Sent}
 use Rattle.tabled_table.specs.NewTable.{IsNew}
 use Rattle.tabled_table.specs.PrintedLines.{HasTableLines, IsStraight, ShowsCells}
-use Rattle.tabled_table.specs.TableSheet.{HasText, IsPlain}
+use Rattle.tabled_table.specs.TableSheet.{HasText, IsAdditiveTable}
 
 -- ---- how wide the lines are, and how many
 
@@ -41,7 +41,7 @@ pub table_lines : (table : Table) → IsRectangular (cells_of table) → HasText
 table_lines table r text straight some =
     let t = sheet table in
     let holds = holds-text table text some in
-    let plain : IsPlain table = ⊎_elim (λ a. plain_apart t.config (length t.cells) (columns t.cells) a.0) (λ p. p.0) straight in
+    let plain : IsAdditiveTable table = ⊎_elim (λ a. plain_apart t.config (length t.cells) (columns t.cells) a.0) (λ p. p.0) straight in
     let takes : EachLineTakes (total_width t) (picture t) =
     ⊎_elim (λ a. apart_columns t a.0 a.1 r holds) (λ p. picture_columns t p.0 p.1 r holds) straight in
     let same = printed_lines t plain some in
@@ -85,13 +85,13 @@ cell-some table row column none inside =
     let within = shown.inside in
     omega (arith, within, some_line (cell_at (cells_of table) row column), picture_lines (sheet table))
 
-pub cells_shown : (table : Table) → IsPlain table → heights_of table.dimension ≡ None → ShowsCells (cells_of table) (table_text (sheet table))
+pub cells_shown : (table : Table) → IsAdditiveTable table → heights_of table.dimension ≡ None → ShowsCells (cells_of table) (table_text (sheet table))
 cells_shown table plain none = λ row column inside.
     let t = sheet table in
     subst (λ ls. AreShownIn (lines_of (cell_at t.cells row column)) ls) (sym (printed_lines t plain (cell-some table row column none inside)))
     (cell-shown table row column none inside)
 
-pub text_shows : (table : Table) (text : List ℕ) → text ≡ table_text (sheet table) → IsPlain table → heights_of table.dimension ≡ None
+pub text_shows : (table : Table) (text : List ℕ) → text ≡ table_text (sheet table) → IsAdditiveTable table → heights_of table.dimension ≡ None
     → ShowsCells (cells_of table) text
 text_shows table text e plain none = subst (λ bs. ShowsCells (cells_of table) bs) (sym e) (cells_shown table plain none)
 
@@ -99,7 +99,7 @@ text_shows table text e plain none = subst (λ bs. ShowsCells (cells_of table) b
 pub has_lines : (table : Table) → is_empty (cells_of table) ≡ false → heights_of table.dimension ≡ None → 0 < total_height (sheet table)
 has_lines table filled none = some_line_shown (sheet table) filled (estimates table none)
 
-pub apart_is_plain : (table : Table) → IsApartConfig (sheet table).config (length (cells_of table)) (columns (cells_of table)) → IsPlain table
+pub apart_is_plain : (table : Table) → IsApartConfig (sheet table).config (length (cells_of table)) (columns (cells_of table)) → IsAdditiveTable table
 apart_is_plain table p = plain_apart (sheet table).config (length (cells_of table)) (columns (cells_of table)) p
 
 -- ---- tables made of strings

@@ -10,7 +10,7 @@ use Rattle.std.specs.Prelude.{MatchBool, nat_lt}
 use Rattle.tabled_config.specs.declared.alignment.AlignmentHorizontal.TheVariants as horizontal
 use Rattle.tabled_config.specs.declared.sides.Indent.{Indent}
 use Rattle.tabled_config.specs.declared.sides.Sides.{Sides}
-use Rattle.tabled_grid.specs.Printed.{IsPrintable}
+use Rattle.tabled_grid.specs.Printed.{IsPrintableSheet}
 use Rattle.tabled_line.proofs.Sending.{sends-then, stopped, stops-more, stops-then}
 use Rattle.tabled_line.specs.Block.{before_text}
 use Rattle.tabled_line.specs.Fill.{padded_text}
@@ -118,13 +118,13 @@ lines-written f {a} {b} {whole} {lines} none took =
 
 -- of an empty table nothing is printed
 pub nothing-titled : (title : Title) (t : Sheet) (a : Sent) → is_empty t.cells ≡ true
-    → MatchBool (is_empty t.cells) (a ≡ a) (IsPrintable t × SendsTitled title t a a)
+    → MatchBool (is_empty t.cells) (a ≡ a) (IsPrintableSheet t × SendsTitled title t a a)
 nothing-titled title t a e = rw e refl
 
 -- a table with rows and columns that can be printed, and its title, fitted to n columns
 pub record CanBeTitled (title : Title) (t : Sheet) (fitted : List ℕ) (n : ℕ) : Type 0 where
   pub filled : is_empty t.cells ≡ false
-  pub printable : IsPrintable t
+  pub printable : IsPrintableSheet t
   pub width : n ≡ total_width t
   pub is_fitted : IsFitted title.fit n title.text.now fitted
 
@@ -160,7 +160,7 @@ module _ (title : Title) (t : Sheet) (fitted : List ℕ) (n : ℕ) (can : CanBeT
 
 -- what a string holds behind both
 pub titled-text : (title : Title) (t : Sheet) (old new : List ℕ) → old ≡ []
-    → MatchBool (is_empty t.cells) (memory_sent new ≡ memory_sent old) (IsPrintable t × SendsTitled title t (memory_sent old) (memory_sent new))
+    → MatchBool (is_empty t.cells) (memory_sent new ≡ memory_sent old) (IsPrintableSheet t × SendsTitled title t (memory_sent old) (memory_sent new))
     → IsTitledText title t new
 titled-text title t old new none h = ⊎_elim empty filled (cases_Bool (is_empty t.cells))
   where
@@ -178,6 +178,6 @@ titled-text title t old new none h = ⊎_elim empty filled (cases_Bool (is_empty
         rw e (subst (IsTitled title t) (sym all) sent.is_titled)
 
 pub titled-printable : (title : Title) (t : Sheet) (old new : Sent)
-    → MatchBool (is_empty t.cells) (new ≡ old) (IsPrintable t × SendsTitled title t old new)
-    → (is_empty t.cells ≡ true) ⊎ IsPrintable t
+    → MatchBool (is_empty t.cells) (new ≡ old) (IsPrintableSheet t × SendsTitled title t old new)
+    → (is_empty t.cells ≡ true) ⊎ IsPrintableSheet t
 titled-printable title t old new h = ⊎_elim (λ e. inl e) (λ e. let given = rw e at h in inr given.0) (cases_Bool (is_empty t.cells))

@@ -69,7 +69,7 @@ FailsAt true fails error cells config entity cells' config' =
 
 -- the option changes the first entities and fails at the next one; `Range` comes only if a sum or
 -- product exceeds the greatest `usize` there
-pub record IsStopped (is_undone : Bool) (changes : CellChange) (fails : TableError → CellChange)
+pub record StopsAtPart (is_undone : Bool) (changes : CellChange) (fails : TableError → CellChange)
     (out_of_range : Cells → ColoredConfig → Entity → Type 0) (entities : List Entity) (error : TableError)
     (cells : Cells) (config : ColoredConfig) (cells' : Cells) (config' : ColoredConfig) : Type 0 where
   pub count : ℕ
@@ -94,7 +94,7 @@ pub record StopsModifying (is_undone : Bool) (changes : CellChange) (fails : Tab
     (out_of_range : Cells → ColoredConfig → Entity → Type 0) (entities : List Entity) (error : TableError)
     (cells : Cells) (config : ColoredConfig) (cells' : Cells) (config' : ColoredConfig) : Type 0 where
   pub stopped : ((last : ColoredConfig)
-      × IsStopped is_undone changes fails out_of_range entities error cells config cells' last)
+      × StopsAtPart is_undone changes fails out_of_range entities error cells config cells' last)
       ⊎ ((error ≡ Memory) × ((0 < length entities) × (cells' ≡ cells)))
   pub kept : config' ≡ config
 

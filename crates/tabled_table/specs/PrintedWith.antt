@@ -62,8 +62,8 @@ abbrev pub missing_columns : Table → Option ℕ → ℕ
 missing_columns table width = missing_to width (total_width (sheet table))
 
 -- the sheet that is printed: the cells and effective sizes of a table, with these settings
-abbrev pub shown : Table → Option ℕ → Option AlignmentHorizontal → ℕ → Sheet
-shown table width align fill =
+abbrev pub overridden_sheet : Table → Option ℕ → Option AlignmentHorizontal → ℕ → Sheet
+overridden_sheet table width align fill =
     effective (cells_of table) (shown_config table.config.config align fill (missing_columns table width)) table.dimension
 
 -- the width that is asked for; 0 if none is

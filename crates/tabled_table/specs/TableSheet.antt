@@ -4,8 +4,8 @@ use Rattle.tabled_base.specs.Cells.{columns}
 use Rattle.tabled_base.specs.declared.error.TableError.{TableError}
 use Rattle.tabled_base.specs.declared.error.TableError.TheVariants.{Memory}
 use Rattle.tabled_grid.specs.ApartSheet.{IsApartConfig}
-use Rattle.tabled_grid.specs.PlainSheet.{IsPlainConfig}
-use Rattle.tabled_grid.specs.Printed.{IsPrintable, IsFailure}
+use Rattle.tabled_grid.specs.AdditiveSheet.{IsAdditiveConfig}
+use Rattle.tabled_grid.specs.Printed.{IsPrintableSheet, FailsToPrint}
 use Rattle.tabled_size.specs.Sheet.{Sheet, estimated, is_empty}
 use Rattle.tabled_size.specs.Effective.{effective}
 use Rattle.tabled_table.specs.NewConfig.{new_config}
@@ -28,13 +28,13 @@ abbrev pub IsApart : Table → Type 0
 IsApart table = IsApartConfig (sheet table).config (length (cells_of table)) (columns (cells_of table))
 
 -- borders, fills and margins are plain characters or separators of one column
-abbrev pub IsPlain : Table → Type 0
-IsPlain table = IsPlainConfig (sheet table).config (length (cells_of table)) (columns (cells_of table))
+abbrev pub IsAdditiveTable : Table → Type 0
+IsAdditiveTable table = IsAdditiveConfig (sheet table).config (length (cells_of table)) (columns (cells_of table))
 
 -- the table is empty, or it can be printed
 abbrev pub HasText : Table → Type 0
-HasText table = (is_empty (cells_of table) ≡ true) ⊎ IsPrintable (sheet table)
+HasText table = (is_empty (cells_of table) ≡ true) ⊎ IsPrintableSheet (sheet table)
 
 -- the table has a row and a column, and an allocation failed, or it can't be printed
 abbrev pub HasNoText : Table → TableError → Type 0
-HasNoText table error = (is_empty (cells_of table) ≡ false) × ((error ≡ Memory) ⊎ IsFailure (sheet table) error)
+HasNoText table error = (is_empty (cells_of table) ≡ false) × ((error ≡ Memory) ⊎ FailsToPrint (sheet table) error)

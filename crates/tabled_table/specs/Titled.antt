@@ -5,7 +5,7 @@ use Rattle.tabled_base.specs.declared.error.TableError.{TableError}
 use Rattle.tabled_base.specs.declared.error.TableError.TheVariants.{Memory}
 use Rattle.tabled_config.specs.declared.alignment.AlignmentHorizontal.{AlignmentHorizontal}
 use Rattle.tabled_grid.specs.Picture.{table_text}
-use Rattle.tabled_grid.specs.Printed.{IsFailure, IsPrintable}
+use Rattle.tabled_grid.specs.Printed.{FailsToPrint, IsPrintableSheet}
 use Rattle.tabled_line.specs.Block.{before_text}
 use Rattle.tabled_line.specs.Fill.{fill}
 use Rattle.tabled_line.specs.Sent.{Sent, Sends, Stops}
@@ -66,7 +66,7 @@ pub record StopsTitled (title : Title) (t : Sheet) (old : Sent) (error : TableEr
 -- the table can be printed; of an empty table nothing is. Before anything is written, the table
 -- fails as without a title, or an allocation does. Otherwise the sink failed after a beginning
 abbrev pub PrintsTitled : {T : Type 0} → Title → Sheet → Sent → Result T TableError → Sent → Type 0
-PrintsTitled title t old (Ok _) new = MatchBool (is_empty t.cells) (new ≡ old) (IsPrintable t × SendsTitled title t old new)
+PrintsTitled title t old (Ok _) new = MatchBool (is_empty t.cells) (new ≡ old) (IsPrintableSheet t × SendsTitled title t old new)
 PrintsTitled title t old (Err error) new =
     (is_empty t.cells ≡ false)
-    × ((((error ≡ Memory) ⊎ IsFailure t error) × (new ≡ old)) ⊎ (IsPrintable t × StopsTitled title t old error new))
+    × ((((error ≡ Memory) ⊎ FailsToPrint t error) × (new ≡ old)) ⊎ (IsPrintableSheet t × StopsTitled title t old error new))

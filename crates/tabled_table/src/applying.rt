@@ -4,7 +4,7 @@ ghost use Rattle.std.specs.Borrow.{RestsIfErr, sem};
 ghost use Rattle.tabled_base.specs.Cells.{columns};
 ghost use Rattle.tabled_base.specs.declared.error.TableError.TheVariants.{Memory, Range};
 ghost use Rattle.tabled_table.specs.Applied.{ChangesEach, FailsAt, FailsBy, IsApplied, IsModified};
-ghost use Rattle.tabled_table.specs.Applied.{IsStopped, ModifyingFails, StopsModifying, kept_config};
+ghost use Rattle.tabled_table.specs.Applied.{StopsAtPart, ModifyingFails, StopsModifying, kept_config};
 ghost use Rattle.tabled_table.specs.Applied.{named_in};
 ghost use Rattle.tabled_table.specs.declared.table.Table.{Table};
 
@@ -212,7 +212,7 @@ fn change_parts<O: CellOption<VecRecords<Text<String>>, ColoredConfig>>(
 ) -> Result<(), TableError>
     ensures ok { OnOk result (ChangesEach (O.changes option.now) entities.now
         records.old config.old records.new config.new) }
-    ensures err { IfErr result (λ e. IsStopped (O.is_undone option.now)
+    ensures err { IfErr result (λ e. StopsAtPart (O.is_undone option.now)
         (O.changes option.now) (O.fails option.now) (O.out_of_range option.now)
         entities.now e records.old config.old records.new config.new) }
     ensures kept { OnErr result (kept_config (O.is_undone option.now) entities.now config.old ≡ None

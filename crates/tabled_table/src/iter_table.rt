@@ -6,7 +6,7 @@ ghost use Rattle.tabled_base.specs.declared.error.TableError.TheVariants.{Memory
 ghost use Rattle.tabled_line.specs.NewConfig.{IsNewConfig};
 ghost use Rattle.tabled_line.specs.Sent.{Sent};
 ghost use Rattle.tabled_records.specs.Reading.{MayGive, ReadsTo};
-ghost use Rattle.tabled_table.specs.Stream.Applied.{IsApplied, WasOutOfRange};
+ghost use Rattle.tabled_table.specs.Stream.Applied.{IsAppliedToStream, WasOutOfRange};
 ghost use Rattle.tabled_table.specs.Stream.LikeTable.{PrintsLikeTable};
 ghost use Rattle.tabled_table.specs.Stream.NewTable.{new_settings, with_settings};
 ghost use Rattle.tabled_table.specs.Stream.Streams.{BuildsStream, Came, PrintsStream};
@@ -160,9 +160,9 @@ impl<I> IterTable<I> {
         &mut self,
         option: O,
     ) -> Result<(), TableError>
-        ensures ok { OnOk result (IsApplied (O.changes option) self.old self.new) }
-        ensures promised { OnOk result (IsApplied (O.promises option) self.old self.new) }
-        ensures err { IfErr result (λ e. IsApplied (O.fails option e) self.old self.new) }
+        ensures ok { OnOk result (IsAppliedToStream (O.changes option) self.old self.new) }
+        ensures promised { OnOk result (IsAppliedToStream (O.promises option) self.old self.new) }
+        ensures err { IfErr result (λ e. IsAppliedToStream (O.fails option e) self.old self.new) }
         ensures only { IfErr result (λ e. (e ≡ Memory) ⊎ (e ≡ Range)) }
         ensures range { IfErr result (λ e. e ≡ Range
             → WasOutOfRange (O.out_of_range option) self.old) }
@@ -182,10 +182,10 @@ impl<I> IterTable<I> {
     ) -> Result<&mut Self, TableError>
         ensures* rests { sem 𝓛 (RestsIfErr (the_row I.row) self.entry
             (λ table. table.ghost_name) result
-            (λ last. IfErr result (λ e. IsApplied (O.fails option e) self.old last))) }
+            (λ last. IfErr result (λ e. IsAppliedToStream (O.fails option e) self.old last))) }
         ensures same_reference { IfOk result (λ table. table.ghost_name ≡ self.entry.ghost_name) }
-        ensures ok { IfOk result (λ table. IsApplied (O.changes option) self.old table.now) }
-        ensures promised { IfOk result (λ table. IsApplied (O.promises option) self.old table.now) }
+        ensures ok { IfOk result (λ table. IsAppliedToStream (O.changes option) self.old table.now) }
+        ensures promised { IfOk result (λ table. IsAppliedToStream (O.promises option) self.old table.now) }
         ensures only { IfErr result (λ e. (e ≡ Memory) ⊎ (e ≡ Range)) }
         ensures range { IfErr result (λ e. e ≡ Range
             → WasOutOfRange (O.out_of_range option) self.old) }

@@ -7,10 +7,10 @@ ghost use Rattle.std.specs.declared.string.String.{String};
 ghost use Rattle.tabled_base.specs.Cells.{columns, IsRectangular, lengthened_rows};
 ghost use Rattle.tabled_size.specs.Holds.{Holds};
 ghost use Rattle.tabled_grid.specs.ApartSheet.{IsApartConfig};
-ghost use Rattle.tabled_grid.specs.PlainSheet.{IsPlainConfig};
+ghost use Rattle.tabled_grid.specs.AdditiveSheet.{IsAdditiveConfig};
 ghost use Rattle.tabled_table.specs.NewTable.{IsNew};
 ghost use Rattle.tabled_table.specs.PrintedLines.{ShowsCells};
-ghost use Rattle.tabled_table.specs.TableSheet.{IsApart, IsPlain, cells_of, new_sheet, sheet};
+ghost use Rattle.tabled_table.specs.TableSheet.{IsApart, IsAdditiveTable, cells_of, new_sheet, sheet};
 ghost use Rattle.tabled_table.specs.declared.table.Table.{Table};
 ghost use Rattle.tabled_text.specs.Cut.{IsCut};
 ghost use Rattle.tabled_text.specs.Fitting.{FitsIn};
@@ -42,7 +42,7 @@ pub fn new_tables()
     ensures apart { (cells : List (List (List ℕ))) (table : Table) → IsNew cells table
         → IsApartConfig (sheet table).config (length cells) (columns cells) }
     ensures plain { (cells : List (List (List ℕ))) (table : Table) → IsNew cells table
-        → IsPlainConfig (sheet table).config (length cells) (columns cells) }
+        → IsAdditiveConfig (sheet table).config (length cells) (columns cells) }
     ensures holds { (cells : List (List (List ℕ))) (table : Table) → IsNew cells table
         → Holds (sheet table) }
 {}
@@ -63,9 +63,9 @@ pub fn tables_of_strings()
 pub fn printed_tables()
     ensures some { (table : Table) → is_empty (cells_of table) ≡ false
         → heights_of table.dimension ≡ None → 0 < total_height (sheet table) }
-    ensures cells { (table : Table) → IsPlain table → heights_of table.dimension ≡ None
+    ensures cells { (table : Table) → IsAdditiveTable table → heights_of table.dimension ≡ None
         → ShowsCells (cells_of table) (table_text (sheet table)) }
-    ensures apart { (table : Table) → IsApart table → IsPlain table }
+    ensures apart { (table : Table) → IsApart table → IsAdditiveTable table }
 {}
 
 /// A stream prints the same bytes as a `Table` of the same cells if

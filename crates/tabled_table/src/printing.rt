@@ -12,12 +12,12 @@ ghost use Rattle.tabled_size.specs.Sheet.{is_empty};
 ghost use Rattle.tabled_size.specs.Stored.{widths_of};
 ghost use Rattle.tabled_size.specs.TextCells.{AreTexts};
 ghost use Rattle.tabled_size.specs.Totals.{total_width};
-ghost use Rattle.tabled_line.specs.Plain.{EachLineTakes};
+ghost use Rattle.tabled_line.specs.Additive.{EachLineTakes};
 ghost use Rattle.tabled_grid.specs.Picture.{picture};
 ghost use Rattle.tabled_grid.specs.Printed.{Prints};
-ghost use Rattle.tabled_table.specs.PrintedWith.{asked, missing_columns, shown};
+ghost use Rattle.tabled_table.specs.PrintedWith.{asked, missing_columns, overridden_sheet};
 ghost use Rattle.tabled_table.specs.PrintedWith.{shown_config, shown_fill, takes_memory, widened};
-ghost use Rattle.tabled_table.specs.TableSheet.{IsApart, IsPlain, cells_of, sheet};
+ghost use Rattle.tabled_table.specs.TableSheet.{IsApart, IsAdditiveTable, cells_of, sheet};
 
 use crate::table::Table;
 use std::fmt;
@@ -118,19 +118,19 @@ impl Table {
         fill: char,
     ) -> Result<(), TableError>
         ensures printed { Prints (takes_memory self.now width align)
-            (shown self.now width align fill)
+            (overridden_sheet self.now width align fill)
             (S.sent sink.old) result (S.sent sink.new) }
         ensures total { is_empty (cells_of self.now) ≡ false
-            → total_width (shown self.now width align fill)
+            → total_width (overridden_sheet self.now width align fill)
             ≡ max (asked width) (total_width (sheet self.now)) }
         ensures texts { IsApart self.now → AreTexts (cells_of self.now) → Holds (sheet self.now)
             → IsSeparatorColumn (shown_fill fill)
-            → EachLineTakes (total_width (shown self.now width align fill))
-            (picture (shown self.now width align fill)) }
-        ensures columns { IsPlain self.now → AreAdditive (cells_of self.now)
+            → EachLineTakes (total_width (overridden_sheet self.now width align fill))
+            (picture (overridden_sheet self.now width align fill)) }
+        ensures columns { IsAdditiveTable self.now → AreAdditive (cells_of self.now)
             → Holds (sheet self.now) → IsAdditiveColumn (shown_fill fill)
-            → EachLineTakes (total_width (shown self.now width align fill))
-            (picture (shown self.now width align fill)) }
+            → EachLineTakes (total_width (overridden_sheet self.now width align fill))
+            (picture (overridden_sheet self.now width align fill)) }
     {
         if is_empty(&self.records) {
             return Ok(());

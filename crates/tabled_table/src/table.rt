@@ -14,7 +14,7 @@ ghost use Rattle.tabled_size.specs.Holds.{Holds};
 ghost use Rattle.tabled_grid.specs.Picture.{picture, table_text};
 ghost use Rattle.tabled_size.specs.PlainCells.{AreAdditive, ArePlain};
 ghost use Rattle.tabled_size.specs.TextCells.{AreTexts};
-ghost use Rattle.tabled_line.specs.Plain.{EachLineTakes};
+ghost use Rattle.tabled_line.specs.Additive.{EachLineTakes};
 ghost use Rattle.tabled_grid.specs.Printed.{Prints};
 ghost use Rattle.tabled_table.specs.NewConfig.{new_config};
 ghost use Rattle.tabled_table.specs.Lending.{string_row};
@@ -23,7 +23,9 @@ use std::alloc::Global;
 use std::convert::AsStr;
 use tabled_base::{Builder, CellText, ExactRecords, TableError, Text, VecRecords};
 use tabled_config::{ColoredConfig, CompactConfig, Indent, Sides, SpannedConfig, Style};
-use tabled_grid::{TextSink, is_apart_config, is_plain_config, is_plain_records, print_standing};
+use tabled_grid::{
+    TextSink, is_additive_config, is_apart_config, is_plain_records, print_standing,
+};
 use tabled_size::{CompleteDimension, is_empty, total_height, total_width};
 
 /// A table: its cells, its settings, and the sizes that were stored. Sizes that aren't stored are
@@ -66,7 +68,7 @@ impl Table {
     ghost use Rattle.tabled_table.specs.Lending.{LendsConfig, LendsDimension};
     ghost use Rattle.tabled_table.specs.NewTable.{IsNew};
     ghost use Rattle.tabled_table.specs.PrintedLines.{HasTableLines, IsStraight, ShowsCells};
-    ghost use Rattle.tabled_table.specs.TableSheet.{HasNoText, HasText, IsApart, IsPlain, cells_of};
+    ghost use Rattle.tabled_table.specs.TableSheet.{HasNoText, HasText, IsApart, IsAdditiveTable, cells_of};
     ghost use Rattle.tabled_table.specs.TableSheet.{sheet};
 
     /// Returns a table of these records with the settings of a new one. Allocates nothing.
@@ -217,10 +219,10 @@ impl Table {
     /// separators of one column. Then each printed line is exactly `total_width` columns wide, even
     /// where cells touch, if the widths hold the cells, as estimated widths do.
     pub fn is_plain(&self) -> bool
-        ensures { IsTrue result ↔ (IsPlain self.now × ArePlain (cells_of self.now)) }
+        ensures { IsTrue result ↔ (IsAdditiveTable self.now × ArePlain (cells_of self.now)) }
     {
         let config = self.config.as_ref();
-        is_plain_config(config, self.count_rows(), self.count_columns())
+        is_additive_config(config, self.count_rows(), self.count_columns())
             && is_plain_records(&self.records)
     }
 
@@ -237,7 +239,7 @@ impl Table {
         ensures memory { IfErr result (λ e. e ≡ Memory → widths_of self.now.dimension ≡ None) }
         ensures texts { IsApart self.now → AreTexts (cells_of self.now) → Holds (sheet self.now)
             → EachLineTakes (total_width (sheet self.now)) (picture (sheet self.now)) }
-        ensures columns { IsPlain self.now → AreAdditive (cells_of self.now)
+        ensures columns { IsAdditiveTable self.now → AreAdditive (cells_of self.now)
             → Holds (sheet self.now)
             → EachLineTakes (total_width (sheet self.now)) (picture (sheet self.now)) }
     {
@@ -305,7 +307,7 @@ impl Table {
         ensures lines { IfOk result (λ text. IsStraight self.now
             → 0 < total_height (sheet self.now)
             → HasTableLines (sheet self.now) (string_bytes text)) }
-        ensures cells { IfOk result (λ text. IsPlain self.now → heights_of self.now.dimension ≡ None
+        ensures cells { IfOk result (λ text. IsAdditiveTable self.now → heights_of self.now.dimension ≡ None
             → ShowsCells (cells_of self.now) (string_bytes text)) }
         ensures printable { IfOk result (λ _. HasText self.now) }
         ensures err { IfErr result (λ e. HasNoText self.now e) }
@@ -321,7 +323,7 @@ impl Table {
         ensures lines { IfOk result (λ text. IsStraight self.now
             → 0 < total_height (sheet self.now)
             → HasTableLines (sheet self.now) (string_bytes text)) }
-        ensures cells { IfOk result (λ text. IsPlain self.now → heights_of self.now.dimension ≡ None
+        ensures cells { IfOk result (λ text. IsAdditiveTable self.now → heights_of self.now.dimension ≡ None
             → ShowsCells (cells_of self.now) (string_bytes text)) }
         ensures printable { IfOk result (λ _. HasText self.now) }
         ensures err { IfErr result (λ e. HasNoText self.now e) }

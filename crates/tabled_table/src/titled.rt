@@ -5,8 +5,8 @@ ghost use Rattle.std.specs.Prelude.{false, string_bytes};
 ghost use Rattle.tabled_base.specs.declared.error.TableError.TheVariants.{Memory};
 ghost use Rattle.tabled_config.specs.declared.alignment.AlignmentHorizontal.TheVariants as horizontal;
 ghost use Rattle.tabled_grid.specs.Picture.{table_text};
-ghost use Rattle.tabled_grid.specs.Printed.{IsFailure, IsPrintable};
-ghost use Rattle.tabled_line.specs.Plain.{EachLineTakes};
+ghost use Rattle.tabled_grid.specs.Printed.{FailsToPrint, IsPrintableSheet};
+ghost use Rattle.tabled_line.specs.Additive.{EachLineTakes};
 ghost use Rattle.tabled_line.specs.Sent.{Sent, Writes};
 ghost use Rattle.tabled_size.specs.Sheet.{is_empty};
 ghost use Rattle.tabled_size.specs.Totals.{total_width};
@@ -150,12 +150,12 @@ impl Table {
     /// Returns the text of the table and a title over its total width. Fails as `to_text` does.
     fn below_title<'t>(&self, title: &Title<'t>) -> Result<TitledTable<'t>, TableError>
         requires { is_empty (cells_of self.now) ≡ false }
-        ensures printable { OnOk result (IsPrintable (sheet self.now)) }
+        ensures printable { OnOk result (IsPrintableSheet (sheet self.now)) }
         ensures width { IfOk result (λ all. all.width ≡ total_width (sheet self.now)) }
         ensures title { IfOk result (λ all.
             IsFitted title.now.fit all.width title.now.text.now (cow_str_bytes all.title)) }
         ensures text { IfOk result (λ all. string_bytes all.text ≡ table_text (sheet self.now)) }
-        ensures err { IfErr result (λ e. (e ≡ Memory) ⊎ IsFailure (sheet self.now) e) }
+        ensures err { IfErr result (λ e. (e ≡ Memory) ⊎ FailsToPrint (sheet self.now) e) }
     {
         let text = self.to_text()?;
         let width = self.total_width()?;

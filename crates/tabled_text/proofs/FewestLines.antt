@@ -2,7 +2,7 @@
 use Rattle.tabled_text.proofs.Names.{All, All-head, All-tail, AllZip, AreFullest, Bool, HasFewestLines, IsBreaking, IsCut, IsFullest}
 use Rattle.tabled_text.proofs.Names.{IsFullestText, IsGrouping, IsUtf8, IsWrapped, List, TextUnit, [], ap, append-nil, append_assoc, arith}
 use Rattle.tabled_text.proofs.Names.{chars, cond, false, flat_map, inl, inr, is_no_feed, length, length-append, length-map, lines_of}
-use Rattle.tabled_text.proofs.Names.{list_all, missing_columns, nat_le, nat_tests, needed, not, onto_first, refl, replicate, shown, subst}
+use Rattle.tabled_text.proofs.Names.{list_all, missing_columns, nat_le, nat_tests, needed, not, onto_first, refl, replicate, unit_or_filler, subst}
 use Rattle.tabled_text.proofs.Names.{suc, sum_by, sum_by-append, sum_by-cons, sym, text_from, text_of_groups, text_of_lines, true, units}
 use Rattle.tabled_text.proofs.Names.{width_of, ℕ, ⊎_elim, ◌++◌, ◌+◌, ◌-◌, ◌<◌, ◌==◌, ◌∙◌, ◌∷◌, ◌≡◌, ◌≤◌, ◌⊎◌}
 use Rattle.tabled_text.proofs.Basics.{cond-cases, every, list_all-copies}
@@ -121,7 +121,7 @@ rows-line xs rest h = omega (arith, rows-append xs rest, ap length (lines_of-fee
 pub rows-break : (rest : List ℕ) → rows (10 ∷ rest) ≡ 1 + rows rest
 rows-break rest = let e : suc (rows rest) ≡ 1 + rows rest = omega arith in e
 
-pub shown-feedless : (n used : ℕ) (u : TextUnit) → Feedless u → list_all is_no_feed (shown n used u) ≡ true
+pub shown-feedless : (n used : ℕ) (u : TextUnit) → Feedless u → list_all is_no_feed (unit_or_filler n used u) ≡ true
 shown-feedless n used u h =
     cond-cases (λ (t : List ℕ). list_all is_no_feed t ≡ true) (nat_le u.width n) u.text (replicate (n - used) 0xFFFD) (λ _. h)
     (λ _. list_all-copies is_no_feed 0xFFFD (n - used) refl)
@@ -129,8 +129,8 @@ shown-feedless n used u h =
 rows-group : (n used : ℕ) (g : List TextUnit) (rest : List ℕ) → EachUnit Feedless g → rows (text_from n used g ++ rest) ≡ rows rest
 rows-group n used [] rest h = refl
 rows-group n used (u ∷ g) rest h =
-    ap rows (append_assoc (shown n used u) (text_from n (used + u.width) g) rest)
-    ∙ rows-line (shown n used u) (text_from n (used + u.width) g ++ rest) (shown-feedless n used u h.0)
+    ap rows (append_assoc (unit_or_filler n used u) (text_from n (used + u.width) g) rest)
+    ∙ rows-line (unit_or_filler n used u) (text_from n (used + u.width) g ++ rest) (shown-feedless n used u h.0)
     ∙ rows-group n (used + u.width) g rest h.1
 
 -- as many breaks as groups, but for the first

@@ -5,7 +5,7 @@ use Rattle.tabled_text.proofs.Names.{append_assoc, append_text, append_used, ari
 use Rattle.tabled_text.proofs.Names.{chars_from_encodes, columns_of, cond, encode_ascii, encode_utf8, encode_utf8_all, encodes-append}
 use Rattle.tabled_text.proofs.Names.{encodes-chars, eq-eqb, eqb-false, eqb-true, false, flat_map, inl, inr, le-leb, leb-false, leb-true}
 use Rattle.tabled_text.proofs.Names.{length, length-append, lines_of, lit<, lt-leb, map, nat_le, nat_tests, ne_eqb, needed, nil_from_length}
-use Rattle.tabled_text.proofs.Names.{pending, refl, replicate, shown, space, subst, sum_by-cons, sum_by_push, sym, text_from}
+use Rattle.tabled_text.proofs.Names.{pending, refl, replicate, unit_or_filler, space, subst, sum_by-cons, sum_by_push, sym, text_from}
 use Rattle.tabled_text.proofs.Names.{text_of_groups, text_of_lines, true, unit_of_char, units, units_of_word, units_of_words, used_after}
 use Rattle.tabled_text.proofs.Names.{width_of, words_of, ℕ, ⊎_elim, ◌++◌, ◌+◌, ◌-◌, ◌<◌, ◌==◌, ◌∙◌, ◌∷◌, ◌≡◌, ◌≤◌, ◌⊎◌}
 use Rattle.std.proofs.lemmas.List.{replicate_more}
@@ -47,12 +47,12 @@ Begins-groups n current (p ∷ pieces) =
 
 -- ---- its text
 text_from-push : (n used : ℕ) (g : List TextUnit) (p : TextUnit) → text_from n used (g ++ p ∷ [])
-    ≡ text_from n used g ++ shown n (used + width_of g) p
-text_from-push n used [] p = append-nil (shown n used p) ∙ ap (λ k. shown n k p) (let e : used ≡ used + 0 = omega arith in e)
+    ≡ text_from n used g ++ unit_or_filler n (used + width_of g) p
+text_from-push n used [] p = append-nil (unit_or_filler n used p) ∙ ap (λ k. unit_or_filler n k p) (let e : used ≡ used + 0 = omega arith in e)
 text_from-push n used (q ∷ g) p =
-    ap (λ l. shown n used q ++ l) (text_from-push n (used + q.width) g p) ∙ sym
-    (append_assoc (shown n used q) (text_from n (used + q.width) g) (shown n (used + q.width + width_of g) p))
-    ∙ ap (λ k. (shown n used q ++ text_from n (used + q.width) g) ++ shown n k p)
+    ap (λ l. unit_or_filler n used q ++ l) (text_from-push n (used + q.width) g p) ∙ sym
+    (append_assoc (unit_or_filler n used q) (text_from n (used + q.width) g) (unit_or_filler n (used + q.width + width_of g) p))
+    ∙ ap (λ k. (unit_or_filler n used q ++ text_from n (used + q.width) g) ++ unit_or_filler n k p)
     (let e : used + q.width + width_of g ≡ used + width_of (q ∷ g) = omega (arith, sum_by-cons (λ (r : TextUnit). r.width) q g) in e)
 
 join-cons : (n : ℕ) (g : List TextUnit) (groups : List (List TextUnit)) (current : List TextUnit)
@@ -60,13 +60,13 @@ join-cons : (n : ℕ) (g : List TextUnit) (groups : List (List TextUnit)) (curre
 join-cons n g groups current b = subst (λ G. text_of_groups n (g ∷ G) ≡ text_from n 0 g ++ (10 ∷ text_of_groups n G)) (sym b.is) refl
 
 pub append_text-fits : (n used : ℕ) (p : TextUnit) → nat_le (used + needed n p) n ≡ true
-    → (append_text n used p ≡ shown n used p) × (append_used n used p ≡ used + p.width)
-append_text-fits n used p h = (ap (λ b. cond b [] (10 ∷ []) ++ shown n (cond b used 0) p) h, ap (λ b. cond b used 0 + p.width) h)
+    → (append_text n used p ≡ unit_or_filler n used p) × (append_used n used p ≡ used + p.width)
+append_text-fits n used p h = (ap (λ b. cond b [] (10 ∷ []) ++ unit_or_filler n (cond b used 0) p) h, ap (λ b. cond b used 0 + p.width) h)
 
 pub append_text-breaks : (n used : ℕ) (p : TextUnit) → nat_le (used + needed n p) n ≡ false
-    → (append_text n used p ≡ 10 ∷ shown n 0 p) × (append_used n used p ≡ p.width)
+    → (append_text n used p ≡ 10 ∷ unit_or_filler n 0 p) × (append_used n used p ≡ p.width)
 append_text-breaks n used p h = (
-  ap (λ b. cond b [] (10 ∷ []) ++ shown n (cond b used 0) p) h,
+  ap (λ b. cond b [] (10 ∷ []) ++ unit_or_filler n (cond b used 0) p) h,
   ap
       (λ b. cond b used 0 + p.width) h ∙ (let e : 0 + p.width ≡ p.width = omega arith in e),
 )
@@ -83,8 +83,8 @@ text_of_groups-from n current (p ∷ pieces) =
     let put = append_text-fits n (width_of current) p yes in
     let e : 0 + width_of current ≡ width_of current = omega arith in
     text_of_groups-from n whole pieces
-    ∙ ap (λ l. l ++ append_all n (width_of whole) pieces) (text_from-push n 0 current p ∙ ap (λ k. text_from n 0 current ++ shown n k p) e)
-    ∙ append_assoc (text_from n 0 current) (shown n (width_of current) p) (append_all n (width_of whole) pieces)
+    ∙ ap (λ l. l ++ append_all n (width_of whole) pieces) (text_from-push n 0 current p ∙ ap (λ k. text_from n 0 current ++ unit_or_filler n k p) e)
+    ∙ append_assoc (text_from n 0 current) (unit_or_filler n (width_of current) p) (append_all n (width_of whole) pieces)
     ∙ ap (λ l. text_from n 0 current ++ l) (ap (λ l. l ++ append_all n (width_of whole) pieces) (sym put.0)
     ∙ ap (λ k. append_text n (width_of current) p ++ append_all n k pieces) (sum_by_push (λ (r : TextUnit). r.width) current p ∙ sym put.1)))
     (λ no.
@@ -93,7 +93,7 @@ text_of_groups-from n current (p ∷ pieces) =
     let e : width_of (p ∷ []) ≡ append_used n (width_of current) p = omega (arith, one, put.1) in
     join-cons n current next (p ∷ []) (Begins-groups n (p ∷ []) pieces)
     ∙ ap (λ l. text_from n 0 current ++ (10 ∷ l)) (text_of_groups-from n (p ∷ []) pieces
-    ∙ ap (λ l. l ++ append_all n (width_of (p ∷ [])) pieces) (append-nil (shown n 0 p)))
+    ∙ ap (λ l. l ++ append_all n (width_of (p ∷ [])) pieces) (append-nil (unit_or_filler n 0 p)))
     ∙ ap (λ l. text_from n 0 current ++ (l ++ append_all n (width_of (p ∷ [])) pieces)) (sym put.0)
     ∙ ap (λ k. text_from n 0 current ++ (append_text n (width_of current) p ++ append_all n k pieces)) e)
 
@@ -171,10 +171,10 @@ append_all-fits n used [] rest f = ap (λ k. append_all n k rest) (let e : used 
 append_all-fits n used (p ∷ g) rest f =
     let put = append_text-fits n used p (le-leb (used + needed n p) n f.0) in
     ap (λ l. l ++ append_all n (append_used n used p) (g ++ rest)) put.0
-    ∙ ap (λ k. shown n used p ++ append_all n k (g ++ rest)) put.1
-    ∙ ap (λ l. shown n used p ++ l) (append_all-fits n (used + p.width) g rest f.1)
-    ∙ sym (append_assoc (shown n used p) (text_from n (used + p.width) g) (append_all n (used + p.width + width_of g) rest))
-    ∙ ap (λ k. (shown n used p ++ text_from n (used + p.width) g) ++ append_all n k rest)
+    ∙ ap (λ k. unit_or_filler n used p ++ append_all n k (g ++ rest)) put.1
+    ∙ ap (λ l. unit_or_filler n used p ++ l) (append_all-fits n (used + p.width) g rest f.1)
+    ∙ sym (append_assoc (unit_or_filler n used p) (text_from n (used + p.width) g) (append_all n (used + p.width + width_of g) rest))
+    ∙ ap (λ k. (unit_or_filler n used p ++ text_from n (used + p.width) g) ++ append_all n k rest)
     (let e : used + p.width + width_of g ≡ used + width_of (p ∷ g) = omega (arith, sum_by-cons (λ (r : TextUnit). r.width) p g) in e)
 
 -- a unit that does not fit begins a new line

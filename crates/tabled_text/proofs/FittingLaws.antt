@@ -4,7 +4,7 @@ use Rattle.tabled_text.proofs.Names.{IsFullest, IsUtf8, IsUtf8-append, IsUtf8-ni
 use Rattle.tabled_text.proofs.Names.{append_assoc, arith, cases_Bool, char_count, chars, chars-append, chars-nil, columns_of, cond}
 use Rattle.tabled_text.proofs.Names.{count_of, encode_utf8_all, false, flat_map, inl, inr, is_no_feed, is_separator, join_with_byte}
 use Rattle.tabled_text.proofs.Names.{last_of, leb-false, length, line_columns, lines_of, list_all, list_all-append, lit<, map}
-use Rattle.tabled_text.proofs.Names.{missing_columns, nat_le, refl, replicate, shown, space, stays, subst, sum_by, sum_by_push, sym}
+use Rattle.tabled_text.proofs.Names.{missing_columns, nat_le, refl, replicate, unit_or_filler, space, stays, subst, sum_by, sum_by_push, sym}
 use Rattle.tabled_text.proofs.Names.{text_columns, text_from, text_of_groups, text_of_lines, true, unit_of_char, units, units_of_word}
 use Rattle.tabled_text.proofs.Names.{units_of_words, words_of, ℕ, ⊎_elim, ⊤, ◌++◌, ◌+◌, ◌-◌, ◌<◌, ◌∙◌, ◌∷◌, ◌≡◌, ◌≤◌, ◌⊎◌}
 use Rattle.tabled_text.specs.Fitting.{FitsIn}
@@ -160,8 +160,8 @@ columns-group n pos k b m front (u ∷ us) held le laid fits =
 feedless-group : (n used : ℕ) (us : List TextUnit) → EachUnit Feedless us → list_all is_no_feed (text_from n used us) ≡ true
 feedless-group n used [] h = refl
 feedless-group n used (u ∷ us) h =
-    list_all-append is_no_feed (shown n used u) (text_from n (used + u.width) us)
-    ∙ and_from (list_all is_no_feed (shown n used u)) _ (shown-feedless n used u h.0) (feedless-group n (used + u.width) us h.1)
+    list_all-append is_no_feed (unit_or_filler n used u) (text_from n (used + u.width) us)
+    ∙ and_from (list_all is_no_feed (unit_or_filler n used u)) _ (shown-feedless n used u h.0) (feedless-group n (used + u.width) us h.1)
 
 pub Within-group : (n : ℕ) → 0 < n → (us : List TextUnit) → Laid 0 us → EachUnit Feedless us → Fits n 0 us
     → Within n (lines_of (text_from n 0 us))

@@ -5,7 +5,7 @@ use Rattle.tabled_text.proofs.Names.{append_text, append_used, arith, cases_lt, 
 use Rattle.tabled_text.proofs.Names.{cond, count_of, encode_ascii, encode_utf8_all, encodes-append, encodes-chars, eqb, eqb-true, false}
 use Rattle.tabled_text.proofs.Names.{inl, inr, is_in_range, is_letter_byte, is_letter_or_break, last_line, last_of, le-leb, leb-true}
 use Rattle.tabled_text.proofs.Names.{length, length-append, lines_of, list_all, lit<, lt-leb, map, nat_le, ne_eqb, needed, nil_from_length}
-use Rattle.tabled_text.proofs.Names.{or_cases, pending, refl, replicate, shown, slice_split_none, subst, sum_by-cons, sym, text_columns}
+use Rattle.tabled_text.proofs.Names.{or_cases, pending, refl, replicate, unit_or_filler, slice_split_none, subst, sum_by-cons, sym, text_columns}
 use Rattle.tabled_text.proofs.Names.{true, unicode_width, unit_of_char, units, units_of_words, used_after, words_of, written_line, ℕ}
 use Rattle.tabled_text.proofs.Names.{⊎_elim, ◌++◌, ◌+◌, ◌-◌, ◌<◌, ◌==◌, ◌||◌, ◌∙◌, ◌∷◌, ◌≡◌, ◌≤◌}
 use Rattle.std.specs.Char.{encode_utf8}
@@ -134,19 +134,19 @@ module _ (n columns : ℕ) (text piece rest : List ℕ) (h : list_all is_letter_
 
 -- ---- lines of one column, each of which has one letter or U+FFFD in its place
 
-pub single : (c : ℕ) → (append_text 1 0 (unit_of_char c) ≡ shown 1 0 (unit_of_char c)) × (append_used 1 0 (unit_of_char c) ≡ 0 + char_count c)
+pub single : (c : ℕ) → (append_text 1 0 (unit_of_char c) ≡ unit_or_filler 1 0 (unit_of_char c)) × (append_used 1 0 (unit_of_char c) ≡ 0 + char_count c)
 single c =
     let few = needed-le-line 1 (unit_of_char c) (lit< tt) in
     append_text-fits 1 0 (unit_of_char c) (le-leb (0 + needed 1 (unit_of_char c)) 1 (omega arith))
 
 single-more : (c d : ℕ) (us : List TextUnit)
-    → append_all 1 0 (unit_of_char c ∷ unit_of_char d ∷ us) ≡ shown 1 0 (unit_of_char c) ++ 10 ∷ append_all 1 0 (unit_of_char d ∷ us)
+    → append_all 1 0 (unit_of_char c ∷ unit_of_char d ∷ us) ≡ unit_or_filler 1 0 (unit_of_char c) ++ 10 ∷ append_all 1 0 (unit_of_char d ∷ us)
 single-more c d us =
     let rest = unit_of_char d ∷ us in
     let used = (single c).1 in
     let need = needed-some 1 d (lit< tt) in
     ap (λ l. l ++ append_all 1 (append_used 1 0 (unit_of_char c)) rest) (single c).0
-    ∙ ap (λ l. shown 1 0 (unit_of_char c) ++ l)
+    ∙ ap (λ l. unit_or_filler 1 0 (unit_of_char c) ++ l)
     (append_all-breaks 1 (append_used 1 0 (unit_of_char c)) (unit_of_char d) us (lit< tt) (omega (arith, used, count-some c, need)))
 
 -- nothing is one empty line
@@ -177,7 +177,7 @@ module _ (count : ℕ) (text after : List ℕ) (u : IsUtf8 text) (h : list_all i
   halves : (list_all is_letter_byte (encode_utf8 b.first) ≡ true) × (list_all is_letter_byte after ≡ true)
   halves = all-halves is_letter_byte (encode_utf8 b.first) after (ap (list_all is_letter_byte) (sym b.parts) ∙ h)
 
-  line-single : (front : List ℕ) → encode_utf8_all (shown 1 0 (unit_of_char b.first)) ≡ front → text_columns front ≡ 1
+  line-single : (front : List ℕ) → encode_utf8_all (unit_or_filler 1 0 (unit_of_char b.first)) ≡ front → text_columns front ≡ 1
       → length (lines_of front) ≡ 1 → IsLetterLine 1 text front 1 after
   line-single front e takes one =
       let c = b.first in
@@ -197,10 +197,10 @@ module _ (count : ℕ) (text after : List ℕ) (u : IsUtf8 text) (h : list_all i
       by_after : (cs : List ℕ) → chars after ≡ cs → (cs ≡ [] → ⊥) → written_line 1 false text ≡ front ++ 10 ∷ written_line 1 false after
       by_after [] q ne = absurd (ne refl)
       by_after (d ∷ ds) q ne =
-          line-more 1 text front after (shown 1 0 (unit_of_char b.first))
+          line-more 1 text front after (unit_or_filler 1 0 (unit_of_char b.first))
           (ap (λ l. append_all 1 0 (map unit_of_char l)) (b.characters ∙ ap (λ l. b.first ∷ l) q)
           ∙ single-more b.first d (map unit_of_char ds)
-          ∙ ap (λ l. shown 1 0 (unit_of_char b.first) ++ 10 ∷ append_all 1 0 (map unit_of_char l)) (sym q)) e
+          ∙ ap (λ l. unit_or_filler 1 0 (unit_of_char b.first) ++ 10 ∷ append_all 1 0 (map unit_of_char l)) (sym q)) e
 
   -- a letter of one column
   pub letter-alone : (front : List ℕ) → front ≡ encode_utf8 b.first → count ≤ 1 → IsLetterLine 1 text front 1 after

@@ -45,7 +45,7 @@ pub use Rattle.tabled_text.specs.Plain.{IsAdditive, IsAdditiveColumn, IsAdditive
 pub use Rattle.tabled_text.specs.Plain.{is_additive_or_feed, is_drawn, is_listed, is_listed_or_drawn, is_plain_character}
 pub use Rattle.tabled_text.specs.Room.{is_additive_text, stays}
 pub use Rattle.tabled_text.specs.Runs.{IsFirstAt, IsSplitAt, LieWithin}
-pub use Rattle.tabled_text.specs.Wrapping.{AreFullest, Fits, IsFittingWrapping, IsFullest, IsFullestText, IsWrapped, needed, shown}
+pub use Rattle.tabled_text.specs.Wrapping.{AreFullest, Fits, IsFittingWrapping, IsFullest, IsFullestText, IsWrapped, needed, unit_or_filler}
 pub use Rattle.tabled_text.specs.Wrapping.{text_from, text_of_groups, text_of_lines}
 unfoldable pub use Rattle.ucd_bidi.specs.JoiningGroup.{joining_group}
 unfoldable pub use Rattle.ucd_bidi.specs.JoiningGroupRows.{joining_group_rows}

@@ -2,7 +2,7 @@
 use Rattle.tabled_text.proofs.Names.{All, All-cons, All-nil, AllZip, Bool, Fits, IsUtf8, List, MatchBool, TextUnit, [], ap, append-nil, append_all}
 use Rattle.tabled_text.proofs.Names.{append_assoc, append_text, append_used, arith, cases_Bool, chars, chars_from_encodes, cond, encode_utf8_all}
 use Rattle.tabled_text.proofs.Names.{encodes-append, eq-eqb, eqb-false, eqb-true, false, flat_map, inl, inr, le-leb, leb-false, leb-true, length}
-use Rattle.tabled_text.proofs.Names.{lines_of, map, nat_le, ne_eqb, needed, refl, shown, space, subst, sum_by-append, sum_by-cons, sym, text_from}
+use Rattle.tabled_text.proofs.Names.{lines_of, map, nat_le, ne_eqb, needed, refl, unit_or_filler, space, subst, sum_by-append, sum_by-cons, sym, text_from}
 use Rattle.tabled_text.proofs.Names.{text_of_groups, text_of_lines, true, used_after, width_of, words_of, ⊎_elim, ℕ, ◌++◌, ◌+◌, ◌<◌, ◌==◌, ◌∙◌}
 use Rattle.tabled_text.proofs.Names.{◌∷◌, ◌≡◌, ◌≤◌, ◌⊎◌, IsUtf8-nil, replicate, encode_ascii, lit<, ◌-◌}
 use Rattle.tabled_text.specs.WordWalk.{goes_on, line_of_words, next_used, next_word, next_words, pending_words, word_at, word_lead}
@@ -24,9 +24,9 @@ text_from-append : (n used : ℕ) (g h : List TextUnit) → text_from n used (g 
 text_from-append n used [] h = ap (λ j. text_from n j h) (let e : used ≡ used + 0 = omega arith in e)
 text_from-append n used (u ∷ g) h =
     let e : used + u.width + width_of g ≡ used + width_of (u ∷ g) = omega (arith, sum_by-cons own_width u g) in
-    ap (λ l. shown n used u ++ l) (text_from-append n (used + u.width) g h)
-    ∙ sym (append_assoc (shown n used u) (text_from n (used + u.width) g) (text_from n (used + u.width + width_of g) h))
-    ∙ ap (λ j. (shown n used u ++ text_from n (used + u.width) g) ++ text_from n j h) e
+    ap (λ l. unit_or_filler n used u ++ l) (text_from-append n (used + u.width) g h)
+    ∙ sym (append_assoc (unit_or_filler n used u) (text_from n (used + u.width) g) (text_from n (used + u.width + width_of g) h))
+    ∙ ap (λ j. (unit_or_filler n used u ++ text_from n (used + u.width) g) ++ text_from n j h) e
 
 -- ---- the walk over units with what is before them
 
@@ -35,7 +35,7 @@ abbrev goes_with : ℕ → ℕ → SpacedUnit → Bool
 goes_with n used u = nat_le (used + (width_of u.before + needed n u.unit)) n
 
 abbrev put : ℕ → ℕ → SpacedUnit → List ℕ
-put n used u = cond (goes_with n used u) (text_from n used (u.before ++ u.unit ∷ [])) (10 ∷ shown n 0 u.unit)
+put n used u = cond (goes_with n used u) (text_from n used (u.before ++ u.unit ∷ [])) (10 ∷ unit_or_filler n 0 u.unit)
 
 abbrev put_used : ℕ → ℕ → SpacedUnit → ℕ
 put_used n used u = cond (goes_with n used u) (used + (width_of u.before + u.unit.width)) u.unit.width
@@ -107,7 +107,7 @@ module _ (n : ℕ) (pos : 0 < n) where
       ∙ ap (λ j. text_from n 0 (line ++ added) ++ put_all n j pieces) (grown-columns first group p)
       ∙ ap (λ l. l ++ put_all n to pieces) (text_from-append n 0 line added ∙ ap (λ j. text_from n 0 line ++ text_from n j added) e)
       ∙ append_assoc (text_from n 0 line) (text_from n k added) (put_all n to pieces)
-      ∙ ap (λ b. text_from n 0 line ++ (cond b (text_from n k added) (10 ∷ shown n 0 p.unit) ++ put_all n (cond b to p.unit.width) pieces)) (sym goes)
+      ∙ ap (λ b. text_from n 0 line ++ (cond b (text_from n k added) (10 ∷ unit_or_filler n 0 p.unit) ++ put_all n (cond b to p.unit.width) pieces)) (sym goes)
 
   grow : (first : SpacedUnit) (group : List SpacedUnit) (p : SpacedUnit) (pieces : List SpacedUnit)
       → goes_with n (columns_on first group) p ≡ true → Filled n first (group ++ p ∷ []) pieces → Filled n first group (p ∷ pieces)
@@ -127,9 +127,9 @@ module _ (n : ℕ) (pos : 0 < n) where
       → 10 ∷ (text_from n 0 (on_line (p ∷ [])) ++ put_all n (columns_on p []) pieces) ≡ put_all n k (p ∷ pieces)
   begun-text p pieces k breaks =
       let e : columns_on p [] ≡ p.unit.width = omega (arith, sum_by-cons own_width p.unit []) in
-      ap (λ l. 10 ∷ (l ++ put_all n (columns_on p []) pieces)) (append-nil (shown n 0 p.unit))
-      ∙ ap (λ j. 10 ∷ (shown n 0 p.unit ++ put_all n j pieces)) e
-      ∙ ap (λ b. cond b (text_from n k (p.before ++ p.unit ∷ [])) (10 ∷ shown n 0 p.unit)
+      ap (λ l. 10 ∷ (l ++ put_all n (columns_on p []) pieces)) (append-nil (unit_or_filler n 0 p.unit))
+      ∙ ap (λ j. 10 ∷ (unit_or_filler n 0 p.unit ++ put_all n j pieces)) e
+      ∙ ap (λ b. cond b (text_from n k (p.before ++ p.unit ∷ [])) (10 ∷ unit_or_filler n 0 p.unit)
       ++ put_all n (cond b (k + (width_of p.before + p.unit.width)) p.unit.width) pieces) (sym breaks)
 
   begin_next : (first : SpacedUnit) (group : List SpacedUnit) (p : SpacedUnit) (pieces : List SpacedUnit)
@@ -169,10 +169,10 @@ module _ (n : ℕ) (pos : 0 < n) where
   put-plain : (used : ℕ) (u : TextUnit) → put n used (record { before = []; unit = u }) ≡ append_text n used u
   put-plain used u =
       let e : used + (0 + needed n u) ≡ used + needed n u = omega arith in
-      ap (λ k. cond (nat_le k n) (shown n used u ++ []) (10 ∷ shown n 0 u)) e ∙ pick (nat_le (used + needed n u) n)
+      ap (λ k. cond (nat_le k n) (unit_or_filler n used u ++ []) (10 ∷ unit_or_filler n 0 u)) e ∙ pick (nat_le (used + needed n u) n)
     where
-      pick : (b : Bool) → cond b (shown n used u ++ []) (10 ∷ shown n 0 u) ≡ cond b [] (10 ∷ []) ++ shown n (cond b used 0) u
-      pick true = append-nil (shown n used u)
+      pick : (b : Bool) → cond b (unit_or_filler n used u ++ []) (10 ∷ unit_or_filler n 0 u) ≡ cond b [] (10 ∷ []) ++ unit_or_filler n (cond b used 0) u
+      pick true = append-nil (unit_or_filler n used u)
       pick false = refl
 
   put_used-plain : (used : ℕ) (u : TextUnit) → put_used n used (record { before = []; unit = u }) ≡ append_used n used u
@@ -195,7 +195,7 @@ module _ (n : ℕ) (pos : 0 < n) where
 
   -- the units of a word of which the first fits
   fitting_word : (k : ℕ) (u : TextUnit) (us : List TextUnit) (rest : List SpacedUnit) → k + needed n u ≤ n
-      → shown n k u ++ put_all n (k + u.width) (spaced_word [] us ++ rest)
+      → unit_or_filler n k u ++ put_all n (k + u.width) (spaced_word [] us ++ rest)
       ≡ append_all n k (u ∷ us) ++ put_all n (used_after n k (u ∷ us)) rest
   fitting_word k u us rest fit =
       let fits = append_text-fits n k u (le-leb (k + needed n u) n fit) in
@@ -204,17 +204,17 @@ module _ (n : ℕ) (pos : 0 < n) where
       ∙ ap (λ l. append_text n k u ++ l) (walk-plain (append_used n k u) us rest)
       ∙ sym (append_assoc (append_text n k u) (append_all n (append_used n k u) us) (put_all n (used_after n (append_used n k u) us) rest))
 
-  shown-space : (used : ℕ) → shown n used space ≡ 32 ∷ []
+  shown-space : (used : ℕ) → unit_or_filler n used space ≡ 32 ∷ []
   shown-space used = ap (λ b. cond b (32 ∷ []) (replicate (n - used) 0xFFFD)) (le-leb 1 n pos)
 
   -- a unit with a space before it
   put-spaced : (used : ℕ) (u : TextUnit) → put n used (record { before = space ∷ []; unit = u })
-      ≡ word_lead n used (needed n u) ++ shown n (word_at n used (needed n u)) u
+      ≡ word_lead n used (needed n u) ++ unit_or_filler n (word_at n used (needed n u)) u
   put-spaced used u = pick (goes_on n used (needed n u))
     where
-      pick : (b : Bool) → cond b (shown n used space ++ (shown n (used + 1) u ++ [])) (10 ∷ shown n 0 u)
-          ≡ cond b (32 ∷ []) (10 ∷ []) ++ shown n (cond b (used + 1) 0) u
-      pick true = ap (λ l. l ++ (shown n (used + 1) u ++ [])) (shown-space used) ∙ ap (λ l. 32 ∷ l) (append-nil (shown n (used + 1) u))
+      pick : (b : Bool) → cond b (unit_or_filler n used space ++ (unit_or_filler n (used + 1) u ++ [])) (10 ∷ unit_or_filler n 0 u)
+          ≡ cond b (32 ∷ []) (10 ∷ []) ++ unit_or_filler n (cond b (used + 1) 0) u
+      pick true = ap (λ l. l ++ (unit_or_filler n (used + 1) u ++ [])) (shown-space used) ∙ ap (λ l. 32 ∷ l) (append-nil (unit_or_filler n (used + 1) u))
       pick false = refl
 
   put_used-spaced : (used : ℕ) (u : TextUnit) → put_used n used (record { before = space ∷ []; unit = u })
@@ -241,8 +241,8 @@ module _ (n : ℕ) (pos : 0 < n) where
       let spaced : SpacedUnit = record { before = space ∷ []; unit = u } in
       let more = spaced_word [] us ++ rest in
       ap (λ l. l ++ put_all n (put_used n used spaced) more) (put-spaced used u)
-      ∙ ap (λ j. (lead ++ shown n k u) ++ put_all n j more) (put_used-spaced used u)
-      ∙ append_assoc lead (shown n k u) (put_all n (k + u.width) more)
+      ∙ ap (λ j. (lead ++ unit_or_filler n k u) ++ put_all n j more) (put_used-spaced used u)
+      ∙ append_assoc lead (unit_or_filler n k u) (put_all n (k + u.width) more)
       ∙ ap (λ l. lead ++ l) (fitting_word k u us rest (word_at-fits used u))
       ∙ sym (append_assoc lead (append_all n k (u ∷ us)) (put_all n (used_after n k (u ∷ us)) rest))
 
@@ -255,14 +255,14 @@ module _ (n : ℕ) (pos : 0 < n) where
   -- the text of the walk from the first unit of a line on
   abbrev walked : List SpacedUnit → List ℕ
   walked [] = []
-  walked (u ∷ us) = shown n 0 u.unit ++ put_all n u.unit.width us
+  walked (u ∷ us) = unit_or_filler n 0 u.unit ++ put_all n u.unit.width us
 
   walk-first : (us : List TextUnit) (words : List (List ℕ)) → 0 < length us → walked (spaced_word [] us ++ further_units n words)
       ≡ append_all n 0 us ++ next_words n (used_after n 0 us) words
   walk-first [] words some = absurd (omega arith)
   walk-first (u ∷ us) words some =
       let e : u.width ≡ 0 + u.width = omega arith in
-      ap (λ k. shown n 0 u ++ put_all n k (spaced_word [] us ++ further_units n words)) e
+      ap (λ k. unit_or_filler n 0 u ++ put_all n k (spaced_word [] us ++ further_units n words)) e
       ∙ fitting_word 0 u us (further_units n words) (let l = needed-le-line n u pos in omega arith)
       ∙ ap (λ l. append_all n 0 (u ∷ us) ++ l) (walk-further words (used_after n 0 (u ∷ us)))
 
@@ -284,9 +284,9 @@ written_words n line pos =
     let groups : List (List SpacedUnit) = (first ∷ f.more) ∷ f.others in
     let same : first ∷ (f.more ++ flat_map (λ g. g) f.others) ≡ first ∷ b.more = ap (λ l. first ∷ l) f.whole in
     let width : columns_on first [] ≡ b.first.width = omega (arith, sum_by-cons own_width b.first []) in
-    let text : text_of_groups n (map on_line groups) ≡ shown n 0 b.first ++ put_all n b.first.width b.more =
-    f.text ∙ ap (λ l. l ++ put_all n (columns_on first []) b.more) (append-nil (shown n 0 b.first))
-    ∙ ap (λ k. shown n 0 b.first ++ put_all n k b.more) width in
+    let text : text_of_groups n (map on_line groups) ≡ unit_or_filler n 0 b.first ++ put_all n b.first.width b.more =
+    f.text ∙ ap (λ l. l ++ put_all n (columns_on first []) b.more) (append-nil (unit_or_filler n 0 b.first))
+    ∙ ap (λ k. unit_or_filler n 0 b.first ++ put_all n k b.more) width in
     record {
       groups = groups;
       fullest = record {

@@ -3,7 +3,7 @@ use Rattle.tabled_text.proofs.Names.{AllZip, Bool, IsFullest, IsPlainColumn, IsW
 use Rattle.tabled_text.proofs.Names.{append-nil, append_all, append_assoc, append_text, append_used, arith, cases_Bool, char_columns}
 use Rattle.tabled_text.proofs.Names.{char_count, chars, chars-nil, columns_of, cond, false, greatest, has_plain_width, is_additive}
 use Rattle.tabled_text.proofs.Names.{is_additive_or_feed, is_additive_text, is_listed_or_drawn, le-leb, leb-false, leb-true, lines_of}
-use Rattle.tabled_text.proofs.Names.{list_all, map, min, nat_le, ne_eqb, needed, onto_first, or_left, or_right, refl, replicate, shown}
+use Rattle.tabled_text.proofs.Names.{list_all, map, min, nat_le, ne_eqb, needed, onto_first, or_left, or_right, refl, replicate, unit_or_filler}
 use Rattle.tabled_text.proofs.Names.{stays, subst, suc, sum_by, sum_by-cons, sym, text_of_groups, text_of_lines, true, unicode_width}
 use Rattle.tabled_text.proofs.Names.{unit_of_char, units, zero, ℕ, ⊎_elim, ⊤, ◌&&◌, ◌++◌, ◌+◌, ◌-◌, ◌<◌, ◌==◌, ◌||◌, ◌∙◌, ◌∷◌, ◌≡◌, ◌≤◌}
 use Rattle.tabled_text.proofs.Basics.{cond-both, list_all-copies}
@@ -140,9 +140,9 @@ good-made = record {
   space = (and_from (is_additive 32) true plain_space.0 refl, (let e = plain_space.1 in omega (arith, sum_by-cons char_columns 32 [])));
 }
 
--- ---- a unit that is shown stays in the line
+-- ---- a unit that is unit_or_filler stays in the line
 shown-wide : (n used : ℕ) (p : TextUnit) (rest : List ℕ) → Good p → used + needed n p ≤ n
-    → (stays n (min (used + p.width) n) rest ≡ true) → stays n used (shown n used p ++ rest) ≡ true
+    → (stays n (min (used + p.width) n) rest ≡ true) → stays n used (unit_or_filler n used p ++ rest) ≡ true
 shown-wide n used p rest g fits s =
     cond-both (λ k. used + k ≤ n) (λ (t : List ℕ). stays n used (t ++ rest) ≡ true) (nat_le p.width n) p.width 1 p.text
     (replicate (n - used) 0xFFFD)
@@ -173,12 +173,12 @@ stays-append_all n used (p ∷ ps) rest pos g h =
     let fits = leb-true (used + needed n p) n y in
     let same : min used n ≡ used = omega arith in
     subst (λ l. stays n (min used n) (l ++ tail) ≡ true) (sym put.0)
-    (subst (λ k. stays n k (shown n used p ++ tail) ≡ true) (sym same)
+    (subst (λ k. stays n k (unit_or_filler n used p ++ tail) ≡ true) (sym same)
     (shown-wide n used p tail g.0 fits (subst (λ k. stays n (min k n) tail ≡ true) put.1 more))))
     (λ no.
     let put = append_text-breaks n used p no in
     subst (λ l. stays n (min used n) (l ++ tail) ≡ true) (sym put.0)
-    (stays-break n (min used n) (shown n 0 p ++ tail) (omega arith)
+    (stays-break n (min used n) (unit_or_filler n 0 p ++ tail) (omega arith)
     (shown-wide n 0 p tail g.0 (let l = needed-le-line n p pos in omega arith)
     (subst (λ k. stays n (min k n) tail ≡ true) (put.1 ∙ (let e : p.width ≡ 0 + p.width = omega arith in e)) more))))
     (cases_Bool (nat_le (used + needed n p) n)))

@@ -4,7 +4,7 @@ use Rattle.tabled_text.proofs.Names.{Bool, IsUtf8, IsUtf8-nil, IsWrapped, List, 
 use Rattle.tabled_text.proofs.Names.{append_text, append_used, arith, begin_text, cases_Bool, chars, cond, count_of, drop, encode_ascii}
 use Rattle.tabled_text.proofs.Names.{encode_utf8_all, encodes-chars, eq-eqb, eqb-false, eqb-true, false, is_in_range, length, lines_of}
 use Rattle.tabled_text.proofs.Names.{list_all, list_all-append, lit<, map, nat_le, ne_eqb, needed, pending, refl, replicate, scalar}
-use Rattle.tabled_text.proofs.Names.{scalars-chars, shown, subst, sym, take, true, units, written_line, ℕ, ⊎_elim, ◌++◌, ◌+◌, ◌-◌, ◌<◌}
+use Rattle.tabled_text.proofs.Names.{scalars-chars, unit_or_filler, subst, sym, take, true, units, written_line, ℕ, ⊎_elim, ◌++◌, ◌+◌, ◌-◌, ◌<◌}
 use Rattle.tabled_text.proofs.Names.{◌==◌, ◌∙◌, ◌∷◌, ◌≡◌, ◌≤◌, ◌⊎◌}
 use Rattle.tabled_text.specs.LineEnds.{wrapped_text}
 use Rattle.tabled_text.specs.Walk.{begin_at}
@@ -75,7 +75,7 @@ spelled-both xs ys h k = list_all-append scalar xs ys ∙ and_from (list_all sca
 spelled-text : (n used : ℕ) (unit : TextUnit) → Spelled unit → list_all scalar (append_text n used unit) ≡ true
 spelled-text n used unit h =
     let room = n - begin_at n used (needed n unit) in
-    spelled-both (begin_text n used (needed n unit)) (shown n (begin_at n used (needed n unit)) unit)
+    spelled-both (begin_text n used (needed n unit)) (unit_or_filler n (begin_at n used (needed n unit)) unit)
     (cond-cases (λ l. list_all scalar l ≡ true) (nat_le (used + needed n unit) n) [] (10 ∷ []) (λ _. refl) (λ _. refl))
     (cond-cases (λ l. list_all scalar l ≡ true) (nat_le unit.width n) unit.text (replicate room 0xFFFD) (λ _. h)
     (λ _. list_all-copies scalar 0xFFFD room refl))

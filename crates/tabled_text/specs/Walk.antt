@@ -9,7 +9,7 @@ use Rattle.tabled_text.specs.Letters.{is_letter_byte}
 use Rattle.tabled_text.specs.Measure.{columns_of, count_of, lines_of, text_columns}
 use Rattle.tabled_text.specs.OldText.{all_chars_fit}
 use Rattle.tabled_text.specs.Breaking.{TextUnit, units, words_of}
-use Rattle.tabled_text.specs.Wrapping.{needed, shown}
+use Rattle.tabled_text.specs.Wrapping.{needed, unit_or_filler}
 use Rattle.std.proofs.Common.{append_assoc, sym, ap, ◌∙◌}
 
 -- the words of the rest after a space, if there is one
@@ -26,7 +26,7 @@ begin_text n used needed = if nat_le (used + needed) n then [] else 10 ∷ []
 
 -- what a unit writes, and the columns then used in its line
 abbrev pub append_text : ℕ → ℕ → TextUnit → List ℕ
-append_text n used unit = begin_text n used (needed n unit) ++ shown n (begin_at n used (needed n unit)) unit
+append_text n used unit = begin_text n used (needed n unit) ++ unit_or_filler n (begin_at n used (needed n unit)) unit
 
 abbrev pub append_used : ℕ → ℕ → TextUnit → ℕ
 append_used n used unit = begin_at n used (needed n unit) + unit.width

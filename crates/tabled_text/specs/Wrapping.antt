@@ -38,12 +38,12 @@ pub record IsFullest (n : ℕ) (units : List TextUnit) (groups : List (List Text
 
 -- what is written of a unit if `used` columns of its line are used: U+FFFD in the columns left if
 -- it is wider than a line
-abbrev pub shown : ℕ → ℕ → TextUnit → List ℕ
-shown n used unit = if nat_le unit.width n then unit.text else replicate (n - used) 0xFFFD
+abbrev pub unit_or_filler : ℕ → ℕ → TextUnit → List ℕ
+unit_or_filler n used unit = if nat_le unit.width n then unit.text else replicate (n - used) 0xFFFD
 
 abbrev pub text_from : ℕ → ℕ → List TextUnit → List ℕ
 text_from n used [] = []
-text_from n used (unit ∷ group) = shown n used unit ++ text_from n (used + unit.width) group
+text_from n used (unit ∷ group) = unit_or_filler n used unit ++ text_from n (used + unit.width) group
 
 -- the text of a line: each group on a line of its own
 abbrev pub text_of_groups : ℕ → List (List TextUnit) → List ℕ

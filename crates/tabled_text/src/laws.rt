@@ -25,7 +25,7 @@ use crate::measure::line_width;
 
 /// Returns the columns of a line of additive characters, which are the sum of the characters'
 /// columns.
-pub fn plain_line_width(line: &str) -> usize
+pub fn additive_line_width(line: &str) -> usize
     requires { IsTrue (list_all is_additive (chars line.now)) }
     ensures { result ≡ sum_by char_columns (chars line.now) }
 {
@@ -47,7 +47,7 @@ pub fn plain_characters()
 {}
 
 /// The columns of joined additive lines add up. Each line of an additive text is additive.
-pub fn plain_lines()
+pub fn additive_lines()
     ensures one { (c : ℕ) → IsAdditiveColumn c → IsAdditiveLine (encode_utf8 c) 1 }
     ensures joined { (front back : List ℕ) (m n : ℕ) → IsAdditiveLine front m
         → IsAdditiveLine back n → IsAdditiveLine (front ++ back) (m + n) }
@@ -58,7 +58,7 @@ pub fn plain_lines()
 
 /// The columns of an additive line are the sum of its characters' columns, and also the sum of
 /// their counts. U+FFFD is additive and takes one column.
-pub fn plain_columns()
+pub fn additive_columns()
     ensures sum { (line : List ℕ) → list_all is_additive (chars line) ≡ true
         → line_columns line ≡ sum_by char_columns (chars line) }
     ensures count { (line : List ℕ) → list_all is_additive (chars line) ≡ true

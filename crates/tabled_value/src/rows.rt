@@ -8,7 +8,7 @@ ghost use Rattle.std.specs.Prelude.{replicate};
 ghost use Rattle.std.specs.Prelude.{vec_len, ℕ, ◌++◌, ◌+◌, ◌∷◌, ◌≡◌};
 ghost use Rattle.tabled_base.specs.Cells.{row_texts};
 ghost use Rattle.tabled_base.specs.Given.{Given};
-ghost use Rattle.tabled_base.specs.Printable.{IsPrintable};
+ghost use Rattle.tabled_base.specs.Printable.{IsPrintableAscii};
 ghost use Rattle.tabled_base.specs.declared.error.TableError.TheVariants.{Memory};
 ghost use Rattle.tabled_value.specs.Fields.{CellsAdded, Says};
 ghost use Rattle.tabled_value.specs.ValueRows.{ValuesAdded, pairs};
@@ -76,7 +76,7 @@ pub(crate) fn push_text(row: &mut Vec<Text<String>>, text: &str) -> Result<(), T
 /// Appends a cell with a copy of a text of printable ASCII, which isn't measured.
 #[inline(always)]
 pub(crate) fn push_printable(row: &mut Vec<Text<String>>, text: &str) -> Result<(), TableError>
-    requires { IsPrintable text.now }
+    requires { IsPrintableAscii text.now }
     ensures texts { OnOk result
         (CellsAdded (λ texts. texts ≡ text.now ∷ []) row.old.items row.new.items) }
     ensures length { OnOk result (vec_len row.new ≡ vec_len row.old + 1) }

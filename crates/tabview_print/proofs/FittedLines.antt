@@ -11,7 +11,7 @@ use Rattle.tabled_size.specs.Holds.{Holds}
 use Rattle.tabled_size.specs.Sheet.{Sheet}
 use Rattle.tabled_size.specs.TextCells.{AreTexts}
 use Rattle.tabled_size.specs.Totals.{total_height, total_width}
-use Rattle.tabled_line.specs.Plain.{EachLineTakes}
+use Rattle.tabled_line.specs.Additive.{EachLineTakes}
 use Rattle.tabled_set.specs.CellChanges.{AreChanged}
 use Rattle.tabled_set.specs.declared.truncate.SuffixLimit.TheVariants.{Cut as CutSuffix}
 use Rattle.tabled_set.proofs.ChangingCells.{columns-changed}

@@ -9,7 +9,7 @@ use Rattle.tabled_base.specs.Cells.{IsRectangular}
 use Rattle.tabled_grid.proofs.ShownCells.{some_line_shown}
 use Rattle.tabled_grid.specs.ApartSheet.{IsApartConfig}
 use Rattle.tabled_grid.specs.Picture.{table_text}
-use Rattle.tabled_line.specs.Plain.{EachLineTakes}
+use Rattle.tabled_line.specs.Additive.{EachLineTakes}
 use Rattle.tabled_priority.specs.Permitted.{spare_total}
 use Rattle.tabled_set.proofs.ChangingCells.{AreChanged-as, columns-changed}
 use Rattle.tabled_set.proofs.Emptied.{minimums-length}

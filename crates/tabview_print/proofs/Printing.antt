@@ -10,13 +10,13 @@ use Rattle.tabled_config.specs.declared.spanned.SpannedConfig.{SpannedConfig}
 use Rattle.tabled_size.specs.Effective.{effective}
 use Rattle.tabled_size.specs.Sheet.{Sheet}
 use Rattle.tabled_size.specs.declared.complete_dimension.CompleteDimension.{CompleteDimension}
-use Rattle.tabview_print.specs.PrintedTables.{PrintsShown, StopsEarly}
+use Rattle.tabview_print.specs.PrintedTables.{PrintsShown, StopsBeforePrinting}
 
 -- an early error
 pub stopped-early : (shows : Sheet → Type 0) (none : Type 0) (t : Sheet) (old : Sent) (r : Result Bool TableError) (e : TableError)
-    → IsErrAnd r (λ d. d ≡ e) → StopsEarly t e → PrintsShown shows none t old r old
+    → IsErrAnd r (λ d. d ≡ e) → StopsBeforePrinting t e → PrintsShown shows none t old r old
 stopped-early shows none t old (Ok x) e i c = absurd i
-stopped-early shows none t old (Err d) e i c = inl (subst (StopsEarly t) (sym i) c, refl)
+stopped-early shows none t old (Err d) e i c = inl (subst (StopsBeforePrinting t) (sym i) c, refl)
 
 -- an error of printing
 pub stopped-printing : (shows : Sheet → Type 0) (none : Type 0) (t shown : Sheet) (estimates : Bool) (old : Sent) (r : Result Bool TableError) (e : TableError) (new : Sent)

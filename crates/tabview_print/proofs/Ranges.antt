@@ -13,7 +13,7 @@ use Rattle.tabled_size.specs.Estimates.{IsTooWide}
 use Rattle.tabled_size.specs.FilledIn.{HasNoEstimate}
 use Rattle.tabled_text.proofs.StayLemmas.{StaysWithin-none, text_columns-stays}
 use Rattle.tabview_print.proofs.FittedTables.{effective-stored}
-use Rattle.tabview_print.specs.PrintedTables.{StopsEarly}
+use Rattle.tabview_print.specs.PrintedTables.{StopsBeforePrinting}
 
 -- a cell that is too wide without its text is too wide with it
 pub too_wide-emptied : (cells : List (List (List ℕ))) (config : SpannedConfig) → IsTooWide (emptied cells) config → IsTooWide cells config
@@ -30,17 +30,17 @@ too_wide-emptied cells config w = record {
 }
 
 pub early-emptied : (cells : List (List (List ℕ))) (config : SpannedConfig) (e : TableError) → (e ≡ Memory) ⊎ ((e ≡ Range) × IsTooWide (emptied cells) config)
-    → StopsEarly (estimated cells config) e
+    → StopsBeforePrinting (estimated cells config) e
 early-emptied cells config e cause = ⊎_elim (λ m. inl m) (λ r. inr (r.0, passes_too_wide cells config (too_wide-emptied cells config r.1))) cause
 
 pub early-estimated : (cells : List (List (List ℕ))) (config : SpannedConfig) (none : CompleteDimension) (e : TableError)
-    → (e ≡ Memory) ⊎ ((e ≡ Range) × HasNoEstimate none cells config) → StopsEarly (estimated cells config) e
+    → (e ≡ Memory) ⊎ ((e ≡ Range) × HasNoEstimate none cells config) → StopsBeforePrinting (estimated cells config) e
 early-estimated cells config none e cause = ⊎_elim (λ m. inl m)
     (λ r. inr (r.0, ⊎_elim (λ w. passes_too_wide cells config w.1) (λ h. passes_too_high cells config h.1) r.1)) cause
 
 pub early-narrowing : (n : ℕ) (cells : List (List (List ℕ))) (config : SpannedConfig) (sizes : CompleteDimension) (e : TableError)
     → widths_of sizes ≡ Some (estimated_widths cells config) → heights_of sizes ≡ Some (estimated_heights cells config)
-    → (e ≡ Memory) ⊎ ((e ≡ Range) × NarrowingOutOfRange ⊥ n cells config sizes) → StopsEarly (estimated cells config) e
+    → (e ≡ Memory) ⊎ ((e ≡ Range) × NarrowingOutOfRange ⊥ n cells config sizes) → StopsBeforePrinting (estimated cells config) e
 early-narrowing n cells config sizes e w h cause = ⊎_elim (λ m. inl m) (λ r. inr (r.0, passes r.1)) cause
   where
     whole : is_empty cells ≡ false → total_width (estimated cells config) ≡ filled_width config (columns cells) (estimated_widths cells config)
@@ -72,7 +72,7 @@ total-known cells config sizes (Ok n) same empty filled =
 
 -- an error of the width
 early-width : (cells : List (List (List ℕ))) (config : SpannedConfig) (widths : List ℕ) (e : TableError) → widths ≡ estimated_widths cells config
-    → ReturnsWidth config (columns cells) widths (Err e) → StopsEarly (estimated cells config) e
+    → ReturnsWidth config (columns cells) widths (Err e) → StopsBeforePrinting (estimated cells config) e
 early-width cells config widths Memory same r = inl refl
 early-width cells config widths Range same r = inr (refl, inl (subst (λ ws. 2 ^ 64 ≤ filled_width config (columns cells) ws) same r.1))
 early-width cells config widths _ same r = let short = r.1 in let e = ap length same in absurd (omega (arith, widths_length cells config))
@@ -80,7 +80,7 @@ early-width cells config widths _ same r = let short = r.1 in let e = ap length 
 pub early-total : (cells : List (List (List ℕ))) (config : SpannedConfig) (sizes : CompleteDimension) (r : Result ℕ TableError)
     → effective cells config sizes ≡ estimated cells config → (is_empty cells ≡ true → r ≡ Ok 0)
     → (is_empty cells ≡ false → ReturnsWidth config (columns cells) (effective cells config sizes).widths r)
-    → IfErr r (StopsEarly (estimated cells config))
+    → IfErr r (StopsBeforePrinting (estimated cells config))
 early-total cells config sizes (Ok n) same empty filled = tt
 early-total cells config sizes (Err e) same empty filled = ⊎_elim
     (λ y. let bad = empty y in let no : ⊥ = cc in absurd no)

@@ -4,7 +4,7 @@ use Rattle.tabled_base.specs.Cells.{IsInside, IsRectangular, cell_at, columns}
 use Rattle.tabled_config.specs.declared.spanned.SpannedConfig.{SpannedConfig}
 use Rattle.tabled_grid.specs.ApartSheet.{IsApartConfig}
 use Rattle.tabled_grid.specs.Picture.{table_text}
-use Rattle.tabled_line.specs.Plain.{EachLineTakes}
+use Rattle.tabled_line.specs.Additive.{EachLineTakes}
 use Rattle.tabled_priority.specs.Permitted.{at, spare_total}
 use Rattle.tabled_set.specs.CellChanges.{AreChanged, if_wider, truncating, word_wrapping}
 use Rattle.tabled_set.specs.Minimums.{side_padding}

@@ -11,8 +11,8 @@ use Rattle.tabview_print.specs.declared.layout.Layout.{Layout}
 
 -- why a call fails before anything is sent: an allocation failed, or a total of the whole table
 -- passes the greatest `usize`
-abbrev pub StopsEarly : Sheet → TableError → Type 0
-StopsEarly t e = (e ≡ Memory) ⊎ ((e ≡ Range) × IsOutOfRange t)
+abbrev pub StopsBeforePrinting : Sheet → TableError → Type 0
+StopsBeforePrinting t e = (e ≡ Memory) ⊎ ((e ≡ Range) × IsOutOfRange t)
 
 -- printing one of the tables that may be shown fails, with the errors of printing
 pub record StopsPrinting (shows : Sheet → Type 0) (old : Sent) (error : TableError) (new : Sent) : Type 0 where
@@ -31,7 +31,7 @@ pub record SendsShown (shows : Sheet → Type 0) (old new : Sent) : Type 0 where
 abbrev pub PrintsShown : (Sheet → Type 0) → Type 0 → Sheet → Sent → Result Bool TableError → Sent → Type 0
 PrintsShown shows none t old (Ok true) new = SendsShown shows old new
 PrintsShown shows none t old (Ok false) new = none × (new ≡ old)
-PrintsShown shows none t old (Err e) new = (StopsEarly t e × (new ≡ old)) ⊎ StopsPrinting shows old e new
+PrintsShown shows none t old (Err e) new = (StopsBeforePrinting t e × (new ≡ old)) ⊎ StopsPrinting shows old e new
 
 -- the whole table of some cells under a layout
 abbrev pub whole_table : Layout → List (List (List ℕ)) → Sheet

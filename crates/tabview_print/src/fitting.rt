@@ -13,7 +13,7 @@ ghost use Rattle.tabled_size.specs.Totals.{total_width};
 ghost use Rattle.tabview_cells.specs.Fitted.{GivesToFloors};
 ghost use Rattle.tabview_print.specs.Fitted.{IsCutTo, IsFitted, IsTooNarrow, ShowsWithin};
 ghost use Rattle.tabview_print.specs.Floors.{floors_of};
-ghost use Rattle.tabview_print.specs.PrintedTables.{CannotShow, PrintsShown, Shows, StopsEarly};
+ghost use Rattle.tabview_print.specs.PrintedTables.{CannotShow, PrintsShown, Shows, StopsBeforePrinting};
 ghost use Rattle.tabview_print.specs.PrintedTables.{whole_table};
 
 use crate::floors::{Floors, fitting_floors};
@@ -122,7 +122,7 @@ fn measured(
         ≡ Some (estimated_widths records.now config.now)) }
     ensures heights { OnOk result (heights_of sizes.new
         ≡ Some (estimated_heights records.now config.now)) }
-    ensures only { IfErr result (StopsEarly (estimated records.now config.now)) }
+    ensures only { IfErr result (StopsBeforePrinting (estimated records.now config.now)) }
 {
     sizes.estimate(records, config)?;
     total_width(records, config, sizes)
@@ -149,7 +149,7 @@ fn narrowed(
     ensures ok { IfOk result (λ cells. IsFitted fit.now.columns.now fit.now.has_header
         fit.now.narrowing fit.now.width (estimated records.now config.now)
         (effective (unwrap_or cells records.now) config.now sizes.new)) }
-    ensures only { IfErr result (StopsEarly (estimated records.now config.now)) }
+    ensures only { IfErr result (StopsBeforePrinting (estimated records.now config.now)) }
 {
     match fit.narrowing {
         Narrowing::Wrap => {

@@ -11,7 +11,7 @@ ghost use Rattle.tabled_text.specs.Measure.{text_columns};
 ghost use Rattle.tabview_print.specs.Fitted.{IsTooNarrow};
 ghost use Rattle.tabview_print.specs.Floors.{cell_floor, content_floor, floors_of, is_name};
 ghost use Rattle.tabview_print.specs.Floors.{keeps_at};
-ghost use Rattle.tabview_print.specs.PrintedTables.{StopsEarly};
+ghost use Rattle.tabview_print.specs.PrintedTables.{StopsBeforePrinting};
 
 use crate::layout::{Column, Fit};
 use std::alloc::Global;
@@ -49,7 +49,7 @@ pub(crate) fn fitting_floors<R: PeekableRecords>(
         (IsTooNarrow fit.now.columns.now fit.now.has_header fit.now.width t)
         (λ f. (f.widths.items ≡ floors_of fit.now.columns.now fit.now.has_header t)
         × ((f.excess ≡ excess) × (excess ≤ spare_total t.widths f.widths.items)))) }
-    ensures only { IfErr result (StopsEarly (estimated (R.cells records.now) config.now)) }
+    ensures only { IfErr result (StopsBeforePrinting (estimated (R.cells records.now) config.now)) }
 {
     let widths = sizes.get_widths().unwrap_or(&[]);
     let floors = column_floors(sizes.allocator(), records, config, fit, widths)?;
@@ -75,7 +75,7 @@ fn column_floors<R: PeekableRecords>(
     ensures ok { IfOk result (λ floors. floors.items
         ≡ floors_of fit.now.columns.now fit.now.has_header
         (estimated (R.cells records.now) config.now)) }
-    ensures only { IfErr result (StopsEarly (estimated (R.cells records.now) config.now)) }
+    ensures only { IfErr result (StopsBeforePrinting (estimated (R.cells records.now) config.now)) }
 {
     let empty = EmptyRecords::new(records.count_rows(), records.count_columns());
     let list = estimate_widths(alloc, &empty, config)?;

@@ -11,7 +11,7 @@ use Rattle.csv.specs.declared.record.ByteRecordIter.{ByteRecordIter}
 use Rattle.csv.specs.declared.reader.Reader.{Reader}
 use Rattle.csv.specs.declared.reader.ReaderBuilder.{ReaderBuilder}
 use Rattle.csv.specs.declared.reader.Trim.TheVariants as trim
-use Rattle.tabview_read.specs.Csv.{BeginsCsv, IsPlain, ReadsCells, ReadsFields, ReadsLossy, cells_of, is_lossy}
+use Rattle.tabview_read.specs.Csv.{BeginsCsv, HasDefaultSyntax, ReadsCells, ReadsFields, ReadsLossy, record_cells, is_lossy}
 use Rattle.tabview_read.specs.declared.csv_rows.CsvOptions.{CsvOptions}
 use Rattle.tabview_read.specs.declared.csv_rows.CsvRows.{CsvRows}
 
@@ -87,7 +87,7 @@ lossy-all bytes a cells row end done =
 -- ---- what reads give
 pub reads_fields : {R : Type 0} (rem : R → Option (List ℕ)) (old new : Reader R) (found : Bool) (fields : List (List ℕ))
     → (reader_trim old ≡ trim.None → Ready old → ReadRecord rem old new found fields) → (reader_trim old ≡ trim.None → took_first new ≡ true)
-    → is_flexible new ≡ is_flexible old → IsPlain old → ReadsFields rem old found fields new
+    → is_flexible new ≡ is_flexible old → HasDefaultSyntax old → ReadsFields rem old found fields new
 reads_fields rem old new found fields reads first flexible plain =
     let read = reads plain.trim plain.ready in
     record {
@@ -98,13 +98,13 @@ reads_fields rem old new found fields reads first flexible plain =
 
 pub reads_lossy : {R : Type 0} (rem : R → Option (List ℕ)) (old new : Reader R) (fields cells : List (List ℕ))
     → (reader_trim old ≡ trim.None → Ready old → ReadRecord rem old new true fields) → (reader_trim old ≡ trim.None → took_first new ≡ true)
-    → is_flexible new ≡ is_flexible old → cells ≡ map utf8_lossy fields → IsPlain old → ReadsLossy rem old true cells new
+    → is_flexible new ≡ is_flexible old → cells ≡ map utf8_lossy fields → HasDefaultSyntax old → ReadsLossy rem old true cells new
 reads_lossy rem old new fields cells reads first flexible are plain =
     record { fields = fields; reads = reads_fields rem old new true fields reads first flexible plain; are = λ _. are }
 
 pub reads_none : {R : Type 0} (rem : R → Option (List ℕ)) (old new : Reader R) (fields cells : List (List ℕ))
     → (reader_trim old ≡ trim.None → Ready old → ReadRecord rem old new false fields) → (reader_trim old ≡ trim.None → took_first new ≡ true)
-    → is_flexible new ≡ is_flexible old → IsPlain old → ReadsLossy rem old false cells new
+    → is_flexible new ≡ is_flexible old → HasDefaultSyntax old → ReadsLossy rem old false cells new
 reads_none rem old new fields cells reads first flexible plain =
     record { fields = fields; reads = reads_fields rem old new false fields reads first flexible plain; are = λ never. absurd (cc) }
 
@@ -113,7 +113,7 @@ pub cells_text : {R : Type 0} (rem : R → Option (List ℕ)) (from to : CsvRows
 cells_text rem from to found cells old new names reads = record {
   fields = cells;
   reads = reads;
-  are = λ _. sym (ap (λ b. cells_of (is_some b) cells) old);
+  are = λ _. sym (ap (λ b. record_cells (is_some b) cells) old);
   names = names;
   lossy = ap is_some new ∙ sym (ap is_some old);
 }
@@ -123,7 +123,7 @@ pub cells_lossy : {R : Type 0} (rem : R → Option (List ℕ)) (from to : CsvRow
 cells_lossy rem from to found cells old new names reads = record {
   fields = reads.fields;
   reads = reads.reads;
-  are = λ is. reads.are is ∙ sym (ap (λ b. cells_of b reads.fields) old);
+  are = λ is. reads.are is ∙ sym (ap (λ b. record_cells b reads.fields) old);
   names = names;
   lossy = new ∙ sym old;
 }

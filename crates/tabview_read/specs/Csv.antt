@@ -11,23 +11,23 @@ use Rattle.tabview_read.specs.declared.csv_rows.CsvRows.{CsvRows}
 use Rattle.tabview_read.specs.declared.row.Row.{Row}
 
 -- the cells of a record: its fields, in which invalid UTF-8 may become U+FFFD
-abbrev pub cells_of : Bool → List (List ℕ) → List (List ℕ)
-cells_of false fields = fields
-cells_of true fields = map utf8_lossy fields
+abbrev pub record_cells : Bool → List (List ℕ) → List (List ℕ)
+record_cells false fields = fields
+record_cells true fields = map utf8_lossy fields
 
 -- whether invalid UTF-8 becomes U+FFFD
 abbrev pub is_lossy : {R : Type 0} → CsvRows R → Bool
 is_lossy s = is_some s.bytes
 
 -- each record that is read is given: its fields aren't trimmed, and the reader takes no names
-pub record IsPlain {R : Type 0} (r : Reader R) : Type 0 where
+pub record HasDefaultSyntax {R : Type 0} (r : Reader R) : Type 0 where
   pub trim : reader_trim r ≡ trim.None
   pub ready : Ready r
 
 -- the next record of the text has these fields, or there is none
 pub record ReadsFields {R : Type 0} (rem : R → Option (List ℕ)) (old : Reader R) (found : Bool) (fields : List (List ℕ)) (new : Reader R) : Type 0 where
   pub read : ReadRecord rem old new found fields
-  pub plain : IsPlain new
+  pub plain : HasDefaultSyntax new
   pub flexible : is_flexible new ≡ is_flexible old
 
 -- the same with U+FFFD for invalid UTF-8
@@ -40,7 +40,7 @@ pub record ReadsLossy {R : Type 0} (rem : R → Option (List ℕ)) (old : Reader
 pub record ReadsCells {R : Type 0} (rem : R → Option (List ℕ)) (from : CsvRows R) (found : Bool) (cells : List (List ℕ)) (to : CsvRows R) : Type 0 where
   pub fields : List (List ℕ)
   pub reads : ReadsFields rem from.reader found fields to.reader
-  pub are : found ≡ true → cells ≡ cells_of (is_lossy from) fields
+  pub are : found ≡ true → cells ≡ record_cells (is_lossy from) fields
   pub names : to.names ≡ from.names
   pub lossy : is_lossy to ≡ is_lossy from
 
@@ -59,7 +59,7 @@ pub record IsCsvReader {R : Type 0} (rem : R → Option (List ℕ)) (o : CsvOpti
 
 -- rows before the first record of an input
 pub record BeginsCsv {R : Type 0} (rem : R → Option (List ℕ)) (o : CsvOptions) (input : R) (s : CsvRows R) : Type 0 where
-  pub plain : IsPlain s.reader
+  pub plain : HasDefaultSyntax s.reader
   pub lossy : is_lossy s ≡ o.lossy
   pub names : s.names ≡ None
   pub reader : IsCsvReader rem o input s.reader

@@ -2,7 +2,7 @@
 ghost use Rattle.csv.specs.Records.{fields_of};
 ghost use Rattle.std.specs.Prelude.{◌≡◌, IfOk, OnOk, map, option_map};
 ghost use Rattle.std.specs.Str.Lossy.{utf8_lossy};
-ghost use Rattle.tabview_read.specs.Csv.{BeginsCsv, CsvGives, IsPlain, ReadsCells, ReadsFields, ReadsLossy};
+ghost use Rattle.tabview_read.specs.Csv.{BeginsCsv, CsvGives, HasDefaultSyntax, ReadsCells, ReadsFields, ReadsLossy};
 
 use crate::error::ReadError;
 use crate::row::{Row, Rows};
@@ -46,7 +46,7 @@ impl<R: Read + Drop> Drop for CsvRows<R> {
 impl<R: Read + Drop> CsvRows<R> {
     /// Begins to read. The first record is read if it has the names.
     pub fn new(alloc: Global, options: CsvOptions, input: R) -> Result<CsvRows<R>, ReadError>
-        ensures { IfOk result (λ rows. IsPlain rows.reader) }
+        ensures { IfOk result (λ rows. HasDefaultSyntax rows.reader) }
     {
         let mut rows = CsvRows::begin(alloc, options, input);
         if options.has_header {
@@ -74,7 +74,7 @@ impl<R: Read + Drop> CsvRows<R> {
 
     /// Takes the names of the columns from the first record, if there is one.
     fn read_names(&mut self) -> Result<(), ReadError>
-        ensures { IsPlain self.old.reader → OnOk result (IsPlain self.new.reader) }
+        ensures { HasDefaultSyntax self.old.reader → OnOk result (HasDefaultSyntax self.new.reader) }
     {
         let mut names = StringRecord::new(self.alloc);
         if self.read_cells(&mut names)? {
@@ -86,7 +86,7 @@ impl<R: Read + Drop> CsvRows<R> {
     /// Reads the cells of the next record, and returns whether there is one.
     #[tactic(auto, using(crate::proofs::CsvRecords::cells_text, crate::proofs::CsvRecords::cells_lossy))]
     fn read_cells(&mut self, cells: &mut StringRecord) -> Result<bool, ReadError>
-        ensures { IfOk result (λ found. IsPlain self.old.reader → ReadsCells R.remaining self.old
+        ensures { IfOk result (λ found. HasDefaultSyntax self.old.reader → ReadsCells R.remaining self.old
             found (fields_of cells.new) self.new) }
     {
         match &mut self.bytes {
@@ -99,7 +99,7 @@ impl<R: Read + Drop> CsvRows<R> {
 /// Reads the next record, and returns whether there is one.
 #[tactic(auto, using(crate::proofs::CsvRecords::reads_fields))]
 fn read_text<R: Read>(reader: &mut Reader<R>, cells: &mut StringRecord) -> Result<bool, ReadError>
-    ensures { IfOk result (λ found. IsPlain reader.old
+    ensures { IfOk result (λ found. HasDefaultSyntax reader.old
         → ReadsFields R.remaining reader.old found (fields_of cells.new) reader.new) }
 {
     match reader.read_record(cells) {
@@ -116,7 +116,7 @@ fn read_lossy<R: Read>(
     bytes: &mut ByteRecord,
     cells: &mut StringRecord,
 ) -> Result<bool, ReadError>
-    ensures { IfOk result (λ found. IsPlain reader.old
+    ensures { IfOk result (λ found. HasDefaultSyntax reader.old
         → ReadsLossy R.remaining reader.old found (fields_of cells.new) reader.new) }
 {
     match reader.read_byte_record(bytes) {
@@ -132,7 +132,7 @@ fn read_lossy<R: Read>(
 impl<R: Read + Drop> Rows for CsvRows<R> {
     ghost names_give = { λ s names. names ≡ option_map fields_of s.names };
 
-    ghost read_gives = { λ from row to. IsPlain from.reader → CsvGives R.remaining from row to };
+    ghost read_gives = { λ from row to. HasDefaultSyntax from.reader → CsvGives R.remaining from row to };
 
     fn names(&self) -> Option<&StringRecord> {
         self.names.as_ref()

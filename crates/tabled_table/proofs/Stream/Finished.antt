@@ -3,7 +3,7 @@ use Rattle.tabled_table.proofs.Names.{AreEnough, AreFirst, AreFurther, AreSniffe
 use Rattle.tabled_table.proofs.Names.{HaltsWithin, HasPut, IsErrAnd, IsInReach, IsLaidOut, IsLimited, IsStreamed, Layout, LineSends, List}
 use Rattle.tabled_table.proofs.Names.{MatchResult, Memory, None, Ok, Option, Range, Result, Sends, Sent, Sheet, Some, Stops, StopsBelow}
 use Rattle.tabled_table.proofs.Names.{StreamSettings, StreamStops, Streams, TableError, WritesBelow, WritesLines, [], ahead, ap, append-nil}
-use Rattle.tabled_table.proofs.Names.{append_assoc, arith, column_count, columns, columns_of, false, fill, filled_picture, filled_width}
+use Rattle.tabled_table.proofs.Names.{append_assoc, arith, column_count, columns, sheet_columns, false, fill, filled_picture, filled_width}
 use Rattle.tabled_table.proofs.Names.{flat_map, frame, if◌then◌else◌, inl, inr, is_empty, layout_columns, left_of, length, length-append}
 use Rattle.tabled_table.proofs.Names.{limited, lines_above, lines_after, lines_after-joined, lines_before, max, picture, range_with_len}
 use Rattle.tabled_table.proofs.Names.{reaches, refl, replicate, row_part, rule, rule_at, rule_if, slice_index, sniffed, spanned_of_compact}
@@ -98,7 +98,7 @@ module _ {settings : StreamSettings} {config : CompactConfig} {ahead_rows : List
       ap (λ b. if b then [] else filled_picture t (filled_width t.config (columns t.cells) t.widths)) filled
       ∙ ap (λ n. filled_picture t (filled_width t.config n t.widths)) count
       ∙ ap (λ n. T ++ (flat_map (row_part t)
-      (range_with_len 0 n) ++ (rule_if (columns_of t) (rule_at t.config (length t.cells) (length t.cells)) ++ B (frame t.config) W))) some
+      (range_with_len 0 n) ++ (rule_if (sheet_columns t) (rule_at t.config (length t.cells) (length t.cells)) ++ B (frame t.config) W))) some
       ∙ ap (λ c. T ++ (R ++ (rule_if c (rule_at t.config (length t.cells) (length t.cells)) ++ B (frame t.config) W))) sheet
       ∙ ap (λ c. T ++ (R ++ (rule_if (layout_columns layout) c ++ B (frame t.config) W))) below
       ∙ ap (λ f. T ++ (R ++ (rule_if (layout_columns layout) layout.bottom ++ B f W))) around

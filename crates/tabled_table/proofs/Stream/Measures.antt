@@ -1,7 +1,7 @@
 -- What is measured of rows, cell by cell and row by row.
 use Rattle.tabled_table.proofs.Names.{AreFirst, CellStyle, ColumnSheet, CompactConfig, HorizontalLine, IsLaidOut, IsMarkedRow, IsStreamed}
 use Rattle.tabled_table.proofs.Names.{Layout, List, MatchOption, None, Option, Sheet, Some, StreamSettings, [], ahead, ap, arith}
-use Rattle.tabled_table.proofs.Names.{below_more, cases_lt, cell_at, get_or_past, column_count, columns, columns_of, content_width}
+use Rattle.tabled_table.proofs.Names.{below_more, cases_lt, cell_at, get_or_past, column_count, columns, sheet_columns, content_width}
 use Rattle.tabled_table.proofs.Names.{each-more, false, fits-none, flat_map, frame, get_or, get_or-map, greatest, if◌then◌else◌}
 use Rattle.tabled_table.proofs.Names.{layout_columns, length, length-map, length-take, limited, lines_of, longest, map, map-append}
 use Rattle.tabled_table.proofs.Names.{mapped_same, max, min, nat_tests, range_with_len, record_lines, refl, row_lines, row_part, rule}
@@ -60,7 +60,7 @@ part-of : ColumnSheet → Option HorizontalLine → ℕ → (ℕ → List ℕ) �
 part-of sheet line height text style = rule_if sheet line ++ row_lines (record { columns = sheet; height = height; text = text; style = style })
 
 part-is : (t : Sheet) (k : ℕ)
-    → row_part t k ≡ part-of (columns_of t) (rule_at t.config (length t.cells) k) (slice_index t.heights k) (cell_at t.cells k) (style_at t.config k)
+    → row_part t k ≡ part-of (sheet_columns t) (rule_at t.config (length t.cells) k) (slice_index t.heights k) (cell_at t.cells k) (style_at t.config k)
 unfolding row_part rule part-of
 part-is t k = refl
 
@@ -74,7 +74,7 @@ widths-laid {settings} {config} {ahead_rows} {layout} l =
 module _ {settings : StreamSettings} {config : CompactConfig} {ahead_rows rows : List (List (List ℕ))} {layout : Layout} {t : Sheet} where
   -- the columns of a table with a row
   pub columns-laid : IsLaidOut settings config ahead_rows layout → IsStreamed settings config ahead_rows rows t → 0 < length rows
-      → columns_of t ≡ layout_columns layout
+      → sheet_columns t ≡ layout_columns layout
   columns-laid l s h =
       let wide : columns t.cells ≡ layout.count =
       columns-head t.cells

@@ -5,7 +5,7 @@ use Rattle.tabled_table.proofs.Names.{refl, ℕ, ⊎_elim, ◌∙◌, ◌≡◌}
 use Rattle.tabled_base.specs.declared.error.TableError.TheVariants.{Writer}
 use Rattle.tabled_line.specs.WriterSent.{named_sent}
 use Rattle.tabled_line.proofs.Writers.{LeavesSo, byte_of, writer-leaves, writer-sends}
-use Rattle.tabled_table.specs.Stream.Streams.{BuildsStream, StopsAtEnd, StopsAtRow, StopsEarly, StopsInRows, Came}
+use Rattle.tabled_table.specs.Stream.Streams.{BuildsStream, StopsAtEnd, StopsAtRow, StopsBeforeStreaming, StopsInRows, Came}
 use Rattle.std.specs.declared.option.Option.{Option}
 use Rattle.std.specs.Iterator.{Count}
 use Rattle.tabled_base.specs.RowsGiven.{RowsBegin, RowsEnd}
@@ -25,7 +25,7 @@ below-so above text so p = record { stops = so.stops text p.stops; more = p.more
 stops-so : {a b a' b' : Sent} {e : TableError} (settings : StreamSettings) (config : CompactConfig) (rows : List (List (List ℕ))) (whole : Bool)
     → LeavesSo a b e a' b' → StreamStops settings config rows whole a e b → StreamStops settings config rows whole a' e b'
 stops-so {a} {b} {a'} {b'} {e} settings config rows whole so h =
-    let early : StopsEarly settings config rows whole a e b → StopsEarly settings config rows whole a' e b' =
+    let early : StopsBeforeStreaming settings config rows whole a e b → StopsBeforeStreaming settings config rows whole a' e b' =
     λ p. record { same = so.same (⊎_elim (λ c. not_range e c.0) (λ c. not_memory e c.0) p.cause) p.same; cause = p.cause } in
     let at_row : StopsAtRow settings config rows whole a e b → StopsAtRow settings config rows whole a' e b' =
     λ p. record {

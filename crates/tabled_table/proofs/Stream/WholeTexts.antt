@@ -1,7 +1,7 @@
 -- The table of the first of some rows goes on to the table of all.
 use Rattle.tabled_table.proofs.Names.{AreTexts, ColumnSheet, CompactConfig, HorizontalLine, IsCut, IsCutCell, IsCutRow, IsMarkedRow, IsStreamed, IsUtf8, List}
 use Rattle.tabled_table.proofs.Names.{None, Option, Sheet, StreamSettings, [], ap, append-nil, append_assoc, arith, cases_lt, column_count}
-use Rattle.tabled_table.proofs.Names.{columns, columns_of, content_width, false, fill, filled_picture, filled_width, flat_map, frame}
+use Rattle.tabled_table.proofs.Names.{columns, sheet_columns, content_width, false, fill, filled_picture, filled_width, flat_map, frame}
 use Rattle.tabled_table.proofs.Names.{get_or, get_or-append_right, get_or-take, get_or_append_left, if◌then◌else◌, inl, inr, is_empty}
 use Rattle.tabled_table.proofs.Names.{join_with_byte, length, length-append, length-map-range_with_len, length-take, lengthened}
 use Rattle.tabled_table.proofs.Names.{lines_above, lines_after, lines_after-append, lines_after-joined, map, picture, range_with_len, refl}
@@ -180,7 +180,7 @@ module _ {settings : StreamSettings} {config : CompactConfig} {ahead_rows : List
       let long = length-append t.cells cells in
       let part : ColumnSheet → Option HorizontalLine → List (List ℕ) → ℕ → List (List ℕ) =
       λ sheet line row height. rule_if sheet line ++ row_lines (record { columns = sheet; height = height; text = λ column. get_or row column []; style = style_at t.config k }) in
-      let wide : columns_of u ≡ columns_of t =
+      let wide : sheet_columns u ≡ sheet_columns t =
       ap (λ count. record { count = count; width = slice_index t.widths; frame = frame t.config }) (columns-before t.cells cells (omega arith)) in
       let line : rule_at t.config m k ≡ rule_at t.config n k =
       ap (λ g. rule_at g m k) s.settings_of ∙ rule-above config m k (omega arith) ∙ sym (rule-above config n k (omega arith))
@@ -188,9 +188,9 @@ module _ {settings : StreamSettings} {config : CompactConfig} {ahead_rows : List
       let row : get_or u.cells k [] ≡ get_or t.cells k [] = get_or_append_left t.cells cells [] k (omega arith) in
       let height : slice_index u.heights k ≡ slice_index t.heights k = get_or_append_left t.heights heights 0 k (omega arith) in
       ap (λ sheet. part sheet (rule_at t.config m k) (get_or u.cells k []) (slice_index u.heights k)) wide
-      ∙ ap (λ l. part (columns_of t) l (get_or u.cells k []) (slice_index u.heights k)) line
-      ∙ ap (λ r. part (columns_of t) (rule_at t.config n k) r (slice_index u.heights k)) row
-      ∙ ap (λ x. part (columns_of t) (rule_at t.config n k) (get_or t.cells k []) x) height
+      ∙ ap (λ l. part (sheet_columns t) l (get_or u.cells k []) (slice_index u.heights k)) line
+      ∙ ap (λ r. part (sheet_columns t) (rule_at t.config n k) r (slice_index u.heights k)) row
+      ∙ ap (λ x. part (sheet_columns t) (rule_at t.config n k) (get_or t.cells k []) x) height
 
   pub above-kept : {shown : List (List (List ℕ))} {t : Sheet} (cells : List (List (List ℕ))) (heights : List ℕ) (count : ℕ)
       → IsStreamed settings config ahead_rows shown t

@@ -6,7 +6,7 @@ use Rattle.tabled_size.specs.declared.const_dimension.ZeroDimension.{ZeroDimensi
 use Rattle.tabled_table.specs.declared.iter_table.IterTable.{IterTable}
 
 -- an option's change, or what it leaves when it fails
-pub record IsApplied {I : Type 0} (changes : I → CompactConfig → ZeroDimension → I → CompactConfig → ZeroDimension → Type 0)
+pub record IsAppliedToStream {I : Type 0} (changes : I → CompactConfig → ZeroDimension → I → CompactConfig → ZeroDimension → Type 0)
     (old new : IterTable I) : Type 0 where
   pub before : ZeroDimension
   pub after : ZeroDimension

@@ -107,7 +107,7 @@ pub record StopsAtEnd (settings : StreamSettings) (config : CompactConfig) (rows
 
 -- an error before the first byte: the total width is out of range, or an allocation failed, which
 -- happens only if a row was read
-pub record StopsEarly (settings : StreamSettings) (config : CompactConfig) (rows : List (List (List ℕ))) (whole : Bool)
+pub record StopsBeforeStreaming (settings : StreamSettings) (config : CompactConfig) (rows : List (List (List ℕ))) (whole : Bool)
     (old : Sent) (error : TableError) (new : Sent) : Type 0 where
   pub same : new ≡ old
   pub cause : ((error ≡ Range) × AreSniffed settings rows whole × IsFilled settings rows
@@ -123,7 +123,7 @@ pub record StreamSends (settings : StreamSettings) (config : CompactConfig) (row
 -- why a stream stops
 abbrev pub StreamStops : StreamSettings → CompactConfig → List (List (List ℕ)) → Bool → Sent → TableError → Sent → Type 0
 StreamStops settings config rows whole old error new =
-    StopsEarly settings config rows whole old error new
+    StopsBeforeStreaming settings config rows whole old error new
     ⊎ (StopsAtRow settings config rows whole old error new
     ⊎ (StopsInRows settings config rows whole old error new ⊎ StopsAtEnd settings config rows whole old error new))
 

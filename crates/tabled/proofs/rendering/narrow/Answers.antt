@@ -1,4 +1,4 @@
-use Rattle.tabled.proofs.Names.{AreCleared, Buffered, Cut, IsMade, Memory, None, Plan, Range, Row, Sheet, Shortened, Some, TableError}
+use Rattle.tabled.proofs.Names.{AreCleared, Buffered, Cut, IsReadyOf, Memory, None, Plan, Range, Row, Sheet, Shortened, Some, TableError}
 use Rattle.tabled.proofs.Names.{Wrapped, [], ap, arith, effective, effective_estimated, estimated, false, measured, refl, rules, subst, sym}
 use Rattle.tabled.proofs.Names.{⊎_elim, ◌∙◌, ◌≡◌, ◌⊎◌}
 use Rattle.std.proofs.lemmas.Grind.{common_steps}
@@ -38,7 +38,7 @@ returns-in_ok-wrapped-in-Wrapped-clause-made c =
     let cleared : AreCleared (Some (Row 0)) left last = record { widths = c.clear_height.ensures.widths; heights = c.clear_height.ensures.heights } in
     let made = wrapped w.priority start w.size cells after config none left last c.requires.no_widths c.requires.no_heights
     c.requires.rectangular c.requires.texts w.transform.keep_words c.in_ok-wrapped-in-Wrapped.ensures.ok cleared (c.in_ok-wrapped-in-Wrapped.ensures.promised last cleared) in
-    subst (λ (p : Plan). IsMade p (estimated cells config) (effective after config last)) (plan ∙ sym (ap measured c.in-Wrapped.is)) made
+    subst (λ (p : Plan). IsReadyOf p (estimated cells config) (effective after config last)) (plan ∙ sym (ap measured c.in-Wrapped.is)) made
 
 pub returns-in_ok-truncated-in-Shortened-clause-made : goal.returns-in_ok-truncated-in-Shortened-clause-made
 returns-in_ok-truncated-in-Shortened-clause-made c =
@@ -59,7 +59,7 @@ returns-in_ok-truncated-in-Shortened-clause-made c =
     let promise = rw (suffix, limit, multiline) at (c.in_ok-truncated-in-Shortened.ensures.promised last cleared) in
     let made = truncated w.priority start w.size cells after config none last last c.requires.no_widths c.requires.no_heights
     c.requires.rectangular c.requires.texts narrows cleared promise in
-    subst (λ (p : Plan). IsMade p (estimated cells config) (effective after config last)) (plan ∙ sym (ap measured c.in-Shortened.is)) made
+    subst (λ (p : Plan). IsReadyOf p (estimated cells config) (effective after config last)) (plan ∙ sym (ap measured c.in-Shortened.is)) made
 
 pub returns-in-Buffered-clause-made : goal.returns-in-Buffered-clause-made
 returns-in-Buffered-clause-made c =
@@ -68,5 +68,5 @@ returns-in-Buffered-clause-made c =
     let none = c.args.sizes.now in
     let plan : measured c.args.plan ≡ Buffered = ⊎_elim (λ e. ap measured e) (λ e. ap measured e) c.in-Buffered.is in
     let same = effective_estimated cells config none c.requires.no_widths c.requires.no_heights in
-    subst (λ (p : Plan). IsMade p (estimated cells config) (effective cells config none)) (sym plan)
-    (subst (λ (t : Sheet). IsMade Buffered (estimated cells config) t) (sym same) (buffered_made cells config c.requires.rectangular c.requires.texts))
+    subst (λ (p : Plan). IsReadyOf p (estimated cells config) (effective cells config none)) (sym plan)
+    (subst (λ (t : Sheet). IsReadyOf Buffered (estimated cells config) t) (sym same) (buffered_made cells config c.requires.rectangular c.requires.texts))

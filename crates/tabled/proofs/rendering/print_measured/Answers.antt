@@ -1,4 +1,4 @@
-use Rattle.tabled.proofs.Names.{IsMade, Option, Some, ap, effective, estimated, is_stored, measured, not, subst, ◌∙◌}
+use Rattle.tabled.proofs.Names.{IsReadyOf, Option, Some, ap, effective, estimated, is_stored, measured, not, subst, ◌∙◌}
 use Rattle.tabled_set.specs.NarrowedCells.{cells_of_or}
 use Rattle.tabled_set.specs.declared.narrowed_cells.NarrowedRows.{NarrowedRows}
 use Rattle.tabled.proofs.RenderedTables.{prints_made}
@@ -10,7 +10,7 @@ returns-in-Some-Cut g c =
     let sizes = c.narrow.new.sizes in
     let config = c.args.config.now in
     let whole = estimated cells config in
-    let made = subst (λ (o : Option NarrowedRows). IsMade (measured c.args.plan) whole (effective (cells_of_or o cells) config sizes))
+    let made = subst (λ (o : Option NarrowedRows). IsReadyOf (measured c.args.plan) whole (effective (cells_of_or o cells) config sizes))
     (c.in-Some-Cut.is ∙ ap Some c.in-Some-Cut.field-0-is) c.in_ok-cells.ensures.made in
     prints_made (measured c.args.plan) whole (not (is_stored sizes)) (effective c.in-Some-Cut.cells config sizes) (g.S.TextSink.sent c.args.sink.now)
     c.print_standing.result (g.S.TextSink.sent c.print_standing.new.sink) made c.print_standing.ensures
@@ -21,7 +21,7 @@ returns-in-Some-Wrapped g c =
     let sizes = c.narrow.new.sizes in
     let config = c.args.config.now in
     let whole = estimated cells config in
-    let made = subst (λ (o : Option NarrowedRows). IsMade (measured c.args.plan) whole (effective (cells_of_or o cells) config sizes))
+    let made = subst (λ (o : Option NarrowedRows). IsReadyOf (measured c.args.plan) whole (effective (cells_of_or o cells) config sizes))
     (c.in-Some-Wrapped.is ∙ ap Some c.in-Some-Wrapped.field-0-is) c.in_ok-cells.ensures.made in
     prints_made (measured c.args.plan) whole (not (is_stored sizes)) (effective c.in-Some-Wrapped.cells config sizes) (g.S.TextSink.sent c.args.sink.now)
     c.print_standing-in-Some-Wrapped.result (g.S.TextSink.sent c.print_standing-in-Some-Wrapped.new.sink) made c.print_standing-in-Some-Wrapped.ensures
@@ -32,7 +32,7 @@ returns-in-Some-Made g c =
     let sizes = c.narrow.new.sizes in
     let config = c.args.config.now in
     let whole = estimated cells config in
-    let made = subst (λ (o : Option NarrowedRows). IsMade (measured c.args.plan) whole (effective (cells_of_or o cells) config sizes))
+    let made = subst (λ (o : Option NarrowedRows). IsReadyOf (measured c.args.plan) whole (effective (cells_of_or o cells) config sizes))
     (c.in-Some-Made.is ∙ ap Some c.in-Some-Made.field-0-is) c.in_ok-cells.ensures.made in
     prints_made (measured c.args.plan) whole (not (is_stored sizes)) (effective c.in-Some-Made.cells config sizes) (g.S.TextSink.sent c.args.sink.now)
     c.print_standing-in-Some-Made.result (g.S.TextSink.sent c.print_standing-in-Some-Made.new.sink) made c.print_standing-in-Some-Made.ensures
@@ -43,6 +43,6 @@ returns g c =
     let sizes = c.narrow.new.sizes in
     let config = c.args.config.now in
     let whole = estimated cells config in
-    let made = subst (λ (o : Option NarrowedRows). IsMade (measured c.args.plan) whole (effective (cells_of_or o cells) config sizes)) c.in-None.is c.in_ok-cells.ensures.made in
+    let made = subst (λ (o : Option NarrowedRows). IsReadyOf (measured c.args.plan) whole (effective (cells_of_or o cells) config sizes)) c.in-None.is c.in_ok-cells.ensures.made in
     prints_made (measured c.args.plan) whole (not (is_stored sizes)) (effective cells config sizes) (g.S.TextSink.sent c.args.sink.now)
     c.print_standing-in-None.result (g.S.TextSink.sent c.print_standing-in-None.new.sink) made c.print_standing-in-None.ensures

@@ -6,7 +6,7 @@ use Rattle.std.proofs.lemmas.List.{length-map}
 use Rattle.std.proofs.lemmas.Str.{IsCharBoundary-start}
 use Rattle.tabled_c.specs.Asked.{IsCounted}
 use Rattle.tabled_c.specs.Cells.{in_rows, texts_at}
-use Rattle.tabled_c.specs.Printed.{AreCells, IsCellsCause, cells_of}
+use Rattle.tabled_c.specs.Printed.{AreCells, IsCellsCause, unpacked_cells}
 use Rattle.tabled_c.proofs.CellEnds.{now, texts_count, texts_utf8}
 use Rattle.tabled_c.proofs.Given.{cells_failed, cells_given, no_texts, unread_cells}
 use Rattle.tabled_c.proofs.Returning.{passed_on}
@@ -22,7 +22,7 @@ returns-in_err-texts-clause-err c =
     let packed = c.args.cells.now in
     let layout = c.args.layout.now in
     passed_on (IsCellsCause packed layout) _ _ c.from_residual-in_err-texts.ensures.1
-    (no_texts (cells_of packed layout) layout c.in_ok-format.format c.in_ok-format.ensures.ok packed _ c.in_err-texts.ensures.err)
+    (no_texts (unpacked_cells packed layout) layout c.in_ok-format.format c.in_ok-format.ensures.ok packed _ c.in_err-texts.ensures.err)
 
 pub texts_table-requires-clause-texts : goal.texts_table-requires-clause-texts
 texts_table-requires-clause-texts c =

@@ -1,4 +1,4 @@
-use Rattle.tabled.proofs.Names.{AreCleared, Cut, IsMade, None, Row, Sheet, Shrinks, Some, TruncatesAsPromised, WrapsAsPromised}
+use Rattle.tabled.proofs.Names.{AreCleared, Cut, IsReadyOf, None, Row, Sheet, Shrinks, Some, TruncatesAsPromised, WrapsAsPromised}
 use Rattle.tabled.proofs.Names.{[], ap, arith, effective, effective_estimated, estimated, false, measured, refl, rules, subst, sym, ⊎_elim, ◌∙◌, ◌≡◌}
 use Rattle.tabled.specs.declared.arguments.Plan.{Plan}
 use Rattle.tabled.specs.declared.arguments.Plan.TheVariants.{Buffered, Shortened, Wrapped}
@@ -41,8 +41,8 @@ returns-in_ok-change-in-Wrapped-clause-made c =
     done.ok.1 (done.promised last cleared) in
     let made = wrapped w.priority start w.size cells after config none left last c.requires.no_widths c.requires.no_heights
     c.requires.rectangular c.requires.texts w.transform.keep_words done.ok.0 cleared promise in
-    subst (λ (k : ColoredConfig). IsMade (measured c.args.plan) (estimated cells config) (effective after k.config last)) (sym done.ok.1)
-    (subst (λ (p : Plan). IsMade p (estimated cells config) (effective after config last)) (plan ∙ sym (ap measured c.in-Wrapped.is)) made)
+    subst (λ (k : ColoredConfig). IsReadyOf (measured c.args.plan) (estimated cells config) (effective after k.config last)) (sym done.ok.1)
+    (subst (λ (p : Plan). IsReadyOf p (estimated cells config) (effective after config last)) (plan ∙ sym (ap measured c.in-Wrapped.is)) made)
 
 pub returns-in_ok-change-in-Shortened-clause-made : goal.returns-in_ok-change-in-Shortened-clause-made
 returns-in_ok-change-in-Shortened-clause-made c =
@@ -66,8 +66,8 @@ returns-in_ok-change-in-Shortened-clause-made c =
     done.ok.1 promise in
     let made = truncated w.priority start w.size cells after config none last last c.requires.no_widths c.requires.no_heights
     c.requires.rectangular c.requires.texts narrows cleared kept in
-    subst (λ (k : ColoredConfig). IsMade (measured c.args.plan) (estimated cells config) (effective after k.config last)) (sym done.ok.1)
-    (subst (λ (p : Plan). IsMade p (estimated cells config) (effective after config last)) (plan ∙ sym (ap measured c.in-Shortened.is)) made)
+    subst (λ (k : ColoredConfig). IsReadyOf (measured c.args.plan) (estimated cells config) (effective after k.config last)) (sym done.ok.1)
+    (subst (λ (p : Plan). IsReadyOf p (estimated cells config) (effective after config last)) (plan ∙ sym (ap measured c.in-Shortened.is)) made)
 
 pub returns-in-Buffered-clause-made : goal.returns-in-Buffered-clause-made
 returns-in-Buffered-clause-made c =
@@ -76,5 +76,5 @@ returns-in-Buffered-clause-made c =
     let none = c.args.sizes.now in
     let plan : measured c.args.plan ≡ Buffered = ⊎_elim (λ e. ap measured e) (λ e. ap measured e) c.in-Buffered.is in
     let same = effective_estimated cells config none c.requires.no_widths c.requires.no_heights in
-    subst (λ (p : Plan). IsMade p (estimated cells config) (effective cells config none)) (sym plan)
-    (subst (λ (t : Sheet). IsMade Buffered (estimated cells config) t) (sym same) (buffered_made cells config c.requires.rectangular c.requires.texts))
+    subst (λ (p : Plan). IsReadyOf p (estimated cells config) (effective cells config none)) (sym plan)
+    (subst (λ (t : Sheet). IsReadyOf Buffered (estimated cells config) t) (sym same) (buffered_made cells config c.requires.rectangular c.requires.texts))

@@ -1,5 +1,5 @@
 use Rattle.tabled_extended.proofs.Names.{IsTruncated, arith, refl}
-use Rattle.tabled_extended.specs.Truncated.{IsFailure}
+use Rattle.tabled_extended.specs.Truncated.{StopsAtText}
 use Rattle.tabled_extended.proofs.Stopped.{so_far-all, so_far-long, so_far-more, so_far-none, so_far-stopped}
 use Rattle.tabled_extended.proofs.CutOff.{err-with}
 use Rattle.tabled_extended.proofs.truncating.truncate_row.Goals as goal
@@ -15,7 +15,7 @@ texts-preserved c =
 pub returns-in_err-truncate_text-clause-err : goal.returns-in_err-truncate_text-clause-err
 returns-in_err-truncate_text-clause-err c =
     let long = so_far-long c.texts.invariant in
-    let stop = so_far-stopped (IsFailure c.args.suffix.now c.args.width_limit) c.texts.invariant (omega (arith, long))
+    let stop = so_far-stopped (StopsAtText c.args.suffix.now c.args.width_limit) c.texts.invariant (omega (arith, long))
     c.index_mut.ensures.value
     c.in_err-truncate_text.ensures.err refl in
     err-with _ stop c.from_residual.ensures.0

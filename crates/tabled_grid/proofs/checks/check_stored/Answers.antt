@@ -1,4 +1,4 @@
-use Rattle.tabled_grid.proofs.Names.{IsFailure, ap, columns, effective, estimated_heights, estimated_widths, heights_length, heights_of}
+use Rattle.tabled_grid.proofs.Names.{FailsToPrint, ap, columns, effective, estimated_heights, estimated_widths, heights_length, heights_of}
 use Rattle.tabled_grid.proofs.Names.{length, reached, stored_at, subst, sym, widths_length, widths_of, ◌<◌, ◌∙◌, ◌≤◌}
 use Rattle.std.proofs.Common.{option_map}
 use Rattle.tabled_grid.proofs.EffectiveSizes.{handed_on, held_estimated, held_stored, high_refused, narrow_refused, narrow_stored}
@@ -11,7 +11,7 @@ returns-in_err-check_widths-in-Some g c =
     let stored = c.args.stored.now in
     let some = sym c.get_widths.ensures ∙ ap (option_map (λ s. s.now)) c.in-Some.is in
     let cause = c.in_err-check_widths-in-Some.ensures.err in
-    let P = IsFailure (effective cells c.args.config.now stored) in
+    let P = FailsToPrint (effective cells c.args.config.now stored) in
     handed_on _ P c.from_residual.result _ c.from_residual.ensures.1
     (subst P (sym cause.0) (sizes_short (widths_of stored) c.in-Some.field-0.now (estimated_widths cells c.args.config.now) (columns cells) _
     c.count_columns.ensures.columns some cause.1))

@@ -1,4 +1,4 @@
-use Rattle.tabled_grid.proofs.Names.{LineSends, columns_of, false, fill, flat_map, frame, range_with_len, replicate, row_part, ◌++◌, ◌≡◌}
+use Rattle.tabled_grid.proofs.Names.{LineSends, sheet_columns, false, fill, flat_map, frame, range_with_len, replicate, row_part, ◌++◌, ◌≡◌}
 use Rattle.tabled_line.specs.LineCache.{IsCacheOf}
 use Rattle.tabled_grid.proofs.print.write_picture.Given as goal
 
@@ -9,5 +9,5 @@ invariant-rows g l =
       printed : LineSends (g.S.TextSink.sent l.fn.sink) false (g.S.TextSink.sent l.sink) l.lines.begun
           (replicate top.size (fill top.fill l.whole) ++ flat_map (row_part l.grid) (range_with_len 0 l.row));
       same : l.lines.columns.grid.now ≡ l.grid;
-      kept : IsCacheOf (columns_of l.lines.columns.grid.now) l.lines.kept;
+      kept : IsCacheOf (sheet_columns l.lines.columns.grid.now) l.lines.kept;
     }

@@ -1,4 +1,4 @@
-use Rattle.tabled_priority.proofs.Names.{arith, columns_of, first_of, inl, inr, is_open, last_of, nat_tests, one_if, start, start_of, subst}
+use Rattle.tabled_priority.proofs.Names.{arith, ramp_count, first_of, inl, inr, is_open, last_of, nat_tests, one_if, start, start_of, subst}
 use Rattle.tabled_priority.proofs.Names.{sum_below-prefix, sym, true, ℕ, ◌+◌, ◌-◌, ◌<◌, ◌∙◌, ◌≡◌, ◌≤◌}
 use Rattle.std.proofs.Common.{MatchBool}
 use Rattle.tabled_priority.specs.Laws.Round.{start-le}
@@ -12,13 +12,13 @@ returns-then-is_from_right-clause-span c =
     let o = c.count_open-open.ensures.count in
     let nth = c.nth_open-first.ensures.nth in
     let enough = c.requires.enough in
-    span_right (first_of ramps) (last_of ramps) (columns_of ramps) c.args.reached.level
+    span_right (first_of ramps) (last_of ramps) (ramp_count ramps) c.args.reached.level
     c.args.reached.rest c.nth_open-first.result c.nth_open-first.ensures.inside (omega arith)
 
 pub returns-then-is_from_right-clause-side : goal.returns-then-is_from_right-clause-side
 returns-then-is_from_right-clause-side c =
     let ramps = c.args.ramps.now in
-    let n = columns_of ramps in
+    let n = ramp_count ramps in
     let inside = c.nth_open-first.ensures.inside in
     subst (λ b. MatchBool b (n - 1 + 1 ≡ n) ((c.nth_open-first.result ≡ start (start_of ramps.schedule) n)
     × (is_open (first_of ramps) (last_of ramps) c.args.reached.level (n - 1) ≡ true)))
@@ -32,9 +32,9 @@ overflow_sub-ahead c =
     let ramps = c.args.ramps.now in
     let from = first_of ramps in
     let to = last_of ramps in
-    let s = start_within (start_of ramps.schedule) (columns_of ramps) in
-    let within : c.start-first.result ≤ columns_of ramps = (let e = c.start-first.ensures in omega arith) in
-    let p = sum_below-prefix (λ i. one_if (is_open from to c.args.reached.level i)) c.start-first.result (columns_of ramps) within in
+    let s = start_within (start_of ramps.schedule) (ramp_count ramps) in
+    let within : c.start-first.result ≤ ramp_count ramps = (let e = c.start-first.ensures in omega arith) in
+    let p = sum_below-prefix (λ i. one_if (is_open from to c.args.reached.level i)) c.start-first.result (ramp_count ramps) within in
     let a = c.count_open-before.ensures.count in
     let b = c.count_open-open.ensures.count in
     omega arith
@@ -44,7 +44,7 @@ returns-clause-span c =
     let ramps = c.args.ramps.now in
     let from = first_of ramps in
     let to = last_of ramps in
-    let n = columns_of ramps in
+    let n = ramp_count ramps in
     let level = c.args.reached.level in
     let inside = c.nth_open-last.ensures.inside in
     let first = c.start-first.result in
@@ -63,7 +63,7 @@ returns-clause-span c =
 pub returns-clause-side : goal.returns-clause-side
 returns-clause-side c =
     let ramps = c.args.ramps.now in
-    let n = columns_of ramps in
+    let n = ramp_count ramps in
     subst (λ b. MatchBool b (c.nth_open-last.result + 1 ≡ n) ((c.start-first.result ≡ start (start_of ramps.schedule) n)
     × (is_open (first_of ramps) (last_of ramps) c.args.reached.level c.nth_open-last.result ≡ true)))
     (sym c.if-is_from_right.false ∙ c.is_from_right.ensures) (c.start-first.ensures, c.nth_open-last.ensures.opened)

@@ -1,4 +1,4 @@
-use Rattle.tabled_priority.proofs.Names.{Depths, Gains, Heights, IsBase, IsReached, List, Rounds, Schedule, arith, at, columns_of, first_of}
+use Rattle.tabled_priority.proofs.Names.{Depths, Gains, Heights, IsBase, IsReached, List, Rounds, Schedule, arith, at, ramp_count, first_of}
 use Rattle.tabled_priority.proofs.Names.{greatest_usize, last_level, last_of, open_count, subst, sym, total_amount, ℕ, ◌*◌, ◌+◌, ◌-◌, ◌<◌}
 use Rattle.tabled_priority.proofs.Names.{◌≡◌, ◌≤◌}
 use Rattle.std.proofs.Common.{◌/◌, ◌%◌}
@@ -31,7 +31,7 @@ ends (Gains _) values mins i h = grind arith
 pub nonzero_div-levels : goal.nonzero_div-levels
 nonzero_div-levels c =
     let ramps = c.args.ramps.now in
-    let o = open_some (first_of ramps) (last_of ramps) (columns_of ramps) c.args.wanted c.find_base-base.result
+    let o = open_some (first_of ramps) (last_of ramps) (ramp_count ramps) c.args.wanted c.find_base-base.result
     greatest_usize c.find_base-base.ensures.base c.requires.enough in
     omega arith
 
@@ -40,9 +40,9 @@ returns-clause-reached c =
     let ramps = c.args.ramps.now in
     let b = c.find_base-base.ensures.base in
     let below = b.below in
-    let o = open_some (first_of ramps) (last_of ramps) (columns_of ramps) c.args.wanted c.find_base-base.result
+    let o = open_some (first_of ramps) (last_of ramps) (ramp_count ramps) c.args.wanted c.find_base-base.result
     greatest_usize b c.requires.enough in
-    parted (first_of ramps) (last_of ramps) (columns_of ramps) c.args.wanted c.find_base-base.result
+    parted (first_of ramps) (last_of ramps) (ramp_count ramps) c.args.wanted c.find_base-base.result
     c.count_open-open.result (c.args.wanted - c.total_amount.result) b c.count_open-open.ensures.count (omega arith) (omega arith)
 
 pub returns-clause-below : goal.returns-clause-below
@@ -51,7 +51,7 @@ returns-clause-below c =
     let r = returns-clause-reached c in
     let some = r.some in
     let enough = r.enough in
-    open_below (first_of ramps) (last_of ramps) (columns_of ramps)
+    open_below (first_of ramps) (last_of ramps) (ramp_count ramps)
     (c.find_base-base.result + (c.args.wanted - c.total_amount.result - 1) / c.count_open-open.result) greatest_usize
     (λ i _. ends ramps.schedule ramps.values.now ramps.mins.now i (let f = c.total_amount.ensures.values_fit i in omega (arith, f))) (omega arith)
 

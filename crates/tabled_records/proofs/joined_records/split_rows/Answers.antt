@@ -2,7 +2,7 @@ use Rattle.tabled_records.proofs.Names.{All-nil, AreRanges, [], ap, arith, false
 use Rattle.tabled_records.proofs.Names.{lines_of, rows_in, slice_range, subst, sym, texts_from, true, ℕ, ◌++◌, ◌+◌, ◌-◌, ◌<◌, ◌∙◌, ◌∷◌, ◌≡◌, ◌≤◌}
 use Rattle.tabled_records.proofs.Cutting.{split-begun, IsWithin, cut-feed, cut-tab, cut-start, lent-next, no-feed, placed-next, plain-next, rows-cut}
 use Rattle.tabled_records.proofs.Cutting.{within-end, within-more, within-run}
-use Rattle.tabled_base.specs.Printable.{IsPrintable}
+use Rattle.tabled_base.specs.Printable.{IsPrintableAscii}
 use Rattle.tabled_records.proofs.Rows.{rows-lines}
 use Rattle.tabled_records.proofs.joined_records.split_rows.Goals as goal
 
@@ -13,7 +13,7 @@ bytes-init c =
       split-begun c.args.text.now c.as_bytes-bytes.result.now [] [] 0 0 at.result true c.as_bytes-bytes.ensures.value
           (cut-start c.args.text.now c.utf8.text) (omega arith) at.ensures.end at.ensures.passed,
       λ _. refl,
-      λ _. All-nil IsPrintable,
+      λ _. All-nil IsPrintableAscii,
     )
 
 pub bytes-preserved-then-byte-ne10 : goal.bytes-preserved-then-byte-ne10
@@ -130,7 +130,7 @@ invariant_of-result c =
     omega (arith, c.bytes.invariant.0.inside, ap length c.as_bytes-bytes.ensures.value, c.bytes-test.false) in
     let plain = plain-next c.args.text.now c.bytes.cells c.cell_columns-columns-2.result c.bytes.start (length c.as_bytes-bytes.result.now)
     c.bytes.all_printable c.bytes.printable cut.starts c.bytes.invariant.2 c.bytes.invariant.1
-    (λ p. subst (λ n. IsPrintable (slice_range c.args.text.now c.bytes.start n)) last (c.bytes.invariant.0.printable p)) in
+    (λ p. subst (λ n. IsPrintableAscii (slice_range c.args.text.now c.bytes.start n)) last (c.bytes.invariant.0.printable p)) in
     let all = placed-next c.bytes.cells c.bytes.rows cell c.bytes.first (c.len-2.result - c.bytes.first) cut.placed
     (omega (arith, reached, c.len-2.ensures, ap length pushed, more)) in
     record {

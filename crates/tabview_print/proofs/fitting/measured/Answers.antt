@@ -5,14 +5,14 @@ use Rattle.tabled_size.specs.Stored.{heights_of, widths_of}
 use Rattle.tabview_print.proofs.FittedTables.{effective-stored}
 use Rattle.tabview_print.proofs.Printing.{error-only, ok-so}
 use Rattle.tabview_print.proofs.Ranges.{early-estimated, early-total, total-known}
-use Rattle.tabview_print.specs.PrintedTables.{StopsEarly}
+use Rattle.tabview_print.specs.PrintedTables.{StopsBeforePrinting}
 use Rattle.tabview_print.proofs.fitting.measured.Goals as goal
 
 pub returns-in_err-estimate-clause-only : goal.returns-in_err-estimate-clause-only
 returns-in_err-estimate-clause-only c =
     let cells = c.args.records.now in
     let config = c.args.config.now in
-    error-only (StopsEarly (estimated cells config)) c.from_residual.result _ c.from_residual.ensures.1
+    error-only (StopsBeforePrinting (estimated cells config)) c.from_residual.result _ c.from_residual.ensures.1
     (early-estimated cells config c.args.sizes.now _ c.in_err-estimate.ensures.only)
 
 pub returns-clause-total : goal.returns-clause-total

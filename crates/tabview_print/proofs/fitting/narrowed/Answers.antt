@@ -12,7 +12,7 @@ use Rattle.tabview_print.proofs.Printing.{if-err-so, if-ok-so}
 use Rattle.tabview_print.proofs.Ranges.{early-narrowing}
 use Rattle.tabview_print.specs.Fitted.{IsFitted}
 use Rattle.tabview_print.specs.Floors.{floors_of}
-use Rattle.tabview_print.specs.PrintedTables.{StopsEarly}
+use Rattle.tabview_print.specs.PrintedTables.{StopsBeforePrinting}
 use Rattle.tabview_print.specs.declared.layout.Narrowing.{Narrowing}
 use Rattle.tabview_print.proofs.fitting.narrowed.Goals as goal
 
@@ -47,7 +47,7 @@ returns-in-Wrap-clause-only c =
     let before = c.args.sizes.now in
     let o = c.priority-option.result in
     let size : o.size ≡ fit.width = first_of (search rules, grind (arith, common_steps)) in
-    if-err-so _ (StopsEarly (estimated cells config)) c.narrowed.result
+    if-err-so _ (StopsBeforePrinting (estimated cells config)) c.narrowed.result
     (λ e cause. early-narrowing o.size cells config before e c.requires.widths c.requires.heights cause)
     c.narrowed.ensures.only
 
@@ -67,4 +67,4 @@ returns-in-Cut-clause-ok c =
 
 pub returns-in-Cut-clause-only : goal.returns-in-Cut-clause-only
 returns-in-Cut-clause-only c =
-    if-err-so _ (StopsEarly (estimated c.args.records.now c.args.config.now)) c.cut.result (λ e m. inl m) c.cut.ensures.only
+    if-err-so _ (StopsBeforePrinting (estimated c.args.records.now c.args.config.now)) c.cut.result (λ e m. inl m) c.cut.ensures.only

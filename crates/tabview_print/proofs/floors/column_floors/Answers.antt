@@ -10,7 +10,7 @@ use Rattle.tabview_print.proofs.FloorLemmas.{floors-more}
 use Rattle.tabview_print.proofs.Printing.{error-only}
 use Rattle.tabview_print.proofs.Ranges.{early-emptied}
 use Rattle.tabview_print.specs.Floors.{content_floor, floor_of, floors_of, keeps_at}
-use Rattle.tabview_print.specs.PrintedTables.{StopsEarly}
+use Rattle.tabview_print.specs.PrintedTables.{StopsBeforePrinting}
 use Rattle.tabview_print.proofs.floors.column_floors.Goals as goal
 
 pub loop-column-preserved : goal.loop-column-preserved
@@ -44,7 +44,7 @@ returns-in_err-list-clause-only g c =
     let empty : replicate e.rows (replicate e.columns []) ≡ emptied cells =
     ap (λ n. replicate n (replicate e.columns [])) (c.new-empty.ensures.rows ∙ c.count_rows.ensures)
     ∙ ap (λ n. replicate (length cells) (replicate n [])) (c.new-empty.ensures.columns ∙ c.count_columns.ensures.columns) in
-    error-only (StopsEarly (estimated cells config)) c.from_residual.result _ c.from_residual.ensures.1
+    error-only (StopsBeforePrinting (estimated cells config)) c.from_residual.result _ c.from_residual.ensures.1
     (early-emptied cells config _ (rw empty at c.in_err-list.ensures.err))
 
 pub returns-clause-ok : goal.returns-clause-ok

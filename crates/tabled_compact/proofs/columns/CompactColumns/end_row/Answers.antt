@@ -1,4 +1,4 @@
-use Rattle.tabled_compact.proofs.Names.{ap, append_assoc, arith, columns_of, finished, further, part_front, right_edge, stopped, sym, ◌++◌}
+use Rattle.tabled_compact.proofs.Names.{ap, append_assoc, arith, compact_columns, finished, further, part_front, right_edge, stopped, sym, ◌++◌}
 use Rattle.tabled_compact.proofs.Names.{◌+◌, ◌<◌, ◌∙◌, ◌≤◌}
 use Rattle.tabled_compact.proofs.RowPieces.{front-drawn, front-missing, front-rest, front-whole}
 use Rattle.tabled_compact.proofs.columns.CompactColumns.end_row.Goals as goal
@@ -39,7 +39,7 @@ returns g c = λ start begun row e h.
     let within : n ≤ t.count = omega (arith, c.max-end.ensures, upto, c.requires) in
     finished _ _ _ _ (c.columns.invariant start begun row e h) c.write_right_edge.ensures
     (front-whole t begun row
-    ∙ ap (λ u. u ++ (let f = (columns_of t).frame in right_edge f f.right.main))
+    ∙ ap (λ u. u ++ (let f = (compact_columns t).frame in right_edge f f.right.main))
     (front-drawn t begun row c.args.from n e after within
     (λ k p q. drawn.rest k (omega (arith, c.max-end.ensures, c.columns-test.false, p)) q))
     ∙ ap (λ f. part_front t begun row n ++ right_edge f f.right.main) (sym c.frame-frame.ensures))

@@ -1,4 +1,4 @@
-use Rattle.tabled_compact.proofs.Names.{[], above, ap, append-nil, append_assoc, begun_after, columns_of, further, part_front, refl}
+use Rattle.tabled_compact.proofs.Names.{[], above, ap, append-nil, append_assoc, begun_after, compact_columns, further, part_front, refl}
 use Rattle.tabled_compact.proofs.Names.{row_front, stopped, stopped-first, ◌++◌, ◌∙◌, ◌≡◌}
 use Rattle.tabled_line.specs.Leading.{break}
 use Rattle.tabled_compact.proofs.rows.RowPrinter.begin_row.Goals as goal
@@ -23,7 +23,7 @@ unfolding part_front row_front
 returns-in_err-write_left_edge-clause-put g c =
     let t = c.args.self.now.lines.columns in
     let same = c.in_ok-begin_line.ensures.same ∙ c.in_ok-write_above.ensures.same in
-    let frame : c.frame-frame.result.now ≡ (columns_of t).frame = c.frame-frame.ensures ∙ ap (λ k. (columns_of k).frame) same in
+    let frame : c.frame-frame.result.now ≡ (compact_columns t).frame = c.frame-frame.ensures ∙ ap (λ k. (compact_columns k).frame) same in
     stopped _ _ []
     (further c.in_ok-write_above.ensures.printed.sends c.in_ok-begin_line.ensures.printed refl) c.in_err-write_left_edge.ensures
     c.from_residual-in_err-write_left_edge.ensures.1
@@ -34,6 +34,6 @@ unfolding part_front row_front
 returns-clause-put g c =
     let t = c.args.self.now.lines.columns in
     let same = c.in_ok-begin_line.ensures.same ∙ c.in_ok-write_above.ensures.same in
-    let frame : c.frame-frame.result.now ≡ (columns_of t).frame = c.frame-frame.ensures ∙ ap (λ k. (columns_of k).frame) same in
+    let frame : c.frame-frame.result.now ≡ (compact_columns t).frame = c.frame-frame.ensures ∙ ap (λ k. (compact_columns k).frame) same in
     further (further c.in_ok-write_above.ensures.printed.sends c.in_ok-begin_line.ensures.printed refl) c.in_ok-write_left_edge.ensures
     (rw (c.in_ok-write_above.ensures.printed.after, frame) (simp (append_assoc, append-nil)))

@@ -1,17 +1,17 @@
-use Rattle.tabled_compact.proofs.Names.{CompactSheet, Err, IsErrAnd, IsFailure, Ok, Result, TableError, sheet_by, subst, sym, ◌<◌, ◌≡◌, ◌≤◌}
+use Rattle.tabled_compact.proofs.Names.{CompactSheet, Err, IsErrAnd, FailsToPrintCompact, Ok, Result, TableError, sheet_by, subst, sym, ◌<◌, ◌≡◌, ◌≤◌}
 use Rattle.std.proofs.Common.{◌^◌, IfErr}
 use Rattle.tabled_compact.specs.CompactLines.{compact_width}
 use Rattle.tabled_compact.proofs.rows.RowPrinter.new.Goals as goal
 
-refused : {T : Type 0} (t : CompactSheet) (r : Result T TableError) (e : TableError) → IsErrAnd r (λ d. d ≡ e) → IsFailure t e → IfErr r (IsFailure t)
+refused : {T : Type 0} (t : CompactSheet) (r : Result T TableError) (e : TableError) → IsErrAnd r (λ d. d ≡ e) → FailsToPrintCompact t e → IfErr r (FailsToPrintCompact t)
 refused t (Ok x) e i h = absurd i
-refused t (Err d) e i h = let P : TableError → Type 0 = λ k. IsFailure t k in subst P (sym i) h
+refused t (Err d) e i h = let P : TableError → Type 0 = λ k. FailsToPrintCompact t k in subst P (sym i) h
 
 pub returns-in_err-columns-clause-err : goal.returns-in_err-columns-clause-err
 returns-in_err-columns-clause-err g c =
     let t = sheet_by c.args.config.now (g.D.Dimension.width_at c.args.dimension.now) c.args.count in
     let short = c.in_err-columns.ensures.err in
-    let P : TableError → Type 0 = λ k. IsFailure t k in
+    let P : TableError → Type 0 = λ k. FailsToPrintCompact t k in
     refused t c.from_residual.result _ c.from_residual.ensures.1 (subst P (sym short.0) short.1)
 
 pub returns-in-Some-clause-printable : goal.returns-in-Some-clause-printable

@@ -1,4 +1,4 @@
-use Rattle.tabled_compact.proofs.Names.{Bool, WritesLines, above, ap, columns_of, lines-finished, lines-stopped-first, refl, subst, sym}
+use Rattle.tabled_compact.proofs.Names.{Bool, WritesLines, above, ap, compact_columns, lines-finished, lines-stopped-first, refl, subst, sym}
 use Rattle.tabled_compact.proofs.Names.{◌∙◌}
 use Rattle.tabled_config.specs.Frame.{if_any, top_line}
 use Rattle.tabled_line.specs.Row.{rule_if}
@@ -18,7 +18,7 @@ pub returns-in_err-write_margin-clause-printed : goal.returns-in_err-write_margi
 unfolding above head_lines
 returns-in_err-write_margin-clause-printed g c =
     let t = c.args.self.now.lines.columns in
-    lines-stopped-first _ (rule_if (columns_of t) (if_any (top_line t.config.borders))) _ _ _ c.in_err-write_margin.ensures.printed
+    lines-stopped-first _ (rule_if (compact_columns t) (if_any (top_line t.config.borders))) _ _ _ c.in_err-write_margin.ensures.printed
     c.from_residual.ensures.1
     (ap (above t) (sym c.if-has_begun.ensures) ∙ (rw (c.get_margin.ensures, c.config-config.ensures, c.args.self.now.whole) refl))
 

@@ -1,4 +1,4 @@
-use Rattle.tabled_pool.proofs.Names.{arith, map, plan_of, refl, shown, whole}
+use Rattle.tabled_pool.proofs.Names.{arith, map, plan_of, refl, drawn_part, whole}
 use Rattle.tabled_pool.proofs.Listed.{piece_owns}
 use Rattle.tabled_pool.proofs.Neighbours.{no_marks_here, one_number, piece_marks}
 use Rattle.tabled_pool.proofs.color_marks.First.or_at.Goals as goal
@@ -6,7 +6,7 @@ use Rattle.tabled_pool.proofs.color_marks.First.or_at.Goals as goal
 pub returns-in_default-clause-skips : goal.returns-in_default-clause-skips
 returns-in_default-clause-skips c = λ k p l h i.
     let d = c.args.line.now.drawing.now in
-    absurd (let o = piece_owns (map shown d.pieces.now) (whole (plan_of d)) k c.args.x c.args.y p d.tiles h i in cc (o, c.in_default.ensures))
+    absurd (let o = piece_owns (map drawn_part d.pieces.now) (whole (plan_of d)) k c.args.x c.args.y p d.tiles h i in cc (o, c.in_default.ensures))
 
 pub returns-then-number-self-clause-skips : goal.returns-then-number-self-clause-skips
 returns-then-number-self-clause-skips c = λ k p l h i.

@@ -1,12 +1,12 @@
 use Rattle.tabled_pool.proofs.Names.{ap, arith, common_steps, is_line, nat_tests}
-use Rattle.tabled_pool.proofs.Names.{option_map, owner, plan_of, rules, shown, subst, sym, ◌∙◌, ◌≡◌}
+use Rattle.tabled_pool.proofs.Names.{option_map, owner, plan_of, rules, drawn_part, subst, sym, ◌∙◌, ◌≡◌}
 use Rattle.tabled_pool.proofs.Runs.{Arms, Ends, Owns, kind_before, line_some, owns, run_chars}
 use Rattle.tabled_pool.proofs.line_runs.Line.border_run.Goals.{Start, then-end-own, else-end-own, then-last-end, else-last-end, then-last-end-2, else-last-end-2}
 use Rattle.tabled_pool.proofs.line_runs.Line.border_run.Goals as goal
 
-own : (c : Start) → Owns (plan_of c.args.self.now.drawing.now) c.args.at.now.x c.args.self.now.y (shown c.args.piece.now)
+own : (c : Start) → Owns (plan_of c.args.self.now.drawing.now) c.args.at.now.x c.args.self.now.y (drawn_part c.args.piece.now)
 own c =
-    let l = c.args.self.now in owns (plan_of l.drawing.now) c.args.at.now.x l.y (shown c.args.piece.now) l.drawing.now.tiles c.requires.here
+    let l = c.args.self.now in owns (plan_of l.drawing.now) c.args.at.now.x l.y (drawn_part c.args.piece.now) l.drawing.now.tiles c.requires.here
 
 pub above-up-requires-clause-inside : goal.above-up-requires-clause-inside
 above-up-requires-clause-inside c = let o = own (goal.at.above-up-requires-clause-inside c).Start in omega (arith, o.to, o.fits)
@@ -25,15 +25,15 @@ pub returns : goal.returns
 returns c =
     let l = c.args.self.now in
     let t = plan_of l.drawing.now in
-    let p = shown c.args.piece.now in
+    let p = drawn_part c.args.piece.now in
     let o = own (goal.at.returns c).Start in
     let ends = c.run_end-last.ensures in
-    let behind : option_map (λ q. shown q.now) c.if-end-own.behind ≡ owner t.parts c.min-end.result l.y = elim c.if-end-own.branch [
+    let behind : option_map (λ q. drawn_part q.now) c.if-end-own.behind ≡ owner t.parts c.min-end.result l.y = elim c.if-end-own.branch [
       | then-end-own w ↦ rw w.behind-is
           (sym (o.more c.min-end.result (omega (arith, ends.some, ends.within)) (omega (arith, w.if-end-own.true))))
       | else-end-own w ↦ rw w.behind-is w.piece_at-behind.ensures
     ] in
-    let border : c.is_some_and-border.result ≡ is_line (option_map (λ q. shown q.now) c.if-end-own.behind) =
+    let border : c.is_some_and-border.result ≡ is_line (option_map (λ q. drawn_part q.now) c.if-end-own.behind) =
     first_of (search (rules, line_some), grind (arith, common_steps, line_some)) in
     let arms : Arms t p c.args.at.now.x l.y c.min-end.result c.args.at.now.left c.is_some_and-border.result
     c.above-up.result.border c.stretch_at-down.result.border = record {
@@ -59,11 +59,11 @@ returns c =
         | else-last-end-2 w ↦ w.followed-is
       ];
     } in
-    let next : option_map (λ q. shown q.now) c.if-last-end.next ≡ owner t.parts c.run_end-last.result l.y = elim c.if-last-end.branch [
+    let next : option_map (λ q. drawn_part q.now) c.if-last-end.next ≡ owner t.parts c.run_end-last.result l.y = elim c.if-last-end.branch [
       | then-last-end w ↦ rw w.next-is
           (sym (o.more c.run_end-last.result (omega (arith, ends.some)) (omega (arith, w.if-last-end.true))))
       | else-last-end w ↦ rw w.next-is
-          (subst (λ v. option_map (λ q. shown q.now) c.if-end-own.behind ≡ owner t.parts v l.y)
+          (subst (λ v. option_map (λ q. drawn_part q.now) c.if-end-own.behind ≡ owner t.parts v l.y)
           (omega (arith, w.if-last-end.false, ends.within)) behind)
     ] in
     record {

@@ -1,11 +1,11 @@
-use Rattle.tabled_pool.proofs.Names.{arith, plan_of, shown, sym, ◌+◌}
+use Rattle.tabled_pool.proofs.Names.{arith, plan_of, drawn_part, sym, ◌+◌}
 use Rattle.tabled_pool.proofs.Runs.{Owns, kind_before, owns}
 use Rattle.tabled_pool.proofs.line_runs.Line.next_run.Goals.{Start}
 use Rattle.tabled_pool.proofs.line_runs.Line.next_run.Goals as goal
 
-own : (c : Start) → Owns (plan_of c.args.self.now.drawing.now) c.args.at.now.x c.args.self.now.y (shown c.args.piece.now)
+own : (c : Start) → Owns (plan_of c.args.self.now.drawing.now) c.args.at.now.x c.args.self.now.y (drawn_part c.args.piece.now)
 own c =
-    let l = c.args.self.now in owns (plan_of l.drawing.now) c.args.at.now.x l.y (shown c.args.piece.now) l.drawing.now.tiles c.requires.here
+    let l = c.args.self.now in owns (plan_of l.drawing.now) c.args.at.now.x l.y (drawn_part c.args.piece.now) l.drawing.now.tiles c.requires.here
 
 pub overflow_add-end : goal.overflow_add-end
 overflow_add-end c = let o = own (goal.at.overflow_add-end c).Start in omega (arith, o.to, o.fits)

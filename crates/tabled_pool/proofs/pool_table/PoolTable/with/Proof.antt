@@ -45,7 +45,7 @@ use Rattle.tabled_base.proofs.Refusals.{Done, IsCause, accepted, cause, refused,
 use Rattle.tabled_base.specs.declared.error.TableError.{TableError}
 use Rattle.tabled_base.specs.declared.error.TableError.TheVariants.{Range}
 use Rattle.tabled_base.specs.contracts.error.TableError.{the_row as TE}
-use Rattle.tabled_pool.specs.NewPool.{IsApplied, WasOutOfRange}
+use Rattle.tabled_pool.specs.NewPool.{IsAppliedToPool, WasOutOfRange}
 use Rattle.tabled_pool.specs.contracts.pool_table.PoolTable.{the_row as R}
 use Rattle.tabled_pool.specs.contracts.pool_table.PoolTable.with as f
 use Rattle.tabled_pool.proofs.pool_table.PoolTable.with.Statement.{statement}
@@ -113,9 +113,9 @@ with_spec 𝓤 𝓛 𝓜 𝓡 wired O L₀ g₁ d₁ m₁ =
     nothing ! $ move ! (4 ∷ 0 ∷ []) $ join ! $ move ! (1 ∷ 0 ∷ []) $ join ! $ move ! (2 ∷ 3 ∷ []) $ join ! $ join ! $
     nothing ! $ use0 𝓛 (raw (fact 𝓤 O₁)) (fact_i 𝓤 O₁ (emp 𝓤) o₁) $ join ! $
     move ! (1 ∷ 0 ∷ []) $ use2 𝓛 (raw (G.pre z)) (id⊢ 𝓤 _) $
-    let Applied = λ (n : R.Denot). IsApplied (g₁.changes x) r.now n in
-    let Promised = λ (n : R.Denot). IsApplied (g₁.promises x) r.now n in
-    let Left = λ (e : TableError) (n : R.Denot). IsApplied (g₁.fails x e) r.now n in
+    let Applied = λ (n : R.Denot). IsAppliedToPool (g₁.changes x) r.now n in
+    let Promised = λ (n : R.Denot). IsAppliedToPool (g₁.promises x) r.now n in
+    let Left = λ (e : TableError) (n : R.Denot). IsAppliedToPool (g₁.fails x e) r.now n in
     let Passes = λ (e : TableError). (e ≡ Range → WasOutOfRange (g₁.out_of_range x) r.now) in
     calls_at ! (framed 𝓤 𝓛.H 𝓜 𝓣) G (met 𝓤 𝓛 𝓜 𝓡 (code.calls-tabled_pool::pool_table::PoolTable::apply 𝓡.env wired) O L₀ g₁ d₁ m₁) z
     (and_then ! (get ! refl) (and_then ! (get ! refl) (no_more !))) (λ w.

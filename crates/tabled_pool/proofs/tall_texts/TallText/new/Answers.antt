@@ -1,4 +1,4 @@
-use Rattle.tabled_pool.proofs.Names.{ap, refl, shown, subst, ◌+◌, ◌-◌, ◌∙◌, ◌≡◌}
+use Rattle.tabled_pool.proofs.Names.{ap, refl, drawn_part, subst, ◌+◌, ◌-◌, ◌∙◌, ◌≡◌}
 use Rattle.tabled_base.specs.Content.{content_text}
 use Rattle.tabled_line.specs.Block.{fill_above}
 use Rattle.tabled_line.specs.Cursors.{IsAt}
@@ -7,7 +7,7 @@ use Rattle.tabled_pool.proofs.tall_texts.TallText.new.Goals as goal
 
 pub returns : goal.returns
 returns c =
-    let p = shown c.args.piece.now in
+    let p = drawn_part c.args.piece.now in
     let style = c.args.style.now in
     let content = c.content-content.result in
     let cursor = c.new.result in

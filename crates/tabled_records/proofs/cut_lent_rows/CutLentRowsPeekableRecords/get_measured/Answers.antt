@@ -7,7 +7,7 @@ use Rattle.tabled_records.proofs.CutLent.{printable-columns, printable-cut, prin
 use Rattle.tabled_records.proofs.Joining.{told_empty}
 use Rattle.tabled_records.proofs.ToldTexts.{right-in_place, right-made, told-right}
 use Rattle.tabled_records.specs.CutLentRows.{ArePrintable, IsCutKnown, cut_cell, cuts, tells_cut}
-use Rattle.tabled_base.specs.Printable.{IsPrintable}
+use Rattle.tabled_base.specs.Printable.{IsPrintableAscii}
 use Rattle.tabled_records.specs.NarrowedTexts.{IsTold}
 use Rattle.tabled_text.specs.Cut.{IsCutAt}
 use Rattle.tabled_records.proofs.cut_lent_rows.CutLentRowsPeekableRecords.get_measured.Goals.{After-width_at, In-Some-told}
@@ -57,8 +57,8 @@ returns-then-columns-n-clause-lines c =
 
 -- ---- printable ASCII
 
-printable : (rows : List (List (List ℕ))) {text : List ℕ} (row column : ℕ) → ArePrintable rows → text ≡ cell_at rows row column → IsPrintable text
-printable rows row column all same = subst IsPrintable (sym same) (all row column)
+printable : (rows : List (List (List ℕ))) {text : List ℕ} (row column : ℕ) → ArePrintable rows → text ≡ cell_at rows row column → IsPrintableAscii text
+printable rows row column all same = subst IsPrintableAscii (sym same) (all row column)
 
 pub range-requires-clause-end_boundary : goal.range-requires-clause-end_boundary
 range-requires-clause-end_boundary c =

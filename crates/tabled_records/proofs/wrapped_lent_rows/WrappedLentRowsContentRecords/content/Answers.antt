@@ -4,7 +4,7 @@ use Rattle.tabled_records.proofs.Joining.{told_empty}
 use Rattle.tabled_records.proofs.ToldTexts.{right-in_place, right-made, told-right}
 use Rattle.tabled_records.proofs.WrappedRows.{cell-wrapped, ended-in_place, ends-in_place, inside-wrapped, known-texts, wrapped-nil}
 use Rattle.tabled_records.specs.CutLentRows.{ArePrintable}
-use Rattle.tabled_base.specs.Printable.{IsPrintable}
+use Rattle.tabled_base.specs.Printable.{IsPrintableAscii}
 use Rattle.tabled_records.specs.NarrowedTexts.{IsTold}
 use Rattle.tabled_records.specs.WrappedLentRows.{IsKnown, tells_wrapped, wrapped_cell, wraps}
 use Rattle.tabled_text.specs.LineEnds.{IsWrappedInPlace, wrapped_text}
@@ -109,7 +109,7 @@ invariant_of-result c =
     let several : c.in-Some-told.lines ≡ 1 → ⊥ = search (rules, c.in_default-lines) in
     let own = in_place (goal.at.invariant_of-result c).In-Some-told (omega (arith, c.if-n-eq0.false)) none in
     let same = own.broken several ∙ sym (ended-in_place text c.ends_in.ensures) in
-    let plain = λ (all : ArePrintable c.self.inside.rows.now). subst IsPrintable (sym c.line-columns.ensures.text) (all c.args.at.row c.args.at.column) in
+    let plain = λ (all : ArePrintable c.self.inside.rows.now). subst IsPrintableAscii (sym c.line-columns.ensures.text) (all c.args.at.row c.args.at.column) in
     record {
       ends_are = ends-in_place text plain c.ends_in.ensures (own.letters several);
       one_is = λ one. absurd (several one);

@@ -12,7 +12,7 @@ use Rattle.tabled_table.proofs.Walks.{rewrite, right, sets, sets_last, single, s
 use Rattle.tabled_table.proofs.Walks.{subst, suffices, switches, sym, T, TableError, tables, TE, through, told_err, told_ok, triple_of}
 use Rattle.tabled_table.proofs.Walks.{Typed, types_at, unit, Ura, use0, use1, use2, use3, Val, vptr, vrt, walk_of, wand, whole, WpFn, WT, ‵}
 use Rattle.tabled_table.proofs.Walks.{ℕ, ⊤, ◌$◌, ◌++◌, ◌∵◌, ◌∷◌, ◌≡◌, ◌⊑◌, ◌⊛◌}
-use Rattle.tabled_table.specs.Stream.Applied.{IsApplied, WasOutOfRange}
+use Rattle.tabled_table.specs.Stream.Applied.{IsAppliedToStream, WasOutOfRange}
 use Rattle.tabled_table.specs.contracts.iter_table.IterTable.{the_row}
 use Rattle.tabled_table.proofs.iter_table.IterTable.with.Statement.{statement}
 use Rattle.tabled_table.proofs.iter_table.IterTable.apply.Met.{met}
@@ -93,9 +93,9 @@ with_spec 𝓤 𝓛 𝓜 𝓡 wired I O L₀ L₁ g₁ d₁ m₁ =
     nothing ! $ use0 𝓛 (raw (fact 𝓤 O₂)) (fact_i 𝓤 O₂ (emp 𝓤) o₂) $ join ! $
     use0 𝓛 (raw (fact 𝓤 O₁)) (fact_i 𝓤 O₁ (emp 𝓤) o₁) $ join ! $
     move ! (1 ∷ 0 ∷ []) $ use2 𝓛 (raw (G.pre z)) (id⊢ 𝓤 _) $
-    let Applied = λ (n : R.Denot). IsApplied (g₁.changes x) r.now n in
-    let Promised = λ (n : R.Denot). IsApplied (g₁.promises x) r.now n in
-    let Left = λ (e : TableError) (n : R.Denot). IsApplied (g₁.fails x e) r.now n in
+    let Applied = λ (n : R.Denot). IsAppliedToStream (g₁.changes x) r.now n in
+    let Promised = λ (n : R.Denot). IsAppliedToStream (g₁.promises x) r.now n in
+    let Left = λ (e : TableError) (n : R.Denot). IsAppliedToStream (g₁.fails x e) r.now n in
     let Passes = λ (e : TableError). (e ≡ Range → WasOutOfRange (g₁.out_of_range x) r.now) in
     calls_at ! (framed 𝓤 𝓛.H 𝓜 𝓣) G (met 𝓤 𝓛 𝓜 𝓡 (code.calls-tabled_table::iter_table::IterTable::apply 𝓡.env wired) I O L₀ L₁ g₁ d₁ m₁) z
     (and_then ! (get ! refl) (and_then ! (get ! refl) (no_more !))) (λ w.

@@ -1,11 +1,11 @@
-use Rattle.tabled_table.proofs.Names.{ap, is_some, nat_lt, not, shown, shown_config, sym, ◌||◌, ◌∙◌}
+use Rattle.tabled_table.proofs.Names.{ap, is_some, nat_lt, not, overridden_sheet, shown_config, sym, ◌||◌, ◌∙◌}
 use Rattle.tabled_grid.proofs.Printing.{prints_nothing}
 use Rattle.tabled_table.proofs.Shown.{prints_changed, prints_unchanged, refused_missing}
 use Rattle.tabled_table.proofs.table.Table.print_with.Goals as goal
 
 pub returns-then-is_empty-clause-printed : goal.returns-then-is_empty-clause-printed
 returns-then-is_empty-clause-printed g c =
-    prints_nothing (shown c.args.self.now c.args.width c.args.align c.args.fill) _ (sym c.is_empty.ensures.value ∙ c.if-is_empty.true)
+    prints_nothing (overridden_sheet c.args.self.now c.args.width c.args.align c.args.fill) _ (sym c.is_empty.ensures.value ∙ c.if-is_empty.true)
 
 pub returns-in_err-missing-clause-printed : goal.returns-in_err-missing-clause-printed
 returns-in_err-missing-clause-printed g c =

@@ -8,23 +8,23 @@ use Rattle.tabled_config.specs.declared.borders.Frame.{Frame}
 use Rattle.tabled_config.specs.declared.spanned.CellStyle.{CellStyle}
 
 -- a missing character is a space
-abbrev pub IsPlainPiece : Option ℕ → Type 0
-IsPlainPiece c = IsAdditiveColumn (unwrap_or c 32)
+abbrev pub IsAdditivePiece : Option ℕ → Type 0
+IsAdditivePiece c = IsAdditiveColumn (unwrap_or c 32)
 
-pub record IsPlainRule (line : HorizontalLine) : Type 0 where
-  pub main : IsPlainPiece line.main
-  pub left : IsPlainPiece line.left
-  pub intersection : IsPlainPiece line.intersection
-  pub right : IsPlainPiece line.right
+pub record IsAdditiveRule (line : HorizontalLine) : Type 0 where
+  pub main : IsAdditivePiece line.main
+  pub left : IsAdditivePiece line.left
+  pub intersection : IsAdditivePiece line.intersection
+  pub right : IsAdditivePiece line.right
 
-pub record IsPlainStyle (style : CellStyle) : Type 0 where
+pub record IsAdditiveStyle (style : CellStyle) : Type 0 where
   pub left : IsAdditiveColumn style.padding.left.fill
   pub right : IsAdditiveColumn style.padding.right.fill
   pub top : IsAdditiveColumn style.padding.top.fill
   pub bottom : IsAdditiveColumn style.padding.bottom.fill
 
 -- the vertical lines of rows, and the fills of the margin
-pub record IsPlainFrame (frame : Frame) : Type 0 where
+pub record IsAdditiveFrame (frame : Frame) : Type 0 where
   pub vertical : IsAdditiveColumn frame.inner.main
   pub left : IsAdditiveColumn frame.left.main
   pub right : IsAdditiveColumn frame.right.main

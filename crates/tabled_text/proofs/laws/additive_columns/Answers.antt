@@ -2,7 +2,7 @@ use Rattle.tabled_text.proofs.Names.{chars}
 use Rattle.tabled_text.proofs.ExactLines.{width-count}
 use Rattle.tabled_text.proofs.PlainLemmas.{line_columns-plain}
 use Rattle.tabled_text.proofs.WrapRoom.{plain_replacement}
-use Rattle.tabled_text.proofs.laws.plain_columns.Goals as goal
+use Rattle.tabled_text.proofs.laws.additive_columns.Goals as goal
 
 pub returns : goal.returns
 returns g = record {

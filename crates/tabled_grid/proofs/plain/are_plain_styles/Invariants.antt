@@ -1,5 +1,0 @@
-use Rattle.tabled_grid.proofs.Names.{IsPlainStyle, style_at, ℕ, ◌<◌}
-use Rattle.tabled_grid.proofs.plain.are_plain_styles.Given as goal
-
-abbrev pub invariant-rows : goal.invariant-rows
-invariant-rows l = (r c : ℕ) → r < l.row → c < l.columns → IsPlainStyle (style_at l.config r c)
