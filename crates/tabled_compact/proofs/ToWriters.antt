@@ -5,7 +5,7 @@ use Rattle.tabled_base.specs.declared.error.TableError.TheVariants.{Writer}
 use Rattle.tabled_line.specs.WriterSent.{named_sent}
 use Rattle.tabled_line.proofs.Below.{below-so}
 use Rattle.tabled_line.proofs.Writers.{LeavesSo, byte_of, writer-leaves, writer-sends}
-use Rattle.tabled_compact.specs.Printed.{BuildsCompact, IsEnded, FailsEarly, StopsPrinting}
+use Rattle.tabled_compact.specs.Printed.{BuildsCompact, CompactRead, FailsEarly, IsEnded, StopsPrinting}
 
 not_writer : (t : CompactSheet) (e : TableError) → FailsToPrintCompact t e → e ≡ Writer → ⊥
 not_writer t e h k = let P : TableError → Type 0 = λ x. FailsToPrintCompact t x in subst P k h
@@ -16,7 +16,8 @@ ended-so : {a b a' b' : Sent} {e : TableError} (t : CompactSheet) (w : Window) (
 ended-so {a} {b} {a'} {b'} {e} t w comes so p =
     let early : FailsEarly t w p.rows a e b → FailsEarly t w p.rows a' e b' =
     λ q. record { first = q.first; cause = q.cause; same = so.same (not_writer t e q.cause) q.same } in
-    let stopped : StopsPrinting t w p.rows p.whole a e b → StopsPrinting t w p.rows p.whole a' e b' =
+    let read : CompactRead = record { sheet = t; window = w; rows = p.rows; whole = p.whole } in
+    let stopped : StopsPrinting read a e b → StopsPrinting read a' e b' =
     λ q. record {
       printable = q.printable;
       stops =

@@ -50,17 +50,30 @@ pub record StopsInRow (text : List (List (List ℕ)) → List ℕ) (rows : List 
   pub parts : rows ≡ before ++ last ∷ []
   pub stops : StopsBelow (text before) old error new (text rows)
 
+-- what was read of a table: the first rows of its source, and whether these are all
+pub record CompactRead : Type 0 where
+  pub sheet : CompactSheet
+  pub window : Window
+  pub rows : List (List (List ℕ))
+  pub whole : Bool
+
+-- of these rows, those that are shown
+abbrev pub shown_of : CompactRead → List (List (List ℕ)) → List (List (List ℕ))
+shown_of read rows = shown_rows read.sheet.count read.window rows
+
 -- the sink failed below the last row, and the source has no more rows or no more are wanted. The
 -- lines of all rows were written
-pub record StopsAtEnd (t : CompactSheet) (w : Window) (rows : List (List (List ℕ))) (whole : Bool) (old : Sent) (error : TableError) (new : Sent) : Type 0 where
-  pub enough : AreEnough t.count w rows whole
-  pub stops : StopsBelow (rows_text t (shown_rows t.count w rows)) old error new (compact_text t (shown_rows t.count w rows))
+pub record StopsAtEnd (read : CompactRead) (old : Sent) (error : TableError) (new : Sent) : Type 0 where
+  pub enough : AreEnough read.sheet.count read.window read.rows read.whole
+  pub stops : StopsBelow (rows_text read.sheet (shown_of read read.rows)) old error new
+      (compact_text read.sheet (shown_of read read.rows))
 
 -- the table can be printed, and the sink failed. No row was read after the one whose lines it
 -- didn't take
-pub record StopsPrinting (t : CompactSheet) (w : Window) (rows : List (List (List ℕ))) (whole : Bool) (old : Sent) (error : TableError) (new : Sent) : Type 0 where
-  pub printable : IsPrintableCompact t
-  pub stops : StopsInRow (λ some. rows_text t (shown_rows t.count w some)) rows old error new ⊎ StopsAtEnd t w rows whole old error new
+pub record StopsPrinting (read : CompactRead) (old : Sent) (error : TableError) (new : Sent) : Type 0 where
+  pub printable : IsPrintableCompact read.sheet
+  pub stops : StopsInRow (λ some. rows_text read.sheet (shown_of read some)) read.rows old error new
+      ⊎ StopsAtEnd read old error new
 
 -- on `Err`: a row is shown_rows, and one of these holds
 pub record IsEnded (t : CompactSheet) (w : Window) (comes : List (List (List ℕ)) → Bool → Type 0) (old : Sent) (error : TableError) (new : Sent) : Type 0 where
@@ -69,7 +82,8 @@ pub record IsEnded (t : CompactSheet) (w : Window) (comes : List (List (List ℕ
   pub came : comes rows whole
   pub taken : AreWanted t.count w rows
   pub filled : has_rows (shown_rows t.count w rows) ≡ true
-  pub ends : FailsEarly t w rows old error new ⊎ StopsPrinting t w rows whole old error new
+  pub ends : FailsEarly t w rows old error new
+      ⊎ StopsPrinting (record { sheet = t; window = w; rows = rows; whole = whole }) old error new
 
 -- what a call that prints a compact table leaves
 abbrev pub PrintsCompact : {T : Type 0} → CompactSheet → Window → (List (List (List ℕ)) → Bool → Type 0) → Sent → Result T TableError → Sent → Type 0
