@@ -10,20 +10,22 @@ use Rattle.tabled_line.specs.Leading.{LineStops, WritesLines}
 use Rattle.std.specs.Prelude.{IsErrAnd}
 use Rattle.tabled_line.specs.Sent.{Sent, Sends}
 use Rattle.tabled_line.proofs.Leading.{lines-none, lines-text}
-use Rattle.tabled_extended.specs.PrintedRecords.{IsTooWide, PrintsAll, PrintsRecord, PrintsRecords, EndsBefore, EndsWithin}
+use Rattle.tabled_extended.specs.PrintedRecords.{EndsBefore, EndsWithin, IsTooWide, PrintsAll, PrintsRecord, PrintsRecords, RecordSheet}
 use Rattle.tabled_extended.specs.RecordLines.{AreRecordLines, text_of}
 
--- the first records stand
-pub record PrintedSoFar (answers : ℕ → List ℕ → Type 0) (fields : List (List ℕ)) (records : List (List (List ℕ)))
-    (count : ℕ) (old : Sent) (begun : Bool) (new : Sent) (begun' : Bool) : Type 0 where
+-- the lines of the record at an index, under a label
+abbrev pub lines_at : RecordSheet → ℕ → List ℕ → List (List ℕ)
+lines_at sheet n label = record_lines (widest sheet.fields) (widest_value sheet.records) sheet.fields label (get_or sheet.records n [])
+
+-- the first records are printed
+pub record PrintedSoFar (sheet : RecordSheet) (count : ℕ) (old : Sent) (begun : Bool) (new : Sent) (begun' : Bool) : Type 0 where
   pub parts : List (List (List ℕ))
   pub many : length parts ≡ count
-  pub lines : AreRecordLines answers fields records parts
+  pub lines : AreRecordLines sheet.labels sheet.fields sheet.records parts
   pub sends : LineSends old begun new begun' (flat_map (λ lines. lines) parts)
 
-pub so_far-none : (answers : ℕ → List ℕ → Type 0) (fields : List (List ℕ)) (records : List (List (List ℕ))) (a : Sent) (p : Bool)
-    → PrintedSoFar answers fields records 0 a p a p
-so_far-none answers fields records a p = record {
+pub so_far-none : (sheet : RecordSheet) (a : Sent) (p : Bool) → PrintedSoFar sheet 0 a p a p
+so_far-none sheet a p = record {
   parts = [];
   many = refl;
   lines = record { each = λ index h. absurd (omega arith) };
@@ -31,11 +33,11 @@ so_far-none answers fields records a p = record {
 }
 
 -- one more part
-parts-more : (answers : ℕ → List ℕ → Type 0) (fields : List (List ℕ)) (records : List (List (List ℕ))) (parts : List (List (List ℕ)))
-    (n : ℕ) (label : List ℕ) → length parts ≡ n → AreRecordLines answers fields records parts → answers n label
-    → AreRecordLines answers fields records (parts ++ record_lines (widest fields) (widest_value records) fields label (get_or records n []) ∷ [])
-parts-more answers fields records parts n label m h a =
-    let last : List (List ℕ) = record_lines (widest fields) (widest_value records) fields label (get_or records n []) in
+parts-more : (sheet : RecordSheet) (parts : List (List (List ℕ))) (n : ℕ) (label : List ℕ) → length parts ≡ n
+    → AreRecordLines sheet.labels sheet.fields sheet.records parts → sheet.labels n label
+    → AreRecordLines sheet.labels sheet.fields sheet.records (parts ++ lines_at sheet n label ∷ [])
+parts-more sheet parts n label m h a =
+    let last : List (List ℕ) = lines_at sheet n label in
     record {
       each = λ index below.
           elim (cases_lt index (length parts)) [
@@ -43,53 +45,51 @@ parts-more answers fields records parts n label m h a =
             | inr r ↦
                 (let same : index ≡ n = omega (arith, length-append parts (last ∷ [])) in (
                   label,
-                  subst (λ k. answers k label) (sym same) a,
-                  get_or_push parts last [] index (omega arith) ∙ ap
-                      (λ k. record_lines (widest fields) (widest_value records) fields label (get_or records k [])) (sym same),
+                  subst (λ k. sheet.labels k label) (sym same) a,
+                  get_or_push parts last [] index (omega arith) ∙ ap (λ k. lines_at sheet k label) (sym same),
                 ))
           ];
     }
 
-pub so_far-more : {answers : ℕ → List ℕ → Type 0} {fields : List (List ℕ)} {records : List (List (List ℕ))} {n : ℕ} {a b c : Sent} {p q r : Bool}
-    (label : List ℕ) → PrintedSoFar answers fields records n a p b q → answers n label
-    → LineSends b q c r (record_lines (widest fields) (widest_value records) fields label (get_or records n []))
-    → PrintedSoFar answers fields records (n + 1) a p c r
-so_far-more {answers} {fields} {records} {n} label h g k =
-    let last : List (List ℕ) = record_lines (widest fields) (widest_value records) fields label (get_or records n []) in
+pub so_far-more : {sheet : RecordSheet} {n : ℕ} {a b c : Sent} {p q r : Bool}
+    (label : List ℕ) → PrintedSoFar sheet n a p b q → sheet.labels n label
+    → LineSends b q c r (record_lines (widest sheet.fields) (widest_value sheet.records) sheet.fields label (get_or sheet.records n []))
+    → PrintedSoFar sheet (n + 1) a p c r
+so_far-more {sheet} {n} label h g k =
+    let last : List (List ℕ) = lines_at sheet n label in
     record {
       parts = h.parts ++ last ∷ [];
       many = omega (arith, h.many, length-append h.parts (last ∷ []));
-      lines = parts-more answers fields records h.parts n label h.many h.lines g;
+      lines = parts-more sheet h.parts n label h.many h.lines g;
       sends = lines-further h.sends k (flat_map-append (λ lines. lines) h.parts (last ∷ []) ∙ ap (λ u. flat_map (λ lines. lines) h.parts ++ u)
           (append-nil last));
     }
 
-pub so_far-all : {answers : ℕ → List ℕ → Type 0} {fields : List (List ℕ)} {records : List (List (List ℕ))} {n : ℕ} {a b : Sent} {q : Bool}
-    → PrintedSoFar answers fields records n a false b q → n ≡ length records → PrintsAll answers fields records a b
-so_far-all {answers} {fields} {records} {n} {a} {b} {q} h e = record {
+pub so_far-all : {sheet : RecordSheet} {n : ℕ} {a b : Sent} {q : Bool}
+    → PrintedSoFar sheet n a false b q → n ≡ length sheet.records → PrintsAll sheet a b
+so_far-all {sheet} {n} {a} {b} {q} h e = record {
   parts = h.parts;
   whole = h.many ∙ e;
   lines = h.lines;
   sends = lines-text {T = Unit {0}} a b q (Ok tt) (flat_map (λ lines. lines) h.parts) h.sends;
 }
 
-pub so_far-stopped : {answers : ℕ → List ℕ → Type 0} {fails : ℕ → Type 0} {fields : List (List ℕ)} {records : List (List (List ℕ))} {n : ℕ} {a b c : Sent} {q : Bool}
-    (r : Bool) (e : TableError) → PrintedSoFar answers fields records n a false b q → n < length records
-    → PrintsRecord {T = Unit {0}} (answers n) (fails n) (λ label. record_lines (widest fields) (widest_value records) fields label (get_or records n []))
-    b q (Err e) c r
-    → EndsBefore answers fails fields records a e c ⊎ EndsWithin answers fields records a e c
-so_far-stopped {answers} {fails} {fields} {records} {n} {a} {b} {c} {q} r e h l (inl w) =
+pub so_far-stopped : {sheet : RecordSheet} {n : ℕ} {a b c : Sent} {q : Bool}
+    (r : Bool) (e : TableError) → PrintedSoFar sheet n a false b q → n < length sheet.records
+    → PrintsRecord {T = Unit {0}} (sheet.labels n) (sheet.fails n) (lines_at sheet n) b q (Err e) c r
+    → EndsBefore sheet a e c ⊎ EndsWithin sheet a e c
+so_far-stopped {sheet} {n} {a} {b} {c} {q} r e h l (inl w) =
     let s : Sends a b (text_of h.parts) = lines-text {T = Unit {0}} a b q (Ok tt) (flat_map (λ lines. lines) h.parts) h.sends in
     inl (record {
       parts = h.parts;
       within = omega (arith, h.many);
-      refused = subst fails (sym h.many) w.1;
+      refused = subst sheet.fails (sym h.many) w.1;
       lines = h.lines;
       memory = w.0;
       sends = subst (λ (x : Sent). Sends a x (text_of h.parts)) (sym w.2) s;
     })
-so_far-stopped {answers} {fails} {fields} {records} {n} {a} {b} {c} {q} r e h l (inr w) =
-    let last : List (List ℕ) = record_lines (widest fields) (widest_value records) fields w.0 (get_or records n []) in
+so_far-stopped {sheet} {n} {a} {b} {c} {q} r e h l (inr w) =
+    let last : List (List ℕ) = lines_at sheet n w.0 in
     let whole : flat_map (λ lines. lines) (h.parts ++ last ∷ []) ≡ flat_map (λ lines. lines) h.parts ++ last =
     flat_map-append (λ lines. lines) h.parts (last ∷ []) ∙ ap (λ u. flat_map (λ lines. lines) h.parts ++ u) (append-nil last) in
     let stops : WritesLines {T = Unit {0}} a false (Err e) c r (flat_map (λ lines. lines) (h.parts ++ last ∷ [])) =
@@ -98,7 +98,7 @@ so_far-stopped {answers} {fails} {fields} {records} {n} {a} {b} {c} {q} r e h l 
       parts = h.parts ++ last ∷ [];
       some = omega (arith, length-append h.parts (last ∷ []));
       within = omega (arith, h.many, length-append h.parts (last ∷ []));
-      lines = parts-more answers fields records h.parts n w.0 h.many h.lines w.1;
+      lines = parts-more sheet h.parts n w.0 h.many h.lines w.1;
       stops = lines-text {T = Unit {0}} a c r (Err e) (flat_map (λ lines. lines) (h.parts ++ last ∷ [])) stops;
     })
 
@@ -108,14 +108,13 @@ pub record-printed : (answers : List ℕ → Type 0) (refused : Type 0) (lines :
 record-printed answers refused lines a b p q (Ok x) label printed g h e = (label, g, subst (λ l. LineSends a p b q l) e h)
 record-printed answers refused lines a b p q (Err d) label printed g h e = inr (label, g, subst (λ l. LineStops a p d b l) e h)
 
-pub records-stopped : {answers : ℕ → List ℕ → Type 0} (fails : ℕ → Type 0) {fields : List (List ℕ)} {records : List (List (List ℕ))} {n : ℕ} {a b c : Sent} {q : Bool}
-    (r : Bool) (res : Result (Unit {0}) TableError) (e : TableError) → PrintedSoFar answers fields records n a false b q
-    → n < length records → (IsTooWide fields records → ⊥)
-    → PrintsRecord {T = Unit {0}} (answers n) (fails n)
-    (λ label. record_lines (widest fields) (widest_value records) fields label (get_or records n [])) b q (Err e) c r
-    → IsErrAnd res (λ d. d ≡ e) → PrintsRecords answers fails fields records a res c
-records-stopped fails r (Ok x) e h l w k i = absurd i
-records-stopped {answers} fails {fields} {records} {n} {a} {b} {c} {q} r (Err d) e h l w k i =
-    let P : TableError → Type 0 = λ x. PrintsRecord {T = Unit {0}} (answers n) (fails n)
-    (λ label. record_lines (widest fields) (widest_value records) fields label (get_or records n [])) b q (Err x) c r in
+pub records-stopped : {sheet : RecordSheet} {n : ℕ} {a b c : Sent} {q : Bool}
+    (r : Bool) (res : Result (Unit {0}) TableError) (e : TableError) → PrintedSoFar sheet n a false b q
+    → n < length sheet.records → (IsTooWide sheet.fields sheet.records → ⊥)
+    → PrintsRecord {T = Unit {0}} (sheet.labels n) (sheet.fails n)
+    (λ label. record_lines (widest sheet.fields) (widest_value sheet.records) sheet.fields label (get_or sheet.records n [])) b q (Err e) c r
+    → IsErrAnd res (λ d. d ≡ e) → PrintsRecords sheet a res c
+records-stopped r (Ok x) e h l w k i = absurd i
+records-stopped {sheet} {n} {a} {b} {c} {q} r (Err d) e h l w k i =
+    let P : TableError → Type 0 = λ x. PrintsRecord {T = Unit {0}} (sheet.labels n) (sheet.fails n) (lines_at sheet n) b q (Err x) c r in
     inr (w, so_far-stopped r d h l (subst P (sym i) k))

@@ -6,7 +6,7 @@ use Rattle.std.proofs.Math.Seq.{set-append_seam}
 use Rattle.std.proofs.Math.ListN.{set}
 use Rattle.std.proofs.lemmas.List.{map-set}
 use Rattle.std.proofs.lemmas.List.Elements.{AllZip-push, length_all_zip}
-use Rattle.tabled_extended.specs.Truncated.{StopsInList, AreTruncated}
+use Rattle.tabled_extended.specs.Truncated.{AreTruncated, RecordTexts, StopsInList}
 use Rattle.std.proofs.Common.{None}
 use Rattle.tabled_extended.specs.declared.truncating.TextWidths.{TextWidths}
 
@@ -116,11 +116,11 @@ row_texts-long rows = length-map rows (λ (r : Vec (List ℕ) Global). map (λ t
 
 -- ---- a table whose fields are truncated, or not
 
-pub ok_both : {T E : Type 0} (r : Result T E) (suffix : List ℕ) (text_widths : TextWidths) (fields : List (List ℕ)) (records : List (List (List ℕ)))
-    (fields' : List (List ℕ)) (records' : List (List (List ℕ))) → AllZip (if_sized (IsTruncated suffix) text_widths.fields) fields fields'
-    → OnOk r (AllZip (AllZip (IsTruncated suffix text_widths.values)) records records') → OnOk r (AreTruncated suffix text_widths fields records fields' records')
-ok_both (Ok x) suffix text_widths fields records fields' records' f h = record { each_field = f; each_value = h }
-ok_both (Err d) suffix text_widths fields records fields' records' f h = h
+pub ok_both : {T E : Type 0} (r : Result T E) (suffix : List ℕ) (text_widths : TextWidths) (old new : RecordTexts)
+    → AllZip (if_sized (IsTruncated suffix) text_widths.fields) old.fields new.fields
+    → OnOk r (AllZip (AllZip (IsTruncated suffix text_widths.values)) old.records new.records) → OnOk r (AreTruncated suffix text_widths old new)
+ok_both (Ok x) suffix text_widths old new f h = record { each_field = f; each_value = h }
+ok_both (Err d) suffix text_widths old new f h = h
 
 each_itself : (R : List ℕ → List ℕ → Type 0) → ((x : List ℕ) → R x x) → (xs : List (List ℕ)) → AllZip R xs xs
 each_itself R f [] = tt

@@ -43,9 +43,9 @@ record_lines f v fields label values = header f v (title label) ∷ map (value_l
 
 -- the lines of the first records, record by record, each with a label that the template returns for
 -- its index. The widths are those of all fields and values
-pub record AreRecordLines (answers : ℕ → List ℕ → Type 0) (fields : List (List ℕ)) (records : List (List (List ℕ)))
+pub record AreRecordLines (labels : ℕ → List ℕ → Type 0) (fields : List (List ℕ)) (records : List (List (List ℕ)))
     (parts : List (List (List ℕ))) : Type 0 where
-  pub each : (index : ℕ) → index < length parts → (label : List ℕ) × answers index label
+  pub each : (index : ℕ) → index < length parts → (label : List ℕ) × labels index label
       × (slice_index_or parts index [] ≡ record_lines (widest fields) (widest_value records) fields label (slice_index_or records index []))
 
 -- the lines of all parts, joined by line feeds

@@ -3,12 +3,14 @@ use Rattle.std.specs.Prelude.{◌≡◌, ◌⊎◌, ℕ, ◌+◌, ◌-◌, ◌<�
 use Rattle.std.specs.Prelude.{◌++◌, Option, Some, None, Result, Ok, Err, if◌then◌else◌, chars, decimal}
 use Rattle.std.specs.Prelude.{length}
 use Rattle.std.specs.List.{AllZip}
+use Rattle.tabled_base.specs.Cells.{row_texts}
 use Rattle.tabled_base.specs.declared.error.TableError.{TableError}
 use Rattle.tabled_base.specs.declared.error.TableError.TheVariants.{Memory}
 use Rattle.tabled_set.specs.CellChanges.{if_sized}
 use Rattle.tabled_set.specs.Truncated.{suffix_columns}
 use Rattle.tabled_text.specs.Cut.{IsCut, IsLongestReached, missing_columns}
 use Rattle.tabled_extended.specs.RecordLines.{widest}
+use Rattle.tabled_extended.specs.declared.extended_table.ExtendedTable.{ExtendedTable}
 use Rattle.tabled_extended.specs.declared.truncating.TextWidths.{TextWidths}
 
 -- ---- the widths
@@ -77,32 +79,40 @@ StopsInRecords suffix n old new = StopsInList (AllZip (IsTruncated suffix n)) (S
 
 -- ---- the table
 
+-- texts of a table: its fields and its records
+pub record RecordTexts : Type 0 where
+  pub fields : List (List ℕ)
+  pub records : List (List (List ℕ))
+
+-- the texts of a table
+abbrev pub record_texts : {F : Type 0} → ExtendedTable F → RecordTexts
+record_texts table = record { fields = table.fields.items; records = row_texts table.records.items }
+
 -- fields and values are truncated to their widths
-pub record AreTruncated (suffix : List ℕ) (text_widths : TextWidths) (fields : List (List ℕ)) (records : List (List (List ℕ)))
-    (fields' : List (List ℕ)) (records' : List (List (List ℕ))) : Type 0 where
-  pub each_field : AllZip (if_sized (IsTruncated suffix) text_widths.fields) fields fields'
-  pub each_value : AllZip (AllZip (IsTruncated suffix text_widths.values)) records records'
+pub record AreTruncated (suffix : List ℕ) (text_widths : TextWidths) (old new : RecordTexts) : Type 0 where
+  pub each_field : AllZip (if_sized (IsTruncated suffix) text_widths.fields) old.fields new.fields
+  pub each_value : AllZip (AllZip (IsTruncated suffix text_widths.values)) old.records new.records
 
 -- an allocation failed: for a field, with all records unchanged, or for a value, with the fields
 -- truncated
-abbrev pub StopsTruncating : List ℕ → TextWidths → List (List ℕ) → List (List (List ℕ)) → List (List ℕ) → List (List (List ℕ)) → Type 0
-StopsTruncating suffix text_widths fields records fields' records' =
-    ((n : ℕ) × (text_widths.fields ≡ Some n) × StopsInRecord suffix n fields fields' × (records' ≡ records))
-    ⊎ (AllZip (if_sized (IsTruncated suffix) text_widths.fields) fields fields' × StopsInRecords suffix text_widths.values records records')
+abbrev pub StopsTruncating : List ℕ → TextWidths → RecordTexts → RecordTexts → Type 0
+StopsTruncating suffix text_widths old new =
+    ((n : ℕ) × (text_widths.fields ≡ Some n) × StopsInRecord suffix n old.fields new.fields × (new.records ≡ old.records))
+    ⊎ (AllZip (if_sized (IsTruncated suffix) text_widths.fields) old.fields new.fields
+    × StopsInRecords suffix text_widths.values old.records new.records)
 
 -- the table has text widths for `max` columns, and they do what `leaves` says
-pub record InTextWidths (max : ℕ) (suffix : List ℕ) (fields : List (List ℕ)) (records : List (List (List ℕ))) (leaves : TextWidths → Type 0) : Type 0 where
+pub record InTextWidths (max : ℕ) (suffix : List ℕ) (texts : RecordTexts) (leaves : TextWidths → Type 0) : Type 0 where
   pub text_widths : TextWidths
-  pub found : text_widths_in max (length records) (widest fields) (suffix_columns suffix) ≡ Some text_widths
+  pub found : text_widths_in max (length texts.records) (widest texts.fields) (suffix_columns suffix) ≡ Some text_widths
   pub left : leaves text_widths
 
 -- what truncating leaves, by its result. `true`: all texts are truncated. `false`: there are no
 -- text widths, and nothing changed. `Memory`: the texts up to one are truncated. No other error
 -- occurs
-abbrev pub Truncates : ℕ → List ℕ → List (List ℕ) → List (List (List ℕ)) → Result Bool TableError → List (List ℕ) → List (List (List ℕ)) → Type 0
-Truncates max suffix fields records (Ok true) fields' records' = InTextWidths max suffix fields records
-    (λ text_widths. AreTruncated suffix text_widths fields records fields' records')
-Truncates max suffix fields records (Ok false) fields' records' =
-    (text_widths_in max (length records) (widest fields) (suffix_columns suffix) ≡ None) × (fields' ≡ fields) × (records' ≡ records)
-Truncates max suffix fields records (Err e) fields' records' =
-    (e ≡ Memory) × InTextWidths max suffix fields records (λ text_widths. StopsTruncating suffix text_widths fields records fields' records')
+abbrev pub Truncates : ℕ → List ℕ → RecordTexts → Result Bool TableError → RecordTexts → Type 0
+Truncates max suffix old (Ok true) new = InTextWidths max suffix old (λ text_widths. AreTruncated suffix text_widths old new)
+Truncates max suffix old (Ok false) new =
+    (text_widths_in max (length old.records) (widest old.fields) (suffix_columns suffix) ≡ None) × (new ≡ old)
+Truncates max suffix old (Err e) new =
+    (e ≡ Memory) × InTextWidths max suffix old (λ text_widths. StopsTruncating suffix text_widths old new)

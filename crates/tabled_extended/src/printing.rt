@@ -9,6 +9,7 @@ ghost use Rattle.tabled_base.specs.Cells.{row_texts};
 ghost use Rattle.tabled_base.specs.declared.error.TableError.TheVariants.{Memory, Range};
 ghost use Rattle.tabled_extended.specs.Escaped.{escape, escaped};
 ghost use Rattle.tabled_extended.specs.PrintedRecords.{IsTooWide, PrintsRecord, PrintsRecords};
+ghost use Rattle.tabled_extended.specs.PrintedRecords.{sheet_of};
 ghost use Rattle.tabled_extended.specs.RecordLines.{AreRecordLines, header, record_lines};
 ghost use Rattle.tabled_extended.specs.RecordLines.{rule_behind, text_of, title, value_line};
 ghost use Rattle.tabled_extended.specs.RecordLines.{widest, widest_value};
@@ -231,9 +232,8 @@ impl<F: Template> ExtendedTable<F> {
     /// - `Memory`: the template failed. All records before that one are written.
     /// - The error of the sink: a beginning of the text is written.
     pub fn write_to<S: TextSink>(&self, sink: &mut S) -> Result<(), TableError>
-        ensures { PrintsRecords (F.answers self.now.template) (F.fails self.now.template)
-            self.now.fields.items (row_texts self.now.records.items)
-            (S.sent sink.old) result (S.sent sink.new) }
+        ensures { PrintsRecords (sheet_of F.answers F.fails self.now) (S.sent sink.old) result
+            (S.sent sink.new) }
     {
         if self.records.is_empty() {
             return Ok(());

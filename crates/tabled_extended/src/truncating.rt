@@ -6,7 +6,7 @@ ghost use Rattle.tabled_set.specs.Truncated.{suffix_columns};
 ghost use Rattle.tabled_extended.specs.Truncated.{AreTruncated, StopsAtText, IsTruncated};
 ghost use Rattle.tabled_extended.specs.Truncated.{StopsInRecord, StopsInRecords, StopsTruncating};
 ghost use Rattle.tabled_extended.specs.Truncated.{TakesMemory, Truncates, least_columns};
-ghost use Rattle.tabled_extended.specs.Truncated.{text_widths_in};
+ghost use Rattle.tabled_extended.specs.Truncated.{record_texts, text_widths_in};
 
 use crate::extended_table::ExtendedTable;
 use crate::printing::widest;
@@ -125,11 +125,9 @@ fn truncate_rows(
 impl<F> ExtendedTable<F> {
     fn truncate_to(&mut self, text_widths: TextWidths, suffix: &str) -> Result<(), AllocError>
         ensures ok { OnOk result (AreTruncated suffix.now text_widths
-            self.old.fields.items (row_texts self.old.records.items)
-            self.new.fields.items (row_texts self.new.records.items)) }
+            (record_texts self.old) (record_texts self.new)) }
         ensures err { OnErr result (StopsTruncating suffix.now text_widths
-            self.old.fields.items (row_texts self.old.records.items)
-            self.new.fields.items (row_texts self.new.records.items)) }
+            (record_texts self.old) (record_texts self.new)) }
         ensures template { self.new.template ≡ self.old.template }
     {
         let alloc = *self.fields.allocator();
@@ -154,9 +152,8 @@ impl<F> ExtendedTable<F> {
     /// Error: `Memory`, for a text that is cut. The texts before it, fields first, are truncated
     /// then; it and the later ones are unchanged.
     pub fn truncate(&mut self, max: usize, suffix: &str) -> Result<bool, TableError>
-        ensures texts { Truncates max suffix.now
-            self.old.fields.items (row_texts self.old.records.items) result
-            self.new.fields.items (row_texts self.new.records.items) }
+        ensures texts { Truncates max suffix.now (record_texts self.old) result
+            (record_texts self.new) }
         ensures template { self.new.template ≡ self.old.template }
     {
         let field = widest(self.fields.as_slice());

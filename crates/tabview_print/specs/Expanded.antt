@@ -4,10 +4,10 @@ use Rattle.std.specs.List.{range_with_len}
 use Rattle.tabled_base.specs.Cells.{columns}
 use Rattle.tabled_base.specs.declared.error.TableError.{TableError}
 use Rattle.tabled_base.specs.declared.error.TableError.TheVariants.{Memory}
-use Rattle.tabled_extended.specs.PrintedRecords.{PrintsRecords}
+use Rattle.tabled_extended.specs.PrintedRecords.{PrintsRecords, RecordSheet}
 use Rattle.tabled_extended.specs.RecordLines.{record_label}
 use Rattle.tabled_extended.specs.Rows.{first_row, further_rows}
-use Rattle.tabled_extended.specs.Truncated.{Truncates}
+use Rattle.tabled_extended.specs.Truncated.{RecordTexts, Truncates}
 use Rattle.tabled_line.specs.Sent.{Sent}
 use Rattle.tabview_print.specs.Fitted.{mark}
 
@@ -20,21 +20,28 @@ abbrev pub expanded_rows : Bool → List (List (List ℕ)) → List (List (List 
 expanded_rows true cells = cells
 expanded_rows false cells = column_numbers (columns cells) ∷ cells
 
--- the fields and records of a table, truncated if there is a width
-abbrev pub AreCutTo : Option ℕ → List (List ℕ) → List (List (List ℕ)) → List (List ℕ) → List (List (List ℕ)) → Type 0
-AreCutTo width fields records fields' records' =
-    MatchOption width ((fields' ≡ fields) × (records' ≡ records)) (λ n. (fits : Bool) × Truncates n mark fields records (Ok fits) fields' records')
+-- the texts of a table, truncated if there is a width
+abbrev pub AreCutTo : Option ℕ → RecordTexts → RecordTexts → Type 0
+AreCutTo width old new = MatchOption width (new ≡ old) (λ n. (fits : Bool) × Truncates n mark old (Ok fits) new)
 
 -- so those of an `ExtendedTable` of some rows
-abbrev pub AreShown : List (List (List ℕ)) → Option ℕ → List (List ℕ) → List (List (List ℕ)) → Type 0
-AreShown rows width fields records = AreCutTo width (first_row rows) (further_rows rows) fields records
+abbrev pub AreShown : List (List (List ℕ)) → Option ℕ → RecordTexts → Type 0
+AreShown rows width shown = AreCutTo width (record { fields = first_row rows; records = further_rows rows }) shown
+
+-- these texts, with records that are numbered from 1
+abbrev pub numbered_sheet : RecordTexts → RecordSheet
+numbered_sheet texts = record {
+  labels = λ index text. text ≡ record_label (index + 1);
+  fails = λ index. ⊤;
+  fields = texts.fields;
+  records = texts.records;
+}
 
 -- that table is printed, and its records are numbered from 1
 pub record PrintsTable {T : Type 0} (rows : List (List (List ℕ))) (width : Option ℕ) (old : Sent) (result : Result T TableError) (new : Sent) : Type 0 where
-  pub fields : List (List ℕ)
-  pub records : List (List (List ℕ))
-  pub are_shown : AreShown rows width fields records
-  pub prints : PrintsRecords (λ index text. text ≡ record_label (index + 1)) (λ index. ⊤) fields records old result new
+  pub shown : RecordTexts
+  pub are_shown : AreShown rows width shown
+  pub prints : PrintsRecords (numbered_sheet shown) old result new
 
 -- or an allocation fails before anything is sent
 abbrev pub PrintsExpanded : {T : Type 0} → List (List (List ℕ)) → Option ℕ → Sent → Result T TableError → Sent → Type 0

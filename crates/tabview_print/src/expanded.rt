@@ -1,8 +1,9 @@
 //! Records one below the other.
 ghost use Rattle.std.specs.Prelude.{◌≡◌, ◌+◌, ◌++◌, ⊤, IfErr, IfOk, OnOk, map, string_bytes};
-ghost use Rattle.tabled_base.specs.Cells.{row_texts, texts_of};
+ghost use Rattle.tabled_base.specs.Cells.{texts_of};
 ghost use Rattle.tabled_base.specs.declared.error.TableError.TheVariants.{Memory};
 ghost use Rattle.tabled_extended.specs.RecordLines.{record_label};
+ghost use Rattle.tabled_extended.specs.Truncated.{record_texts};
 ghost use Rattle.tabview_print.specs.Expanded.{AreCutTo, PrintsExpanded, column_numbers};
 ghost use Rattle.tabview_print.specs.Expanded.{expanded_rows};
 
@@ -86,9 +87,7 @@ fn print_rows<S: TextSink>(
 
 /// Cuts the cells of a table to a width, if there is one.
 fn cut_to(table: &mut ExtendedTable, width: Option<usize>) -> Result<(), TableError>
-    ensures ok { OnOk result (AreCutTo width
-        table.old.fields.items (row_texts table.old.records.items)
-        table.new.fields.items (row_texts table.new.records.items)) }
+    ensures ok { OnOk result (AreCutTo width (record_texts table.old) (record_texts table.new)) }
     ensures only { IfErr result (λ e. e ≡ Memory) }
 {
     let Some(width) = width else {

@@ -1,7 +1,7 @@
 use Rattle.tabled_extended.proofs.Names.{Option, sym, AllZip, Global, IsTruncated, List, OnErr, OnOk, Vec, if_sized, inr, refl, row_texts}
 use Rattle.tabled_extended.proofs.Names.{subst, ℕ, ◌≡◌}
 use Rattle.std.proofs.lemmas.Result.{on_err_weaker}
-use Rattle.tabled_extended.specs.Truncated.{StopsInRecords}
+use Rattle.tabled_extended.specs.Truncated.{StopsInRecords, record_texts}
 use Rattle.tabled_extended.proofs.Stopped.{in_none, ok_both}
 use Rattle.tabled_extended.proofs.extended_table.ExtendedTable.truncate_to.Goals.{in-Some+in_ok-truncate_row, in_default}
 use Rattle.tabled_extended.proofs.extended_table.ExtendedTable.truncate_to.Goals as goal
@@ -24,7 +24,7 @@ returns g c =
       | in_default w ↦ rw w.self-is refl
     ] in
     record {
-      ok = ok_both _ c.args.suffix.now widths old.fields.items (row_texts old.records.items) then.fields.items (row_texts rows) fields
+      ok = ok_both _ c.args.suffix.now widths (record_texts old) (record { fields = then.fields.items; records = row_texts rows }) fields
           (subst (λ (records : List (Vec (List ℕ) Global)). OnOk c.truncate_rows.result
           (AllZip (AllZip (change widths.values)) (row_texts records) (row_texts rows)))
           same c.truncate_rows.ensures.ok);

@@ -3,7 +3,7 @@ use Rattle.tabled_extended.proofs.Records.{so_far-none, so_far-more, so_far-all,
 use Rattle.tabled_extended.proofs.extended_table.ExtendedTable.write_to.Goals as goal
 
 pub records-init : goal.records-init
-records-init g c = so_far-none _ _ _ _ _
+records-init g c = so_far-none _ _ _
 
 pub records-preserved : goal.records-preserved
 records-preserved g c =
@@ -15,8 +15,8 @@ pub returns-in_err-write_record : goal.returns-in_err-write_record
 returns-in_err-write_record g c =
     let e = c.in-Some.ensures in
     let w = c.in-Some.widths in
-    records-stopped (g.F.Template.fails c.args.self.now.template) c.write_record.new.begun c.from_residual.result _
-    c.records.invariant (rw length-map (omega arith)) (λ t. absurd (omega (arith, t.past, w.in_range, e.fields, e.values)))
+    records-stopped c.write_record.new.begun c.from_residual.result _ c.records.invariant
+    (rw length-map (omega arith)) (λ t. absurd (omega (arith, t.past, w.in_range, e.fields, e.values)))
     (rw (e.fields, e.values) at c.in_err-write_record.ensures) c.from_residual.ensures.1
 
 pub returns : goal.returns
