@@ -39,6 +39,7 @@ pub use Rattle.tabled_line.specs.Leading.{LineSends, LineStops, WritesLines, lin
 pub use Rattle.tabled_line.specs.Additive.{EachLineTakes, IsAdditiveStyle}
 pub use Rattle.tabled_line.specs.Row.{ColumnSheet, row_lines, rule_if}
 pub use Rattle.tabled_line.specs.Sent.{Sends, Sent, Stops}
+pub use Rattle.tabled_line.specs.StopsBelow.{StopsBelow}
 pub use Rattle.tabled_priority.proofs.Sums.{sum_step}
 pub use Rattle.tabled_priority.specs.Sums.{sum_below}
 pub use Rattle.tabled_records.proofs.RowsRead.{reads-both, reads-open}
@@ -56,15 +57,15 @@ pub use Rattle.tabled_table.specs.Applied.{ChangesEach}
 pub use Rattle.tabled_table.specs.Batches.{batches_left}
 pub use Rattle.tabled_table.specs.PrintedWith.{overridden_sheet, shown_config}
 pub use Rattle.tabled_table.specs.Stream.Marked.{IsCutCell}
-pub use Rattle.tabled_table.specs.Stream.Printed.{StopsBelow, WritesBelow, lines_before}
+pub use Rattle.tabled_table.specs.Stream.Printed.{WritesBelow, lines_before}
 unfoldable pub use Rattle.tabled_table.specs.Stream.Printed.{lines_above}
 pub use Rattle.tabled_table.specs.Stream.Progress.{AreFirst, AreFurther, EndsSheet, Halts, HaltsWithin, HasPut, HasPutMore, IsInReach}
 pub use Rattle.tabled_table.specs.Stream.Progress.{IsLaidOut, IsLimited, IsPermitted, PutsNext, left_of}
 pub use Rattle.tabled_table.specs.Stream.Row.{content_at, layout_columns, layout_row, record_lines, rule_of, width_at}
 pub use Rattle.tabled_table.specs.Stream.Streamed.{IsCutRow, IsMarkedRow, IsStreamed, ahead, column_count, content_height, content_width, limited}
 pub use Rattle.tabled_table.specs.Stream.Streamed.{sniffed, stream_height, stream_width, stream_widths, tallest, widest}
-pub use Rattle.tabled_table.specs.Stream.Streams.{AreEnough, ArePermitted, AreSniffed, PrintsStream, StreamSends, StreamStops, Streams}
-pub use Rattle.tabled_table.specs.Stream.Streams.{reaches, stream_total}
+pub use Rattle.tabled_table.specs.Stream.Streams.{AreEnough, ArePermitted, AreSniffed, PrintsStream, StreamRead, StreamSends, StreamStops}
+pub use Rattle.tabled_table.specs.Stream.Streams.{Streams, reaches, stream_total}
 pub use Rattle.tabled_table.specs.TableSheet.{cells_of, sheet}
 pub use Rattle.tabled_table.specs.declared.making.LayoutIterator.{LayoutIterator}
 pub use Rattle.tabled_table.specs.declared.iter_table.layout.Layout.{Layout}

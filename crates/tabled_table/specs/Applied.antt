@@ -67,40 +67,44 @@ FailsAt true fails error cells config entity cells' config' =
     ((left : Cells) × fails error cells config entity left config' × IsPutBack entity cells left cells')
     ⊎ ((error ≡ Memory) × ((cells' ≡ cells) × (config' ≡ config)))
 
+-- a cell option that is applied to some entities in order: whether a failure at an entity is undone
+-- there, what the option changes, what it leaves when it fails, and when a sum or product of it
+-- exceeds the greatest `usize`
+pub record Modification : Type 1 where
+  pub is_undone : Bool
+  pub changes : CellChange
+  pub fails : TableError → CellChange
+  pub out_of_range : Cells → ColoredConfig → Entity → Type 0
+  pub entities : List Entity
+
 -- the option changes the first entities and fails at the next one; `Range` comes only if a sum or
 -- product exceeds the greatest `usize` there
-pub record StopsAtPart (is_undone : Bool) (changes : CellChange) (fails : TableError → CellChange)
-    (out_of_range : Cells → ColoredConfig → Entity → Type 0) (entities : List Entity) (error : TableError)
+pub record StopsAtPart (m : Modification) (error : TableError)
     (cells : Cells) (config : ColoredConfig) (cells' : Cells) (config' : ColoredConfig) : Type 0 where
   pub count : ℕ
   pub entity : Entity
-  pub next : slice_get entities count ≡ Some entity
+  pub next : slice_get m.entities count ≡ Some entity
   pub between : Cells
   pub between_config : ColoredConfig
-  pub changed : ChangesEach changes (take count entities) cells config between between_config
-  pub refused : FailsAt is_undone fails error between between_config entity cells' config'
-  pub cause : error ≡ Range → out_of_range between between_config entity
+  pub changed : ChangesEach m.changes (take count m.entities) cells config between between_config
+  pub refused : FailsAt m.is_undone m.fails error between between_config entity cells' config'
+  pub cause : error ≡ Range → m.out_of_range between between_config entity
 
 -- a copy of the configuration, if it may have to be restored
 abbrev pub kept_config : Bool → List Entity → ColoredConfig → Option ColoredConfig
 kept_config is_undone entities config =
     if (nat_lt 1 (length entities) || (is_undone && length entities == 1)) then Some config else None
 
--- what a failed modification of some entities leaves. The configuration is as it was. Either the
--- option failed at an entity, and those before it stay changed; or an allocation failed, for the
--- list of entities or the copy of the configuration, and then there is an entity and no cell has
--- changed
-pub record StopsModifying (is_undone : Bool) (changes : CellChange) (fails : TableError → CellChange)
-    (out_of_range : Cells → ColoredConfig → Entity → Type 0) (entities : List Entity) (error : TableError)
+-- what a failed modification leaves. The configuration is as it was. Either the option failed at an
+-- entity, and those before it stay changed; or an allocation failed, for the list of entities or
+-- the copy of the configuration, and then there is an entity and no cell has changed
+pub record StopsModifying (m : Modification) (error : TableError)
     (cells : Cells) (config : ColoredConfig) (cells' : Cells) (config' : ColoredConfig) : Type 0 where
-  pub stopped : ((last : ColoredConfig)
-      × StopsAtPart is_undone changes fails out_of_range entities error cells config cells' last)
-      ⊎ ((error ≡ Memory) × ((0 < length entities) × (cells' ≡ cells)))
+  pub stopped : ((last : ColoredConfig) × StopsAtPart m error cells config cells' last)
+      ⊎ ((error ≡ Memory) × ((0 < length m.entities) × (cells' ≡ cells)))
   pub kept : config' ≡ config
 
 -- what a failed modification leaves of a table, which then has no sizes stored
-pub record ModifyingFails (is_undone : Bool) (changes : CellChange) (fails : TableError → CellChange)
-    (out_of_range : Cells → ColoredConfig → Entity → Type 0) (entities : List Entity) (error : TableError)
-    (old new : Table) : Type 0 where
-  pub parts : StopsModifying is_undone changes fails out_of_range entities error old.records old.config new.records new.config
+pub record ModifyingFails (m : Modification) (error : TableError) (old new : Table) : Type 0 where
+  pub parts : StopsModifying m error old.records old.config new.records new.config
   pub cleared : AreNone new.dimension

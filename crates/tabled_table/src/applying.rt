@@ -90,9 +90,13 @@ impl Table {
     >(&mut self, target: T, option: &O) -> Result<(), TableError>
         ensures ok { OnOk result (IsModified (O.changes option.now)
             (named_in self.old (T.picks target)) (O.hint option.now) self.old self.new) }
-        ensures err { IfErr result (λ e. ModifyingFails (O.is_undone option.now)
-            (O.changes option.now) (O.fails option.now) (O.out_of_range option.now)
-            (named_in self.old (T.picks target)) e self.old self.new) }
+        ensures err { IfErr result (λ e. ModifyingFails (record {
+          is_undone = O.is_undone option.now;
+          changes = O.changes option.now;
+          fails = O.fails option.now;
+          out_of_range = O.out_of_range option.now;
+          entities = named_in self.old (T.picks target);
+        }) e self.old self.new) }
         ensures only { IfErr result (λ e. (e ≡ Memory) ⊎ (e ≡ Range)) }
     {
         match change_target(&mut self.records, &mut self.config, &target, option) {
@@ -117,15 +121,23 @@ impl Table {
         O: CellOption<VecRecords<Text<String>>, ColoredConfig> + Drop,
     >(&mut self, target: T, option: O) -> Result<&mut Self, TableError>
         ensures* rests { sem 𝓛 (RestsIfErr the_row self.entry (λ table. table.ghost_name) result
-            (λ last. IfErr result (λ e. ModifyingFails (O.is_undone option)
-            (O.changes option) (O.fails option) (O.out_of_range option)
-            (named_in self.old (T.picks target)) e self.old last))) }
+            (λ last. IfErr result (λ e. ModifyingFails (record {
+              is_undone = O.is_undone option;
+              changes = O.changes option;
+              fails = O.fails option;
+              out_of_range = O.out_of_range option;
+              entities = named_in self.old (T.picks target);
+            }) e self.old last))) }
         ensures same_reference { IfOk result (λ table. table.ghost_name ≡ self.entry.ghost_name) }
         ensures ok { IfOk result (λ table. IsModified (O.changes option)
             (named_in self.old (T.picks target)) (O.hint option) self.old table.now) }
-        ensures err { IfErr result (λ e. (left : Table) × ModifyingFails (O.is_undone option)
-            (O.changes option) (O.fails option) (O.out_of_range option)
-            (named_in self.old (T.picks target)) e self.old left) }
+        ensures err { IfErr result (λ e. (left : Table) × ModifyingFails (record {
+          is_undone = O.is_undone option;
+          changes = O.changes option;
+          fails = O.fails option;
+          out_of_range = O.out_of_range option;
+          entities = named_in self.old (T.picks target);
+        }) e self.old left) }
         ensures only { IfErr result (λ e. (e ≡ Memory) ⊎ (e ≡ Range)) }
     {
         match self.apply_own(target, option) {
@@ -141,9 +153,13 @@ impl Table {
     >(&mut self, target: T, option: O) -> Result<(), TableError>
         ensures ok { OnOk result (IsModified (O.changes option)
             (named_in self.old (T.picks target)) (O.hint option) self.old self.new) }
-        ensures err { IfErr result (λ e. ModifyingFails (O.is_undone option)
-            (O.changes option) (O.fails option) (O.out_of_range option)
-            (named_in self.old (T.picks target)) e self.old self.new) }
+        ensures err { IfErr result (λ e. ModifyingFails (record {
+          is_undone = O.is_undone option;
+          changes = O.changes option;
+          fails = O.fails option;
+          out_of_range = O.out_of_range option;
+          entities = named_in self.old (T.picks target);
+        }) e self.old self.new) }
         ensures only { IfErr result (λ e. (e ≡ Memory) ⊎ (e ≡ Range)) }
     {
         self.apply_to(target, &option)
@@ -182,10 +198,13 @@ pub(crate) fn change_target<
     ensures ok { OnOk result (ChangesEach (O.changes option.now)
         (T.picks target.now (length records.old) (columns records.old))
         records.old config.old records.new config.new) }
-    ensures err { IfErr result (λ e. StopsModifying (O.is_undone option.now)
-        (O.changes option.now) (O.fails option.now) (O.out_of_range option.now)
-        (T.picks target.now (length records.old) (columns records.old))
-        e records.old config.old records.new config.new) }
+    ensures err { IfErr result (λ e. StopsModifying (record {
+      is_undone = O.is_undone option.now;
+      changes = O.changes option.now;
+      fails = O.fails option.now;
+      out_of_range = O.out_of_range option.now;
+      entities = T.picks target.now (length records.old) (columns records.old);
+    }) e records.old config.old records.new config.new) }
     ensures only { IfErr result (λ e. (e ≡ Memory) ⊎ (e ≡ Range)) }
 {
     let entities = target.cells(records.allocator(), records)?;
@@ -212,9 +231,13 @@ fn change_parts<O: CellOption<VecRecords<Text<String>>, ColoredConfig>>(
 ) -> Result<(), TableError>
     ensures ok { OnOk result (ChangesEach (O.changes option.now) entities.now
         records.old config.old records.new config.new) }
-    ensures err { IfErr result (λ e. StopsAtPart (O.is_undone option.now)
-        (O.changes option.now) (O.fails option.now) (O.out_of_range option.now)
-        entities.now e records.old config.old records.new config.new) }
+    ensures err { IfErr result (λ e. StopsAtPart (record {
+      is_undone = O.is_undone option.now;
+      changes = O.changes option.now;
+      fails = O.fails option.now;
+      out_of_range = O.out_of_range option.now;
+      entities = entities.now;
+    }) e records.old config.old records.new config.new) }
     ensures kept { OnErr result (kept_config (O.is_undone option.now) entities.now config.old ≡ None
         → config.new ≡ config.old) }
     ensures only { IfErr result (λ e. (e ≡ Memory) ⊎ (e ≡ Range)) }

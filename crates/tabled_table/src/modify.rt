@@ -59,13 +59,22 @@ impl<
     ghost changes = { λ s r c d r' c' d'. ChangesEach (O.changes s.option)
         (T.picks s.target (length r) (columns r)) r c r' c' × (d' ≡ d) };
 
-    ghost fails = { λ s e r c d r' c' d'. StopsModifying (O.is_undone s.option) (O.changes s.option)
-        (O.fails s.option) (O.out_of_range s.option) (T.picks s.target (length r) (columns r)) e r c r' c'
-        × (d' ≡ d) };
+    ghost fails = { λ s e r c d r' c' d'. StopsModifying (record {
+      is_undone = O.is_undone s.option;
+      changes = O.changes s.option;
+      fails = O.fails s.option;
+      out_of_range = O.out_of_range s.option;
+      entities = T.picks s.target (length r) (columns r);
+    }) e r c r' c' × (d' ≡ d) };
 
     ghost out_of_range = { λ s r c d. (r' : List (List (List ℕ))) × (c' : ColoredConfig)
-        × StopsModifying (O.is_undone s.option) (O.changes s.option) (O.fails s.option)
-        (O.out_of_range s.option) (T.picks s.target (length r) (columns r)) Range r c r' c' };
+        × StopsModifying (record {
+          is_undone = O.is_undone s.option;
+          changes = O.changes s.option;
+          fails = O.fails s.option;
+          out_of_range = O.out_of_range s.option;
+          entities = T.picks s.target (length r) (columns r);
+        }) Range r c r' c' };
 
     ghost hint = { λ s. O.hint s.option };
 

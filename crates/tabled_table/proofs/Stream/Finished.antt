@@ -2,7 +2,7 @@
 use Rattle.tabled_table.proofs.Names.{AreEnough, AreFirst, AreFurther, AreSniffed, Bool, CompactConfig, EndsSheet, Err, Frame, Halts}
 use Rattle.tabled_table.proofs.Names.{HaltsWithin, HasPut, IsErrAnd, IsInReach, IsLaidOut, IsLimited, IsStreamed, Layout, LineSends, List}
 use Rattle.tabled_table.proofs.Names.{MatchResult, Memory, None, Ok, Option, Range, Result, Sends, Sent, Sheet, Some, Stops, StopsBelow}
-use Rattle.tabled_table.proofs.Names.{StreamSettings, StreamStops, Streams, TableError, WritesBelow, WritesLines, [], ahead, ap, append-nil}
+use Rattle.tabled_table.proofs.Names.{StreamRead, StreamSettings, StreamStops, Streams, TableError, WritesBelow, WritesLines, [], ahead, ap, append-nil}
 use Rattle.tabled_table.proofs.Names.{append_assoc, arith, column_count, columns, sheet_columns, false, fill, filled_picture, filled_width}
 use Rattle.tabled_table.proofs.Names.{flat_map, frame, if◌then◌else◌, inl, inr, is_empty, layout_columns, left_of, length, length-append}
 use Rattle.tabled_table.proofs.Names.{limited, lines_above, lines_after, lines_after-joined, lines_before, max, picture, range_with_len}
@@ -11,11 +11,12 @@ use Rattle.tabled_table.proofs.Names.{stream_total, stream_widths, subst, sym, t
 use Rattle.tabled_table.proofs.Names.{◌||◌, ◌∙◌, ◌∷◌, ◌≡◌, ◌≤◌, ◌⊎◌}
 use Rattle.std.proofs.Common.{drop}
 use Rattle.std.proofs.lemmas.List.{take-append-drop}
+use Rattle.tabled_line.proofs.Below.{joined-below}
 use Rattle.tabled_table.specs.Stream.Printed.{text_above}
 use Rattle.tabled_table.specs.Stream.Progress.{HaltsBefore}
 use Rattle.tabled_table.specs.Stream.Streams.{IsTooHighFirst, IsWholeStream}
-use Rattle.tabled_table.proofs.Stream.Steps.{joined-below, ends-below}
-use Rattle.tabled_table.proofs.Stream.FirstRows.{few-first, few-more, length-limited, limited-more, read-more}
+use Rattle.tabled_table.proofs.Stream.Steps.{ends-below}
+use Rattle.tabled_table.proofs.Stream.FirstRows.{few-first, few-more, length-limited, limited-more, read-more, read_of}
 use Rattle.tabled_table.proofs.Stream.Measures.{columns-laid, not-zero, rule-below}
 
 -- ---- the ends of a table that is printed row by row
@@ -133,7 +134,7 @@ module _ {settings : StreamSettings} {config : CompactConfig} {rows : List (List
       → stream_total settings config (sniffed settings rows) < 2 ^ 64
       → (HaltsBefore settings config (sniffed settings rows) shown rest old (column_count settings (sniffed settings rows)) e new
       ⊎ ((rest ≡ []) × HaltsWithin settings config (sniffed settings rows) shown old (column_count settings (sniffed settings rows)) e new))
-      → StreamStops settings config rows whole old e new
+      → StreamStops (read_of settings config rows whole) old e new
   halted-by some others shown rest p q m s c w (inl b) =
       let lines = lines_above b.sheet (column_count settings (sniffed settings rows)) (length shown) in
       let S : List ℕ → Type 0 = λ text. Sends old new text in
@@ -178,15 +179,13 @@ module _ {settings : StreamSettings} {config : CompactConfig} {rows : List (List
       → length rows ≤ max (ahead settings) (max 1 (length some)) → AreSniffed settings rows whole → 0 < column_count settings (sniffed settings rows)
       → stream_total settings config (sniffed settings rows) < 2 ^ 64
       → Halts settings config (sniffed settings rows) some old (column_count settings (sniffed settings rows)) e new
-      → StreamStops settings config rows whole old e new
+      → StreamStops (read_of settings config rows whole) old e new
   halted some others p m s c w h = halted-by some others h.shown h.rest p h.parts m s c w h.halts
 
-pub err-streams : {R : Type 0} {settings : StreamSettings} {config : CompactConfig} {rows : List (List (List ℕ))} {whole : Bool} {old new : Sent}
-    (r : Result R TableError) (e : TableError) → IsErrAnd r (λ d. d ≡ e) → StreamStops settings config rows whole old e new
-    → Streams settings config rows whole old r new
+pub err-streams : {R : Type 0} {stream : StreamRead} {old new : Sent} (r : Result R TableError) (e : TableError) → IsErrAnd r (λ d. d ≡ e)
+    → StreamStops stream old e new → Streams stream old r new
 err-streams (Ok x) e i h = absurd i
-err-streams {settings = settings} {config} {rows} {whole} {old} {new} (Err d) e i h =
-    let P : TableError → Type 0 = λ d. StreamStops settings config rows whole old d new in subst P (sym i) h
+err-streams {stream = stream} {old} {new} (Err d) e i h = let P : TableError → Type 0 = λ d. StreamStops stream old d new in subst P (sym i) h
 
 reached : (limit : Option ℕ) (kept more : List (List (List ℕ))) → IsLimited (left_of limit (length kept)) (length more) false
     → reaches limit (length (kept ++ more))
@@ -215,7 +214,7 @@ whole-stream {settings} {config} {rows} {some} p w h =
 ended : {R : Type 0} {settings : StreamSettings} {config : CompactConfig}
     (rows : List (List (List ℕ))) {some : List (List (List ℕ))} {whole : Bool} {old new : Sent} (r : Result R TableError)
     → AreEnough settings rows whole → limited settings.rows rows ≡ some → stream_total settings config (sniffed settings rows) < 2 ^ 64
-    → EndsSheet settings config (sniffed settings rows) some old r new → Streams settings config rows whole old r new
+    → EndsSheet settings config (sniffed settings rows) some old r new → Streams (read_of settings config rows whole) old r new
 ended rows (Ok x) enough p w h = record { enough = enough; sheet = h.sheet; streamed = whole-stream p w h; sends = h.writes }
 ended {settings = settings} rows {old = old} {new} (Err e) enough p w h =
     let P : ℕ → Type 0 = λ n. StopsBelow (text_above h.sheet (column_count settings (sniffed settings rows)) n) old e new (table_text h.sheet) in
@@ -234,7 +233,7 @@ module _ {settings : StreamSettings} {config : CompactConfig} {kept : List (List
       × EndsSheet settings config (sniffed settings kept) (limited settings.rows kept ++ more) old r new)
       ⊎ IsErrAnd r (λ e. Halts settings config (sniffed settings kept) (limited settings.rows kept ++ more) old
       (column_count settings (sniffed settings kept)) e new)
-      → Streams settings config (kept ++ more) whole old r new
+      → Streams (read_of settings config (kept ++ more) whole) old r new
   finished r more whole g (inl h) =
       let read = read-more f more whole g in
       let W : List (List (List ℕ)) → Type 0 = λ a. stream_total settings config a < 2 ^ 64 in
@@ -264,10 +263,10 @@ module _ {settings : StreamSettings} {config : CompactConfig} {kept : List (List
   pub put-halted : {R : Type 0} {old new : Sent} (r : Result R TableError) (e : TableError) (shown : List (List (List ℕ)))
       → shown ≡ limited settings.rows kept → IsErrAnd r (λ d. d ≡ e)
       → (n : ℕ) × Halts settings config (sniffed settings kept) (take n shown) old layout.count e new
-      → Streams settings config (kept ++ []) all old r new
+      → Streams (read_of settings config (kept ++ []) all) old r new
   put-halted {old = old} {new} r e shown s i h =
       let H : ℕ → List (List (List ℕ)) → Type 0 = λ k rows. Halts settings config (sniffed settings kept) (take h.0 rows) old k e new in
-      let P : List (List (List ℕ)) → Type 0 = λ rows. Streams settings config rows all old r new in
+      let P : List (List (List ℕ)) → Type 0 = λ rows. Streams (read_of settings config rows all) old r new in
       let laid = subst (λ rows. H (column_count settings (sniffed settings kept)) rows) s (subst (λ k. H k shown) l.count h.1) in
       let rows = limited settings.rows kept in
       let few = few-first f in
@@ -280,7 +279,7 @@ module _ {settings : StreamSettings} {config : CompactConfig} {kept : List (List
       → (IsLimited (left_of settings.rows items) (length more) whole
       × EndsSheet settings config (sniffed settings kept) (limited settings.rows kept ++ more) old r new)
       ⊎ IsErrAnd r (λ e. Halts settings config (sniffed settings kept) (limited settings.rows kept ++ more) old layout.count e new)
-      → Streams settings config (kept ++ more) whole old r new
+      → Streams (read_of settings config (kept ++ more) whole) old r new
   put-finished {old = old} {new} r more whole items count i n g h =
       let F : ℕ → ℕ → Type 0 = λ k m. AreFurther settings.rows k all m whole in
       let Q : ℕ → ℕ → Type 0 = λ k c.
@@ -295,7 +294,7 @@ pub unplanned : {R : Type 0} {settings : StreamSettings} (config : CompactConfig
     (r : Result R TableError) (e : TableError)
     → AreFirst settings kept all → 0 < column_count settings (sniffed settings kept) → 0 < length (limited settings.rows kept) → IsErrAnd r (λ d. d ≡ e)
     → ((e ≡ Range) × (2 ^ 64 ≤ stream_total settings config (sniffed settings kept))) ⊎ (e ≡ Memory)
-    → Streams settings config kept all old r old
+    → Streams (read_of settings config kept all) old r old
 unplanned {settings = settings} config {kept} {all} old r e f c s i h =
     err-streams r e i (inl (record {
       same = refl;

@@ -1,6 +1,6 @@
 -- A whole stream: the rows that were taken first, those that came behind them, and what of them was printed.
 use Rattle.tabled_table.proofs.Names.{AreEnough, AreFirst, AreFurther, ArePermitted, AreSniffed, Bool, CompactConfig, IsMarkedRow, IsPermitted}
-use Rattle.tabled_table.proofs.Names.{IsStreamed, List, None, Option, Sent, Sheet, Some, StreamSends, StreamSettings, [], ahead, ap}
+use Rattle.tabled_table.proofs.Names.{IsStreamed, List, None, Option, Sent, Sheet, Some, StreamRead, StreamSends, StreamSettings, [], ahead, ap}
 use Rattle.tabled_table.proofs.Names.{append-nil, arith, cases_lt, column_count, columns, content_width, false, filled_picture}
 use Rattle.tabled_table.proofs.Names.{filled_width, get_or, get_or-map, get_or-map-range_with_len, if◌then◌else◌, inl, inr, join_with_byte}
 use Rattle.tabled_table.proofs.Names.{left_of, length, length-append, length-map, length-map-range_with_len, length-take, limited, longest}
@@ -206,8 +206,13 @@ unshown-enough {settings} {kept} false f (inr h) =
       ⊎_elim (λ r. inl r) (λ z. none-taken settings.columns settings.rows kept (ahead settings) z (f.none refl z)) (limited-none settings.rows kept h),
     )
 
+-- what was read of a stream
+abbrev pub read_of : StreamSettings → CompactConfig → List (List (List ℕ)) → Bool → StreamRead
+read_of settings config rows whole = record { settings = settings; config = config; rows = rows; whole = whole }
+
 pub unshown : (settings : StreamSettings) (config : CompactConfig) (rows : List (List (List ℕ))) (whole : Bool) (old : Sent) → AreEnough settings rows whole
-    → (column_count settings (sniffed settings rows) ≡ 0) ⊎ (length (limited settings.rows rows) ≡ 0) → StreamSends settings config rows whole old old
+    → (column_count settings (sniffed settings rows) ≡ 0) ⊎ (length (limited settings.rows rows) ≡ 0)
+    → StreamSends (read_of settings config rows whole) old old
 unshown settings config rows whole old enough none =
     let shown = limited settings.rows rows in
     let never : IsFilled settings rows → ⊥ =

@@ -1,54 +1,22 @@
 -- A table that is printed, one row further.
 use Rattle.tabled_table.proofs.Names.{Bool, CompactConfig, Err, Halts, HaltsWithin, HasPut, IsCutCell, IsErrAnd, IsInReach, IsLaidOut}
-use Rattle.tabled_table.proofs.Names.{IsMarkedRow, IsStreamed, Layout, LineSends, LineStops, List, Memory, Ok, Option, PutsNext, Range, Result, Sends, Sent}
-use Rattle.tabled_table.proofs.Names.{Sheet, Stops, StopsBelow, StreamSettings, TableError, WritesBelow, WritesLines, [], ap, append-nil}
+use Rattle.tabled_table.proofs.Names.{IsMarkedRow, IsStreamed, Layout, LineSends, LineStops, List, Memory, Ok, Option, PutsNext, Range, Result, Sent}
+use Rattle.tabled_table.proofs.Names.{Sheet, StopsBelow, StreamSettings, TableError, WritesBelow, WritesLines, [], ap, append-nil}
 use Rattle.tabled_table.proofs.Names.{append_assoc, arith, below_more, column_count, content_at, content_height, content_width, each-more}
 use Rattle.tabled_table.proofs.Names.{false, fill, filled_width, flat_map, frame, get_or, get_or_append_left, inl, inr, join_with_byte}
 use Rattle.tabled_table.proofs.Names.{length, get_or-take, length-append, length-map, length-take, lengthened, lines_above, lines_after}
-use Rattle.tabled_table.proofs.Names.{map, take, lines_after-append, lines_after-joined, lines_before, min, range_with_len, record_lines}
+use Rattle.tabled_table.proofs.Names.{map, take, lines_after-joined, lines_before, min, range_with_len, record_lines}
 use Rattle.tabled_table.proofs.Names.{refl, replicate, row_part, rule_of, sends-along, stream_height, subst, sym, ℕ, ⊎_elim, ◌++◌, ◌+◌, ◌<◌}
 use Rattle.tabled_table.proofs.Names.{◌==◌, ◌^◌, ◌∙◌, ◌∷◌, ◌≡◌, ◌≤◌, ◌⊎◌}
 use Rattle.std.proofs.Common.{add-one, OnOk}
 use Rattle.std.proofs.lemmas.List.{get_or_push, take-map}
+use Rattle.tabled_line.proofs.Below.{joined-below, lines-below}
 use Rattle.tabled_line.proofs.Leading.{lines-further}
 use Rattle.tabled_table.specs.Stream.Row.{PutsCut}
 use Rattle.tabled_table.proofs.Stream.WholeTexts.{IsCutAs, above-kept, chosen-first, followed, followed-streamed, part-kept}
 use Rattle.tabled_table.proofs.Stream.Measures.{flat_map-same, not-zero, part-laid}
-use Rattle.tabled_line.proofs.Sending.{Appends-then, stops-then}
 
 -- ---- texts that are sent below lines that are out
-
--- what was sent stands above
-pub stops-below : {a b c : Sent} {e : TableError} {s t : List ℕ} (whole : List ℕ) → Sends a b s → Stops b e c t → whole ≡ s ++ t
-    → StopsBelow s a e c whole
-stops-below {a} {b} {c} {e} {s} {t} whole p q w =
-    let both = stops-then a b c e s t p q in
-    record {
-      stops =
-          record {
-            front = s ++ q.front;
-            rest = q.rest;
-            whole = append_assoc s q.front q.rest ∙ ap (λ u. s ++ u) q.whole ∙ sym w;
-            added = Appends-then a.bytes b.bytes c.bytes s q.front p.added q.added;
-            cause = both.cause;
-          };
-      more = q.front;
-      out = refl;
-    }
-
--- lines that were sent stand above
-pub lines-below : {a b c : Sent} {p q : Bool} {e : TableError} {xs ys : List (List ℕ)} (whole : List (List ℕ)) → LineSends a p b q xs
-    → LineStops b q e c ys → whole ≡ xs ++ ys → StopsBelow (lines_after p xs) a e c (lines_after p whole)
-lines-below {p = p} {q = q} {xs = xs} {ys = ys} whole h k w =
-    stops-below (lines_after p whole) h.sends k.stops (ap (lines_after p) w ∙ lines_after-append p xs ys ∙ ap (λ r. lines_after p xs ++ lines_after r ys) (sym h.after))
-
--- the texts of lines, as they are joined by line feeds
-pub joined-below : {a c : Sent} {e : TableError} (above lines : List (List ℕ)) → StopsBelow (lines_after false above) a e c (lines_after false lines)
-    → StopsBelow (join_with_byte 10 above) a e c (join_with_byte 10 lines)
-joined-below {a} {c} {e} above lines h =
-    let P : List ℕ → Type 0 = λ text. StopsBelow (lines_after false above) a e c text in
-    let Q : List ℕ → Type 0 = λ text. StopsBelow text a e c (join_with_byte 10 lines) in
-    subst Q (lines_after-joined above) (subst P (lines_after-joined lines) h)
 
 -- lines were sent, and printing others below them is the end
 pub ends-below : {R : Type 0} {a b : Sent} {q : Bool} {xs : List (List ℕ)} (c : Sent) (after : Bool) (ys whole : List (List ℕ)) (r : Result R TableError)

@@ -1,11 +1,13 @@
 -- Streams that are printed to a borrowed writer.
 use Rattle.tabled_table.proofs.Names.{ArePermitted, Bool, CompactConfig, Err, List, MayGive, Memory, None, Ok, Option, PrintsStream, Range}
-use Rattle.tabled_table.proofs.Names.{ReadsTo, Result, Sent, StopsBelow, StreamSettings, StreamStops, Streams, TableError, inl, inr, map}
-use Rattle.tabled_table.proofs.Names.{refl, ℕ, ⊎_elim, ◌∙◌, ◌≡◌}
+use Rattle.tabled_table.proofs.Names.{ReadsTo, Result, Sent, StreamRead, StreamSettings, StreamStops, Streams, TableError, inl, inr, map}
+use Rattle.tabled_table.proofs.Names.{refl, ℕ, ⊎_elim, ◌≡◌}
 use Rattle.tabled_base.specs.declared.error.TableError.TheVariants.{Writer}
 use Rattle.tabled_line.specs.WriterSent.{named_sent}
+use Rattle.tabled_line.proofs.Below.{below-so}
 use Rattle.tabled_line.proofs.Writers.{LeavesSo, byte_of, writer-leaves, writer-sends}
 use Rattle.tabled_table.specs.Stream.Streams.{BuildsStream, StopsAtEnd, StopsAtRow, StopsBeforeStreaming, StopsInRows, Came}
+use Rattle.tabled_table.proofs.Stream.FirstRows.{read_of}
 use Rattle.std.specs.declared.option.Option.{Option}
 use Rattle.std.specs.Iterator.{Count}
 use Rattle.tabled_base.specs.RowsGiven.{RowsBegin, RowsEnd}
@@ -16,18 +18,12 @@ not_range e h k = cc
 not_memory : (e : TableError) → e ≡ Memory → e ≡ Writer → ⊥
 not_memory e h k = cc
 
--- a text that stops below some lines, for another sink
-below-so : {a b a' b' : Sent} {e : TableError} (above text : List ℕ) → LeavesSo a b e a' b' → StopsBelow above a e b text
-    → StopsBelow above a' e b' text
-below-so above text so p = record { stops = so.stops text p.stops; more = p.more; out = so.front text p.stops ∙ p.out }
-
 -- why a stream stops, for another sink
-stops-so : {a b a' b' : Sent} {e : TableError} (settings : StreamSettings) (config : CompactConfig) (rows : List (List (List ℕ))) (whole : Bool)
-    → LeavesSo a b e a' b' → StreamStops settings config rows whole a e b → StreamStops settings config rows whole a' e b'
-stops-so {a} {b} {a'} {b'} {e} settings config rows whole so h =
-    let early : StopsBeforeStreaming settings config rows whole a e b → StopsBeforeStreaming settings config rows whole a' e b' =
+stops-so : {a b a' b' : Sent} {e : TableError} (stream : StreamRead) → LeavesSo a b e a' b' → StreamStops stream a e b → StreamStops stream a' e b'
+stops-so {a} {b} {a'} {b'} {e} stream so h =
+    let early : StopsBeforeStreaming stream a e b → StopsBeforeStreaming stream a' e b' =
     λ p. record { same = so.same (⊎_elim (λ c. not_range e c.0) (λ c. not_memory e c.0) p.cause) p.same; cause = p.cause } in
-    let at_row : StopsAtRow settings config rows whole a e b → StopsAtRow settings config rows whole a' e b' =
+    let at_row : StopsAtRow stream a e b → StopsAtRow stream a' e b' =
     λ p. record {
       shown = p.shown;
       rest = p.rest;
@@ -37,7 +33,7 @@ stops-so {a} {b} {a'} {b'} {e} settings config rows whole so h =
       cause = p.cause;
       sends = so.sends (⊎_elim (λ c. not_range e c.0) (λ c. not_memory e c.0) p.cause) _ p.sends;
     } in
-    let in_rows : StopsInRows settings config rows whole a e b → StopsInRows settings config rows whole a' e b' =
+    let in_rows : StopsInRows stream a e b → StopsInRows stream a' e b' =
     λ p. record {
       shown = p.shown;
       rest = p.rest;
@@ -46,7 +42,7 @@ stops-so {a} {b} {a'} {b'} {e} settings config rows whole so h =
       taken = p.taken;
       stops = below-so _ _ so p.stops;
     } in
-    let at_end : StopsAtEnd settings config rows whole a e b → StopsAtEnd settings config rows whole a' e b' =
+    let at_end : StopsAtEnd stream a e b → StopsAtEnd stream a' e b' =
     λ p. record { enough = p.enough; sheet = p.sheet; streamed = p.streamed; stops = below-so _ _ so p.stops } in
     ⊎_elim (λ p. inl (early p)) (λ q. inr (⊎_elim (λ p. inl (at_row p)) (λ r. inr (⊎_elim (λ p. inl (in_rows p)) (λ p. inr (at_end p)) r)) q)) h
 
@@ -77,7 +73,7 @@ prints-written settings config comes na nb ca cb cf failed_at (Err e) k p = (
     whole = p.whole;
     came = p.came;
     permitted = p.permitted;
-    streams = stops-so settings config p.rows p.whole (writer-leaves na nb ca cb cf failed_at e k) p.streams;
+    streams = stops-so (read_of settings config p.rows p.whole) (writer-leaves na nb ca cb cf failed_at e k) p.streams;
   },
 )
 
@@ -106,7 +102,7 @@ module _ {V S W T A : Type 0} {rows_become : V → S → Type 0} {row_steps : S 
 -- what is printed of a source, by the cells that are read of it first
 pub prints-stream : {T A : Type 0} {settings : StreamSettings} {config : CompactConfig} {begins : List (List A) → Bool → Type 0} {text : A → List ℕ}
     {old new : Sent} {r : Result T TableError} (cells : List (List A)) (whole : Bool) → begins cells whole → ArePermitted settings (map (map text) cells)
-    → Streams settings config (map (map text) cells) whole old r new → PrintsStream settings config (Came begins text) old r new
+    → Streams (read_of settings config (map (map text) cells) whole) old r new → PrintsStream settings config (Came begins text) old r new
 prints-stream {text = text} cells whole begun permitted streams = record {
   rows = map (map text) cells;
   whole = whole;

@@ -1,5 +1,5 @@
 -- The lines of a table that is printed row by row.
-use Rattle.std.specs.Prelude.{ℕ, zero, suc, ◌++◌, List, [], replicate, ◌≡◌, Result, Ok, Err}
+use Rattle.std.specs.Prelude.{ℕ, zero, suc, ◌++◌, List, [], replicate, Result, Ok, Err}
 use Rattle.std.specs.List.{flat_map, join_with_byte, range_with_len}
 use Rattle.tabled_config.specs.Settings.{frame}
 use Rattle.tabled_line.specs.Fill.{fill}
@@ -7,7 +7,8 @@ use Rattle.tabled_size.specs.Sheet.{Sheet}
 use Rattle.tabled_size.specs.Totals.{filled_width}
 use Rattle.tabled_grid.specs.Picture.{row_part}
 use Rattle.tabled_base.specs.declared.error.TableError.{TableError}
-use Rattle.tabled_line.specs.Sent.{Sent, Sends, Stops}
+use Rattle.tabled_line.specs.Sent.{Sent, Sends}
+use Rattle.tabled_line.specs.StopsBelow.{StopsBelow}
 
 -- the lines above a row and its horizontal line, in a table of `count` columns: the top margin, and
 -- the rows before it with the horizontal lines above them
@@ -29,15 +30,8 @@ text_above t count row = join_with_byte 10 (lines_above t count row)
 abbrev pub text_before : Sheet → ℕ → ℕ → List ℕ
 text_before t count rows = join_with_byte 10 (lines_before t count rows)
 
--- ---- what a call that writes a text leaves, if the lines above some place in it are written
-
--- a beginning of the text was written, up to an error with its cause, and it begins with `above`
-pub record StopsBelow (above : List ℕ) (old : Sent) (error : TableError) (new : Sent) (text : List ℕ) : Type 0 where
-  pub stops : Stops old error new text
-  pub more : List ℕ
-  pub out : stops.front ≡ above ++ more
-
--- what such a call leaves, by its result: on `Ok` the whole text
+-- what a call that writes a text leaves, by its result, if the lines above some place in it are
+-- written: on `Ok` the whole text
 abbrev pub WritesBelow : {T : Type 0} → List ℕ → Sent → Result T TableError → Sent → List ℕ → Type 0
 WritesBelow above old (Ok _) new text = Sends old new text
 WritesBelow above old (Err error) new text = StopsBelow above old error new text

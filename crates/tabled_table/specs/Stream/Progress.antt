@@ -12,10 +12,11 @@ use Rattle.tabled_config.specs.declared.compact.CompactConfig.{CompactConfig}
 use Rattle.tabled_line.specs.Leading.{LineSends, lines_after}
 use Rattle.tabled_grid.specs.Picture.{table_text}
 use Rattle.tabled_line.specs.Sent.{Sent}
+use Rattle.tabled_line.specs.StopsBelow.{StopsBelow}
 use Rattle.tabled_size.specs.Sheet.{Sheet}
 use Rattle.tabled_table.specs.declared.iter_table.layout.Layout.{Layout}
 use Rattle.tabled_table.specs.declared.iter_table.settings.StreamSettings.{StreamSettings}
-use Rattle.tabled_table.specs.Stream.Printed.{StopsBelow, WritesBelow, lines_above, lines_before, text_above}
+use Rattle.tabled_table.specs.Stream.Printed.{WritesBelow, lines_above, lines_before, text_above}
 use Rattle.tabled_table.specs.Stream.Row.{compact_style, content_at}
 use Rattle.tabled_table.specs.Stream.Streamed.{IsStreamed, ahead, column_count, content_height, content_width, sniffed}
 use Rattle.tabled_table.specs.Stream.Streams.{IsTooHighFirst, Streams, stream_total}
@@ -172,7 +173,7 @@ abbrev pub StreamsLaidOut : {R : Type 0} → StreamSettings → Layout → ℕ �
 StreamsLaidOut settings layout total rows more whole old result new =
     (config : CompactConfig) → IsLaidOut settings config (sniffed settings rows) layout
     → total ≡ stream_total settings config (sniffed settings rows)
-    → Streams settings config (rows ++ more) whole old result new
+    → Streams (record { settings = settings; config = config; rows = rows ++ more; whole = whole }) old result new
 
 -- ---- rows that are read after others
 

@@ -1,3 +1,4 @@
+-- Of private steps: no public call promises this.
 -- A row as it is printed.
 use Rattle.std.specs.Prelude.{◌≡◌, ℕ, ◌+◌, ◌-◌, ◌*◌, if◌then◌else◌, Bool, false, List, [], ◌++◌, ◌⊎◌, Option, map, Result}
 use Rattle.std.specs.Result.{IsErrAnd}

@@ -7,10 +7,10 @@ use Rattle.tabled_config.specs.Spanned.{spanned_of_compact}
 use Rattle.tabled_size.specs.Sheet.{Sheet}
 use Rattle.tabled_size.specs.Totals.{filled_width}
 use Rattle.tabled_line.specs.Sent.{Sent, Sends}
+use Rattle.tabled_line.specs.StopsBelow.{StopsBelow}
 use Rattle.tabled_line.specs.WriterSent.{known_since, writer_after, writer_before}
 use Rattle.tabled_grid.specs.Picture.{table_text}
 use Rattle.tabled_table.specs.declared.iter_table.settings.StreamSettings.{StreamSettings}
-use Rattle.tabled_table.specs.Stream.Printed.{StopsBelow}
 use Rattle.tabled_table.specs.Stream.Printed.{text_above, text_before}
 use Rattle.tabled_table.specs.Stream.Streamed.{IsStreamed, ahead, column_count, limited, sniffed, stream_height, stream_widths}
 
@@ -55,15 +55,29 @@ pub record IsWholeStream (settings : StreamSettings) (config : CompactConfig) (r
   pub heights : IsFilled settings rows → (index : ℕ) → index < length (limited settings.rows rows) → slice_index t.heights index < 2 ^ 64
   pub width : IsFilled settings rows → stream_total settings config (sniffed settings rows) < 2 ^ 64
 
+-- what was read of a stream, under its settings: the first rows, and whether these are all
+pub record StreamRead : Type 0 where
+  pub settings : StreamSettings
+  pub config : CompactConfig
+  pub rows : List (List (List ℕ))
+  pub whole : Bool
+
+-- the rows of a stream that are read ahead
+abbrev pub rows_ahead : StreamRead → List (List (List ℕ))
+rows_ahead stream = sniffed stream.settings stream.rows
+
+-- the number of columns of a stream
+abbrev pub columns_of : StreamRead → ℕ
+columns_of stream = column_count stream.settings (rows_ahead stream)
+
 -- the sheet of the first rows that are shown; `rest` are those after them
-pub record IsBegun (settings : StreamSettings) (config : CompactConfig) (rows : List (List (List ℕ))) (whole : Bool) (shown rest : List (List (List ℕ)))
-    (t : Sheet) : Type 0 where
-  pub read : AreSniffed settings rows whole
-  pub parts : limited settings.rows rows ≡ shown ++ rest
-  pub streamed : IsStreamed settings config (sniffed settings rows) shown t
+pub record IsBegun (stream : StreamRead) (shown rest : List (List (List ℕ))) (t : Sheet) : Type 0 where
+  pub read : AreSniffed stream.settings stream.rows stream.whole
+  pub parts : limited stream.settings.rows stream.rows ≡ shown ++ rest
+  pub streamed : IsStreamed stream.settings stream.config (rows_ahead stream) shown t
   pub heights : (index : ℕ) → index < length shown → slice_index t.heights index < 2 ^ 64
-  pub columns : 0 < column_count settings (sniffed settings rows)
-  pub width : stream_total settings config (sniffed settings rows) < 2 ^ 64
+  pub columns : 0 < columns_of stream
+  pub width : stream_total stream.settings stream.config (rows_ahead stream) < 2 ^ 64
 
 -- the first of the following rows is too tall: its height exceeds the greatest `usize`
 abbrev pub IsTooHighFirst : StreamSettings → CompactConfig → List (List (List ℕ)) → ℕ → List (List (List ℕ)) → Type 0
@@ -72,65 +86,58 @@ IsTooHighFirst settings config ahead_rows index (row ∷ rest) = 2 ^ 64 ≤ stre
 
 -- exactly the lines above a row are written, and it is too tall, or an allocation for it failed; no
 -- row after it was read, except those that are read ahead
-pub record StopsAtRow (settings : StreamSettings) (config : CompactConfig) (rows : List (List (List ℕ))) (whole : Bool)
-    (old : Sent) (error : TableError) (new : Sent) : Type 0 where
+pub record StopsAtRow (stream : StreamRead) (old : Sent) (error : TableError) (new : Sent) : Type 0 where
   pub shown : List (List (List ℕ))
   pub rest : List (List (List ℕ))
   pub sheet : Sheet
-  pub begun : IsBegun settings config rows whole shown rest sheet
-  pub taken : length rows ≤ max (ahead settings) (length shown + 1)
-  pub cause : ((error ≡ Range) × IsTooHighFirst settings config (sniffed settings rows) (length shown) rest)
+  pub begun : IsBegun stream shown rest sheet
+  pub taken : length stream.rows ≤ max (ahead stream.settings) (length shown + 1)
+  pub cause : ((error ≡ Range) × IsTooHighFirst stream.settings stream.config (rows_ahead stream) (length shown) rest)
       ⊎ ((error ≡ Memory) × (0 < length rest))
-  pub sends : Sends old new (text_above sheet (column_count settings (sniffed settings rows)) (length shown))
+  pub sends : Sends old new (text_above sheet (columns_of stream) (length shown))
 
 -- the sink failed in the top margin, or in the last of some rows or its horizontal line; the lines
 -- above that row are written; no row after it was read, except those that are read ahead and the
 -- first
-pub record StopsInRows (settings : StreamSettings) (config : CompactConfig) (rows : List (List (List ℕ))) (whole : Bool)
-    (old : Sent) (error : TableError) (new : Sent) : Type 0 where
+pub record StopsInRows (stream : StreamRead) (old : Sent) (error : TableError) (new : Sent) : Type 0 where
   pub shown : List (List (List ℕ))
   pub rest : List (List (List ℕ))
   pub sheet : Sheet
-  pub begun : IsBegun settings config rows whole shown rest sheet
-  pub taken : length rows ≤ max (ahead settings) (max 1 (length shown))
-  pub stops : StopsBelow (text_before sheet (column_count settings (sniffed settings rows)) (length shown)) old error new
-      (text_above sheet (column_count settings (sniffed settings rows)) (length shown))
+  pub begun : IsBegun stream shown rest sheet
+  pub taken : length stream.rows ≤ max (ahead stream.settings) (max 1 (length shown))
+  pub stops : StopsBelow (text_before sheet (columns_of stream) (length shown)) old error new (text_above sheet (columns_of stream) (length shown))
 
 -- the sink failed below the last row
-pub record StopsAtEnd (settings : StreamSettings) (config : CompactConfig) (rows : List (List (List ℕ))) (whole : Bool)
-    (old : Sent) (error : TableError) (new : Sent) : Type 0 where
-  pub enough : AreEnough settings rows whole
+pub record StopsAtEnd (stream : StreamRead) (old : Sent) (error : TableError) (new : Sent) : Type 0 where
+  pub enough : AreEnough stream.settings stream.rows stream.whole
   pub sheet : Sheet
-  pub streamed : IsWholeStream settings config rows sheet
-  pub stops : StopsBelow (text_above sheet (column_count settings (sniffed settings rows)) (length (limited settings.rows rows)))
-      old error new (table_text sheet)
+  pub streamed : IsWholeStream stream.settings stream.config stream.rows sheet
+  pub stops : StopsBelow (text_above sheet (columns_of stream) (length (limited stream.settings.rows stream.rows))) old error new (table_text sheet)
 
 -- an error before the first byte: the total width is out of range, or an allocation failed, which
 -- happens only if a row was read
-pub record StopsBeforeStreaming (settings : StreamSettings) (config : CompactConfig) (rows : List (List (List ℕ))) (whole : Bool)
-    (old : Sent) (error : TableError) (new : Sent) : Type 0 where
+pub record StopsBeforeStreaming (stream : StreamRead) (old : Sent) (error : TableError) (new : Sent) : Type 0 where
   pub same : new ≡ old
-  pub cause : ((error ≡ Range) × AreSniffed settings rows whole × IsFilled settings rows
-      × (2 ^ 64 ≤ stream_total settings config (sniffed settings rows))) ⊎ ((error ≡ Memory) × (0 < length rows))
+  pub cause : ((error ≡ Range) × AreSniffed stream.settings stream.rows stream.whole × IsFilled stream.settings stream.rows
+      × (2 ^ 64 ≤ stream_total stream.settings stream.config (rows_ahead stream))) ⊎ ((error ≡ Memory) × (0 < length stream.rows))
 
 -- the table of the rows that were read was written
-pub record StreamSends (settings : StreamSettings) (config : CompactConfig) (rows : List (List (List ℕ))) (whole : Bool) (old new : Sent) : Type 0 where
-  pub enough : AreEnough settings rows whole
+pub record StreamSends (stream : StreamRead) (old new : Sent) : Type 0 where
+  pub enough : AreEnough stream.settings stream.rows stream.whole
   pub sheet : Sheet
-  pub streamed : IsWholeStream settings config rows sheet
+  pub streamed : IsWholeStream stream.settings stream.config stream.rows sheet
   pub sends : Sends old new (table_text sheet)
 
 -- why a stream stops
-abbrev pub StreamStops : StreamSettings → CompactConfig → List (List (List ℕ)) → Bool → Sent → TableError → Sent → Type 0
-StreamStops settings config rows whole old error new =
-    StopsBeforeStreaming settings config rows whole old error new
-    ⊎ (StopsAtRow settings config rows whole old error new
-    ⊎ (StopsInRows settings config rows whole old error new ⊎ StopsAtEnd settings config rows whole old error new))
+abbrev pub StreamStops : StreamRead → Sent → TableError → Sent → Type 0
+StreamStops stream old error new =
+    StopsBeforeStreaming stream old error new
+    ⊎ (StopsAtRow stream old error new ⊎ (StopsInRows stream old error new ⊎ StopsAtEnd stream old error new))
 
 -- what a call that prints a stream leaves for the rows that were read, by its result
-abbrev pub Streams : {T : Type 0} → StreamSettings → CompactConfig → List (List (List ℕ)) → Bool → Sent → Result T TableError → Sent → Type 0
-Streams settings config rows whole old (Ok _) new = StreamSends settings config rows whole old new
-Streams settings config rows whole old (Err error) new = StreamStops settings config rows whole old error new
+abbrev pub Streams : {T : Type 0} → StreamRead → Sent → Result T TableError → Sent → Type 0
+Streams stream old (Ok _) new = StreamSends stream old new
+Streams stream old (Err error) new = StreamStops stream old error new
 
 -- the cells of the first rows that a source gives, and whether these are all
 abbrev pub Came : {A : Type 0} → (List (List A) → Bool → Type 0) → (A → List ℕ) → List (List (List ℕ)) → Bool → Type 0
@@ -144,7 +151,7 @@ pub record PrintsStream {T : Type 0} (settings : StreamSettings) (config : Compa
   pub whole : Bool
   pub came : comes rows whole
   pub permitted : ArePermitted settings rows
-  pub streams : Streams settings config rows whole old result new
+  pub streams : Streams (record { settings = settings; config = config; rows = rows; whole = whole }) old result new
 
 -- what such a call leaves in the writer that it prints to
 abbrev pub BuildsStream : {T : Type 0} → StreamSettings → CompactConfig → (List (List (List ℕ)) → Bool → Type 0)

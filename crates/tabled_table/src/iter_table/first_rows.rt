@@ -188,8 +188,12 @@ pub(crate) fn print_stream<
     ensures { (cells : List (List C)) × (whole : Bool)
         × ReadsTo I.next_gives W.into_iter_gives W.IntoIter.next_gives rows.old cells whole rows.new
         × ArePermitted settings.now (map (map C.text) cells)
-        × Streams settings.now config.now (map (map C.text) cells) whole
-        (S.sent sink.old) result (S.sent sink.new) }
+        × Streams (record {
+          settings = settings.now;
+          config = config.now;
+          rows = map (map C.text) cells;
+          whole = whole;
+        }) (S.sent sink.old) result (S.sent sink.new) }
 {
     let taken = take_flat_rows(alloc, rows, first_rows(settings))?;
     let count = settings.columns.unwrap_or(taken.rows.columns());

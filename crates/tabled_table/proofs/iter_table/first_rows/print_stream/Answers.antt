@@ -1,7 +1,7 @@
 use Rattle.tabled_table.proofs.Names.{ArePermitted, List, Streams, map-append, ◌++◌, AreFurther, Err, Range, arith, column_count, false}
 use Rattle.tabled_table.proofs.Names.{inl, inr, length, length-map, limited, map, reads-open, refl, sniffed, subst, sym, ℕ, ◌∙◌, ◌≡◌, ◌⊎◌}
 use Rattle.tabled_table.proofs.Stream.Finished.{err-streams, unplanned}
-use Rattle.tabled_table.proofs.Stream.FirstRows.{permitted-ahead, permitted-first, permitted-more, taken-first, unshown, unshown-enough}
+use Rattle.tabled_table.proofs.Stream.FirstRows.{permitted-ahead, permitted-first, permitted-more, read_of, taken-first, unshown, unshown-enough}
 use Rattle.tabled_table.proofs.Stream.Measures.{columns-first, shown-long, texts-long}
 use Rattle.tabled_table.proofs.Stream.Widths.{total-laid, width-in-total}
 use Rattle.tabled_table.proofs.iter_table.first_rows.print_stream.Goals.{then-count-eq0-via-then-count-eq0}
@@ -157,7 +157,7 @@ returns g c =
     let F : ℕ → ℕ → Type 0 = λ k m. AreFurther settings.rows k taken.whole m o.1 in
     let further = subst (λ m. F (length kept) m) (sym (length-map o.0 (map text))) (subst (λ k. F k (length o.0)) (sym (texts-long text items)) o.2) in
     let P : List (List (List ℕ)) → Type 0 = ArePermitted settings in
-    let S : List (List (List ℕ)) → Type 0 = λ rows. Streams settings config rows o.1 (g.S.TextSink.sent c.args.sink.now) c.write_all.result
+    let S : List (List (List ℕ)) → Type 0 = λ rows. Streams (read_of settings config rows o.1) (g.S.TextSink.sent c.args.sink.now) c.write_all.result
     (g.S.TextSink.sent c.write_all.new.sink) in
     let texts : map (map text) (items ++ o.0) ≡ kept ++ map (map text) o.0 = map-append (map text) items o.0 in (
       items ++ o.0,

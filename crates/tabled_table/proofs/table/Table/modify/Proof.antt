@@ -12,7 +12,7 @@ use Rattle.tabled_table.proofs.Walks.{regoal, Rests, rests_at_err, rests_at_ok, 
 use Rattle.tabled_table.proofs.Walks.{split, spot_of, SProp, stay_dropped, Stays, stop, subst, suffices, switches, sym, T, TableError}
 use Rattle.tabled_table.proofs.Walks.{tables, TE, through, told_err, told_ok, triple_of, Typed, types_at, unit, Ura, use0, use1, use2, use3}
 use Rattle.tabled_table.proofs.Walks.{Val, vptr, vrt, walk_of, whole, WpFn, WT, ‵, ℕ, ⊤, ◌$◌, ◌++◌, ◌∵◌, ◌∷◌, ◌≡◌, ◌⊑◌, ◌⊛◌}
-use Rattle.tabled_table.specs.Applied.{IsModified, ModifyingFails}
+use Rattle.tabled_table.specs.Applied.{IsModified, Modification, ModifyingFails}
 use Rattle.tabled_table.specs.contracts.table.Table.{the_row as R}
 use Rattle.tabled_table.proofs.table.Table.modify.Statement.{statement}
 use Rattle.tabled_table.proofs.table.Table.apply_own.Met.{met}
@@ -94,7 +94,14 @@ modify_spec 𝓤 𝓛 𝓜 𝓡 wired A O L₀ L₁ g₁ d₁ g₂ d₂ d₃ d�
     move ! (1 ∷ 0 ∷ []) $ use2 𝓛 (raw (G.pre z)) (id⊢ 𝓤 _) $
     let parts = g₁.picks x (length (cells_of r.now)) (columns (cells_of r.now)) in
     let Applied = λ (n : R.Denot). IsModified (g₂.changes u) parts (g₂.hint u) r.now n in
-    let Left = λ (e : TableError) (n : R.Denot). ModifyingFails (g₂.is_undone u) (g₂.changes u) (g₂.fails u) (g₂.out_of_range u) parts e r.now n in
+    let m : Modification = record {
+      is_undone = g₂.is_undone u;
+      changes = g₂.changes u;
+      fails = g₂.fails u;
+      out_of_range = g₂.out_of_range u;
+      entities = parts;
+    } in
+    let Left = λ (e : TableError) (n : R.Denot). ModifyingFails m e r.now n in
     let Known = λ (e : TableError). ((n : R.Denot) × Left e n) in
     calls_at ! (framed 𝓤 𝓛.H 𝓜 𝓣) G (met 𝓤 𝓛 𝓜 𝓡 (code.calls-tabled_table::table::Table::apply_own 𝓡.env wired) A O L₀
     L₁ g₁ d₁ g₂ d₂ d₃ d₄ m₁ m₂ m₃ m₄) z
