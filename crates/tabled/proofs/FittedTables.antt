@@ -30,7 +30,10 @@ takes_all s last old mins new by h = Shrinks-takes s last old mins new by h
 -- a priority that begins does what its order does
 in_order : (s : OrderPriority) → s.round.kept ≡ 0 → (last : OrderPriority) (old mins : List ℕ) (by : ℕ) (new : List ℕ) → Shrinks s old mins by new last
     → OrderShrinks s.order old mins by new
-in_order s begins last old mins by new h = (last.round.kept, subst (λ k. IsShrunk s.order k old mins by new last.round.kept) begins h.0)
+in_order s begins last old mins by new h = (
+  last.round.kept,
+  subst (λ k. IsShrunk s.order k (record { old = old; mins = mins; by = by; new = new }) last.round.kept) begins h.0,
+)
 
 cleared_none : (b : Bool) → unless_cleared b None ≡ None
 cleared_none true = refl
@@ -175,7 +178,11 @@ passes n cells config none no_widths no_heights h =
 -- ---- the table that an option narrows, as its plan says
 
 least_by : (o : Order) (s : OrderPriority) → s.order ≡ o → (old new : Sheet) → (TakesGreatest Shrinks s → HasLeastWidth old new) → IsLeastBy o old new
-least_by Greatest s is old new f = f (λ last xs mins ys by h. (true, subst (λ o. IsShrunk o s.round.kept xs mins by ys last.round.kept) is h.0))
+least_by Greatest s is old new f =
+    f (λ last xs mins ys by h. (
+      true,
+      subst (λ o. IsShrunk o s.round.kept (record { old = xs; mins = mins; by = by; new = ys }) last.round.kept) is h.0,
+    ))
 least_by _ s is old new f = tt
 
 module _ (s : OrderPriority) (begins : s.round.kept ≡ 0) (n : ℕ) (cells new : Cells) (config : SpannedConfig) (none left last : CompleteDimension)

@@ -211,7 +211,8 @@ begun_nothing a b output e h = subst (Appends a b) (front_none h.front h.rest (h
 -- by the refusal
 pub failed_by : {O : Type 0} (contents : O → Option (List ℕ)) (words : List (List ℕ)) (old left : Option (List ℕ)) (out now : O) (plan : Plan)
     (text output : List ℕ) (e : TableError) → SpellsPlan words plan → HasRead old left text → IsBegunOn plan text output e
-    → Begins (contents out) (contents now) output → HasFailed contents words old left out now (Table e)
+    → Begins (contents out) (contents now) output
+    → HasFailed contents (record { arguments = words; input_before = old; input_after = left; out_before = out; out_after = now }) (Table e)
 failed_by contents words old left out now plan text output refusal.Memory s input b h =
     ⊎_elim (λ n. inl (begun_nothing (contents out) (contents now) output n h))
     (λ o. inr (plan, s, record { text = text; input = input; output = output; is_output = o; begun = h })) b

@@ -135,7 +135,9 @@ prints_made plan whole estimates t old (Err e) new m h =
 -- what is told by one plan is told by another that asks no more
 pub prints_as : {T : Type 0} (planned best planned' best' : Sheet → Type 0) (halts halts' : TableError → Type 0) (whole : Sheet) (old : Sent)
     (r : Result T TableError) (new : Sent) → ((t : Sheet) → planned t → planned' t) → ((t : Sheet) → planned t → best t → best' t)
-    → ((e : TableError) → halts e → halts' e) → PrintsPlanned planned best halts whole old r new → PrintsPlanned planned' best' halts' whole old r new
+    → ((e : TableError) → halts e → halts' e)
+    → PrintsPlanned (record { planned = planned; best = best; halts = halts; whole = whole }) old r new
+    → PrintsPlanned (record { planned = planned'; best = best'; halts = halts'; whole = whole }) old r new
 prints_as planned best planned' best' halts halts' whole old (Ok x) new gives good stops h =
     record {
       table = h.table;
@@ -195,7 +197,9 @@ cause_only _ grows a b h = absurd h
 
 -- only memory, a range that is passed, and a writer are refused
 only_printed : {T : Type 0} (planned best : Sheet → Type 0) (halts : TableError → Type 0) (whole : Sheet) (old : Sent) (r : Result T TableError) (new : Sent)
-    → ((e : TableError) → halts e → e ≡ Memory) → PrintsPlanned planned best halts whole old r new → IfErr r (λ e. (e ≡ Memory) ⊎ ((e ≡ Range) ⊎ (e ≡ Writer)))
+    → ((e : TableError) → halts e → e ≡ Memory)
+    → PrintsPlanned (record { planned = planned; best = best; halts = halts; whole = whole }) old r new
+    → IfErr r (λ e. (e ≡ Memory) ⊎ ((e ≡ Range) ⊎ (e ≡ Writer)))
 only_printed planned best halts whole old (Ok x) new stops h = tt
 only_printed planned best halts whole old (Err e) new stops h =
     ⊎_elim (λ m. inl m.0)
@@ -209,7 +213,7 @@ only_rendered plan cells old r new h =
 -- a refusal before anything was sent
 pub refused_early : {T : Type 0} (planned best : Sheet → Type 0) (halts : TableError → Type 0) (whole : Sheet) (old : Sent) (r : Result T TableError) (e : TableError)
     → IsErrAnd r (λ d. d ≡ e) → (e ≡ Memory) ⊎ (e ≡ Range) → (e ≡ Range → (is_empty whole.cells ≡ false) × PassesRange planned whole)
-    → PrintsPlanned planned best halts whole old r old
+    → PrintsPlanned (record { planned = planned; best = best; halts = halts; whole = whole }) old r old
 refused_early planned best halts whole old (Ok x) e i c f = absurd i
 refused_early planned best halts whole old (Err d) e i c f = ⊎_elim (λ m. inl (i ∙ m, refl)) (λ r. let k = f r in inr (k.0, inl (i ∙ r, refl, k.1))) c
 

@@ -24,13 +24,20 @@ IsNamed Greatest kept values mins answer kept' = MatchOption answer (NoneAbove v
 IsNamed Leftmost kept values mins answer kept' = MatchOption answer (NoneAbove values mins) (IsLeftmost values mins)
 IsNamed Rightmost kept values mins answer kept' = MatchOption answer (NoneAbove values mins) (IsRightmost values mins)
 
--- the new sizes, and the stored index after that
-abbrev pub IsShrunk : Order → ℕ → List ℕ → List ℕ → ℕ → List ℕ → ℕ → Type 0
-IsShrunk Round kept old mins by new kept' = IsRoundShrunk kept old mins by new kept'
-IsShrunk Least kept old mins by new kept' = IsMinShrunk true old mins by new
-IsShrunk Greatest kept old mins by new kept' = IsMaxShrunk true old mins by new
-IsShrunk Leftmost kept old mins by new kept' = IsLeftShrunk old mins by new
-IsShrunk Rightmost kept old mins by new kept' = IsRightShrunk old mins by new
+-- sizes that shrink: the old ones, their minimums, by how much they shrink in all, and the new ones
+pub record Shrinking : Type 0 where
+  pub old : List ℕ
+  pub mins : List ℕ
+  pub by : ℕ
+  pub new : List ℕ
+
+-- how sizes shrink in an order, and the stored index before and after that
+abbrev pub IsShrunk : Order → ℕ → Shrinking → ℕ → Type 0
+IsShrunk Round kept sizes kept' = IsRoundShrunk kept sizes.old sizes.mins sizes.by sizes.new kept'
+IsShrunk Least kept sizes kept' = IsMinShrunk true sizes.old sizes.mins sizes.by sizes.new
+IsShrunk Greatest kept sizes kept' = IsMaxShrunk true sizes.old sizes.mins sizes.by sizes.new
+IsShrunk Leftmost kept sizes kept' = IsLeftShrunk sizes.old sizes.mins sizes.by sizes.new
+IsShrunk Rightmost kept sizes kept' = IsRightShrunk sizes.old sizes.mins sizes.by sizes.new
 
 -- the sizes that grew, and the stored index after that
 abbrev pub IsGrown : Order → ℕ → List ℕ → ℕ → List ℕ → ℕ → Type 0
@@ -44,14 +51,15 @@ abbrev pub Names : OrderPriority → List ℕ → List ℕ → Option ℕ → Or
 Names s values mins answer t = IsNamed s.order s.round.kept values mins answer t.round.kept × (t.order ≡ s.order)
 
 abbrev pub Shrinks : OrderPriority → List ℕ → List ℕ → ℕ → List ℕ → OrderPriority → Type 0
-Shrinks s old mins by new t = IsShrunk s.order s.round.kept old mins by new t.round.kept × (t.order ≡ s.order)
+Shrinks s old mins by new t =
+    IsShrunk s.order s.round.kept (record { old = old; mins = mins; by = by; new = new }) t.round.kept × (t.order ≡ s.order)
 
 abbrev pub Grows : OrderPriority → List ℕ → ℕ → List ℕ → OrderPriority → Type 0
 Grows s old by new t = IsGrown s.order s.round.kept old by new t.round.kept × (t.order ≡ s.order)
 
 -- ---- laws of `OrderPriority`, from those of the five priorities
 
-none : (o : Order) (kept : ℕ) (xs mins : List ℕ) → IsShrunk o kept xs mins 0 xs kept
+none : (o : Order) (kept : ℕ) (xs mins : List ℕ) → IsShrunk o kept (record { old = xs; mins = mins; by = 0; new = xs }) kept
 none Round = IsRoundShrunk-none
 none Least = λ kept. IsMinShrunk-none true
 none Greatest = λ kept. IsMaxShrunk-none true
@@ -61,7 +69,8 @@ none Rightmost = λ kept. IsRightShrunk-none
 pub Shrinks-none : (s : OrderPriority) (xs mins : List ℕ) → Shrinks s xs mins 0 xs s
 Shrinks-none s xs mins = (none s.order s.round.kept xs mins, refl)
 
-done : (o : Order) (kept kept' : ℕ) (xs mins : List ℕ) (by : ℕ) → IsNamed o kept xs mins None kept' → IsShrunk o kept xs mins by xs kept'
+done : (o : Order) (kept kept' : ℕ) (xs mins : List ℕ) (by : ℕ) → IsNamed o kept xs mins None kept'
+    → IsShrunk o kept (record { old = xs; mins = mins; by = by; new = xs }) kept'
 done Round kept kept' xs mins by h = subst (λ k. IsRoundShrunk kept xs mins by xs k) (sym h.1) (IsRoundShrunk-done kept xs mins by h.0)
 done Least kept kept' xs mins by h = IsMinShrunk-done true xs mins by h
 done Greatest kept kept' xs mins by h = IsMaxShrunk-done true xs mins by h
@@ -71,8 +80,9 @@ done Rightmost kept kept' xs mins by h = IsRightShrunk-done xs mins by h
 pub Shrinks-done : (s t : OrderPriority) (xs mins : List ℕ) (by : ℕ) → Names s xs mins None t → Shrinks s xs mins by xs t
 Shrinks-done s t xs mins by h = (done s.order s.round.kept t.round.kept xs mins by h.0, h.1)
 
-step : (o : Order) (kept next last : ℕ) (xs mins new : List ℕ) (by i : ℕ) → IsNamed o kept xs mins (Some i) next → IsShrunk o next (lowered xs i) mins by new last
-    → IsShrunk o kept xs mins (by + 1) new last
+step : (o : Order) (kept next last : ℕ) (xs mins new : List ℕ) (by i : ℕ) → IsNamed o kept xs mins (Some i) next
+    → IsShrunk o next (record { old = lowered xs i; mins = mins; by = by; new = new }) last
+    → IsShrunk o kept (record { old = xs; mins = mins; by = by + 1; new = new }) last
 step Round kept next last xs mins new by i h rest =
     IsRoundShrunk-step kept xs mins i by new last h.0 (subst (λ k. IsRoundShrunk k (lowered xs i) mins by new last) h.1 rest)
 step Least kept next last xs mins new by i h rest = IsMinShrunk-step true xs mins i by new h rest
@@ -84,11 +94,12 @@ pub Shrinks-step : (s t u : OrderPriority) (xs mins new : List ℕ) (by i : ℕ)
     → Shrinks s xs mins (by + 1) new u
 Shrinks-step s t u xs mins new by i h rest = (
   step s.order s.round.kept t.round.kept u.round.kept xs mins new by i h.0
-      (subst (λ o. IsShrunk o t.round.kept (lowered xs i) mins by new u.round.kept) h.1 rest.0),
+      (subst (λ o. IsShrunk o t.round.kept (record { old = lowered xs i; mins = mins; by = by; new = new }) u.round.kept) h.1 rest.0),
   rest.1 ∙ h.1,
 )
 
-takes : (o : Order) (kept last : ℕ) (old mins new : List ℕ) (by : ℕ) → IsShrunk o kept old mins by new last → IsTakenFrom old mins by new
+takes : (o : Order) (kept last : ℕ) (old mins new : List ℕ) (by : ℕ) → IsShrunk o kept (record { old = old; mins = mins; by = by; new = new }) last
+    → IsTakenFrom old mins by new
 takes Round kept last old mins new by h = h.takes
 takes Least kept last old mins new by h = h.takes
 takes Greatest kept last old mins new by h = h.takes

@@ -22,7 +22,8 @@ Cells = List (List (List ℕ))
 
 -- how widths shrink in an order, by a number of columns and down to minimums
 abbrev pub OrderShrinks : Order → List ℕ → List ℕ → ℕ → List ℕ → Type 0
-OrderShrinks order old mins by new = (kept : ℕ) × IsShrunk order 0 old mins by new kept
+OrderShrinks order old mins by new =
+    (kept : ℕ) × IsShrunk order 0 (record { old = old; mins = mins; by = by; new = new }) kept
 
 -- a table narrowed to n: its widths shrink by what the total has above n, each cell is changed for
 -- its content width, and the heights are those of the new texts

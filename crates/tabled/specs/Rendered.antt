@@ -41,14 +41,23 @@ pub record BreaksOff (planned best : Sheet → Type 0) (halts : TableError → T
 abbrev pub PassesRange : (Sheet → Type 0) → Sheet → Type 0
 PassesRange planned whole = IsOutOfRange whole ⊎ ((t : Sheet) × planned t × IsOutOfRange t)
 
+-- a planned table: `planned` says which table the plan makes of `whole`, `best` what else holds of
+-- it, and `halts` at which errors its text may break off without a failure of the sink
+pub record PlannedTable : Type 1 where
+  pub planned : Sheet → Type 0
+  pub best : Sheet → Type 0
+  pub halts : TableError → Type 0
+  pub whole : Sheet
+
 -- on `Ok` all of the text was added. On `Err` either an allocation failed before the first byte, or
 -- the table isn't empty and a total is out of range, with nothing added, or the text breaks off
-abbrev pub PrintsPlanned : {T : Type 0} → (Sheet → Type 0) → (Sheet → Type 0) → (TableError → Type 0) → Sheet → Sent → Result T TableError → Sent → Type 0
-PrintsPlanned planned best halts whole old (Ok _) new = SendsTable planned best old new
-PrintsPlanned planned best halts whole old (Err error) new =
+abbrev pub PrintsPlanned : {T : Type 0} → PlannedTable → Sent → Result T TableError → Sent → Type 0
+PrintsPlanned table old (Ok _) new = SendsTable table.planned table.best old new
+PrintsPlanned table old (Err error) new =
     ((error ≡ Memory) × (new ≡ old))
-    ⊎ ((is_empty whole.cells ≡ false)
-    × (((error ≡ Range) × (new ≡ old) × PassesRange planned whole) ⊎ BreaksOff planned best halts old error new))
+    ⊎ ((is_empty table.whole.cells ≡ false)
+    × (((error ≡ Range) × (new ≡ old) × PassesRange table.planned table.whole)
+    ⊎ BreaksOff table.planned table.best table.halts old error new))
 
 -- ---- the table of a plan
 
@@ -60,12 +69,21 @@ Halts plan error = (plan ≡ Streamed) × (error ≡ Memory)
 -- what rendering cells under a plan leaves: it prints the table of the plan, with all properties of
 -- `IsBestPlanned`
 abbrev pub IsRendered : {T : Type 0} → Plan → Cells → Sent → Result T TableError → Sent → Type 0
-IsRendered plan cells old result new =
-    PrintsPlanned (IsPlanned plan cells) (IsBestPlanned plan cells) (Halts plan) (new_sheet cells) old result new
+IsRendered plan cells old result new = PrintsPlanned (record {
+  planned = IsPlanned plan cells;
+  best = IsBestPlanned plan cells;
+  halts = Halts plan;
+  whole = new_sheet cells;
+}) old result new
 
 -- what rendering a whole table under any settings leaves, if it is measured before it is printed
 abbrev pub IsRenderedOf : {T : Type 0} → Plan → Sheet → Sent → Result T TableError → Sent → Type 0
-IsRenderedOf plan whole old result new = PrintsPlanned (IsPlannedOf plan whole) (IsBestOf plan whole) (λ error. ⊥) whole old result new
+IsRenderedOf plan whole old result new = PrintsPlanned (record {
+  planned = IsPlannedOf plan whole;
+  best = IsBestOf plan whole;
+  halts = λ error. ⊥;
+  whole = whole;
+}) old result new
 
 -- a table that a plan makes of a whole one, with all properties of `IsBestOf`, and ready to be
 -- printed

@@ -37,16 +37,28 @@ pub record HasOverflowed (plan : Plan) (old left held holds : Option (List ℕ))
   pub overflows : Overflows plan text
   pub kept : Appends held holds []
 
+-- a run of the program: its arguments, what was left in its reader before it and is left after it,
+-- and the writer that it prints to, before it and after it
+pub record ProgramRun (O : Type 0) : Type 0 where
+  pub arguments : List (List ℕ)
+  pub input_before : Option (List ℕ)
+  pub input_after : Option (List ℕ)
+  pub out_before : O
+  pub out_after : O
+
 -- what a failed run leaves, by its fault. `Input`: the writer as it was. `Memory`: nothing written,
 -- or a beginning of the output. `Range`: nothing written. `Writer`: a beginning of the output.
 -- Other faults don't occur with valid arguments
-abbrev pub HasFailed : {O : Type 0} → (O → Option (List ℕ)) → List (List ℕ) → Option (List ℕ) → Option (List ℕ) → O → O → Fault → Type 0
-HasFailed contents words old left out now Input = now ≡ out
-HasFailed contents words old left out now (Table Memory) =
-    Appends (contents out) (contents now) []
-    ⊎ ((plan : Plan) × SpellsPlan words plan × HasBegun plan old left (contents out) (contents now))
-HasFailed contents words old left out now (Table Range) =
-    (plan : Plan) × SpellsPlan words plan × HasOverflowed plan old left (contents out) (contents now)
-HasFailed contents words old left out now (Table Writer) =
-    (plan : Plan) × SpellsPlan words plan × HasBegun plan old left (contents out) (contents now)
-HasFailed contents words old left out now _ = ⊥
+abbrev pub HasFailed : {O : Type 0} → (O → Option (List ℕ)) → ProgramRun O → Fault → Type 0
+HasFailed contents run Input = run.out_after ≡ run.out_before
+HasFailed contents run (Table Memory) =
+    Appends (contents run.out_before) (contents run.out_after) []
+    ⊎ ((plan : Plan) × SpellsPlan run.arguments plan
+    × HasBegun plan run.input_before run.input_after (contents run.out_before) (contents run.out_after))
+HasFailed contents run (Table Range) =
+    (plan : Plan) × SpellsPlan run.arguments plan
+    × HasOverflowed plan run.input_before run.input_after (contents run.out_before) (contents run.out_after)
+HasFailed contents run (Table Writer) =
+    (plan : Plan) × SpellsPlan run.arguments plan
+    × HasBegun plan run.input_before run.input_after (contents run.out_before) (contents run.out_after)
+HasFailed contents run _ = ⊥

@@ -122,8 +122,13 @@ fn attempt<I: Read, O: Write>(
         × HasPrinted plan (I.remaining input.old) (I.remaining input.new) (O.contents out.old)
         (O.contents out.new)) }
     ensures failed { IfErr result (λ fault. (fault ≡ Fault.Usage)
-        ⊎ HasFailed O.contents (map string_bytes words.now) (I.remaining input.old)
-        (I.remaining input.new) out.old out.new fault) }
+        ⊎ HasFailed O.contents (record {
+          arguments = map string_bytes words.now;
+          input_before = I.remaining input.old;
+          input_after = I.remaining input.new;
+          out_before = out.old;
+          out_after = out.new;
+        }) fault) }
 {
     let Some(plan) = plan_of(words) else {
         return Err(Fault::Usage);
@@ -179,8 +184,13 @@ pub fn run<I: Read, O: Write, E: Write>(
         × HasPrinted plan (I.remaining input.old) (I.remaining input.new) (O.contents out.old)
         (O.contents out.new) }
     ensures failed { result ≡ 1 → (fault : Fault)
-        × HasFailed O.contents (map string_bytes words.now) (I.remaining input.old)
-        (I.remaining input.new) out.old out.new fault
+        × HasFailed O.contents (record {
+          arguments = map string_bytes words.now;
+          input_before = I.remaining input.old;
+          input_after = I.remaining input.new;
+          out_before = out.old;
+          out_after = out.new;
+        }) fault
         × Begins (E.contents err.old) (E.contents err.new) (line_of (word_of fault)) }
     ensures silent { result ≡ 0 → err.new ≡ err.old }
     ensures shown { result ≡ 2 → Begins (E.contents err.old) (E.contents err.new) (line_of usage) }
