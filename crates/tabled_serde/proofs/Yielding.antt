@@ -218,7 +218,8 @@ module _ {S T : Type 0} (steps : S → Option T → S → Type 0) (writes : T �
   )
 
   pub at-failure : {U : Type 0} (becomes : U → S → Type 0) (source : U) (start : S) (s t : ValueRows S) (e : RowError) (built : List (List (List ℕ)))
-      → becomes source start → SoFar start s built → row_steps steps writes own s (Some (Err e)) t → IsSourceError becomes steps writes own none source e
+      → becomes source start → SoFar start s built → row_steps steps writes own s (Some (Err e)) t
+      → IsSourceError (record { source = source; becomes = becomes; steps = steps; writes = writes; own = own; none = none }) e
   at-failure becomes source start s t e built made so_far h =
       let found = failed_at start s t e built s.first so_far so_far.given h in
       at_value e (record {

@@ -48,23 +48,30 @@ FailsAfter writes own none [] value e = IsValueError writes own none value e
 FailsAfter writes own none (first ∷ values) value e = (names cells : List (List ℕ)) × (later : List (List (List ℕ)))
     × HasFields writes none first names cells × AllZip (IsRowOf writes none names) values later × IsRowError writes own none names value e
 
+-- a source of values: `becomes` says which iterator is made of it, `steps` how that goes on,
+-- `writes` which events a value writes, `own` which errors are its own, and `none` is the text of a
+-- `None`
+pub record ValueSource (U S T : Type 0) : Type 1 where
+  pub source : U
+  pub becomes : U → S → Type 0
+  pub steps : S → Option T → S → Type 0
+  pub writes : T → Option (List Event) → Option (List Event) → Type 0
+  pub own : T → List ℕ → List ℕ → Type 0
+  pub none : List ℕ
+
 -- the source yields these values and then one that fails
-pub record FailsAtNext {U S T : Type 0} (becomes : U → S → Type 0) (steps : S → Option T → S → Type 0)
-    (writes : T → Option (List Event) → Option (List Event) → Type 0) (own : T → List ℕ → List ℕ → Type 0)
-    (none : List ℕ) (source : U) (e : RowError) : Type 0 where
+pub record FailsAtNext {U S T : Type 0} (from : ValueSource U S T) (e : RowError) : Type 0 where
   pub start : S
   pub reached : S
   pub rest : S
   pub values : List T
   pub value : T
-  pub made : becomes source start
-  pub yielded : Yields steps start values reached
-  pub next : steps reached (Some value) rest
-  pub fails : FailsAfter writes own none values value e
+  pub made : from.becomes from.source start
+  pub yielded : Yields from.steps start values reached
+  pub next : from.steps reached (Some value) rest
+  pub fails : FailsAfter from.writes from.own from.none values value e
 
 -- an error of the rows of a source: an allocation failed, or one of its values has no row
-pub data IsSourceError {U S T : Type 0} (becomes : U → S → Type 0) (steps : S → Option T → S → Type 0)
-    (writes : T → Option (List Event) → Option (List Event) → Type 0) (own : T → List ℕ → List ℕ → Type 0)
-    (none : List ℕ) (source : U) : RowError → Type 0 where
-  no_memory : IsSourceError becomes steps writes own none source Memory
-  at_value : (e : RowError) → FailsAtNext becomes steps writes own none source e → IsSourceError becomes steps writes own none source e
+pub data IsSourceError {U S T : Type 0} (from : ValueSource U S T) : RowError → Type 0 where
+  no_memory : IsSourceError from Memory
+  at_value : (e : RowError) → FailsAtNext from e → IsSourceError from e

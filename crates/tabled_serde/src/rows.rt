@@ -104,9 +104,14 @@ pub fn builder<I: IntoIterator<Item = T>, T: OwnErrors + Drop>(
         × Given I.into_iter_gives I.IntoIter.next_gives values items
         × AreRows T.writes none.now items rows × (builder ≡ rows)) }
     ensures texts { IfOk result (λ builder. All (All IsUtf8) builder) }
-    ensures failed { IfErr result
-        (IsSourceError I.into_iter_gives I.IntoIter.next_gives T.writes
-        T.own_error none.now values) }
+    ensures failed { IfErr result (IsSourceError (record {
+      source = values;
+      becomes = I.into_iter_gives;
+      steps = I.IntoIter.next_gives;
+      writes = T.writes;
+      own = T.own_error;
+      none = none.now;
+    })) }
 {
     let mut builder = Builder::new(alloc);
     'rows: for row in ValueRows::new(alloc, values.into_iter(), none) {

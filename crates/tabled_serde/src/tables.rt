@@ -31,9 +31,14 @@ pub fn table<I: IntoIterator<Item = T>, T: OwnErrors + Drop>(
         × Given I.into_iter_gives I.IntoIter.next_gives values items
         × AreRows T.writes [] items rows × IsNew rows table) }
     ensures texts { IfOk result (λ table. All (All IsUtf8) (cells_of table)) }
-    ensures failed { IfErr result
-        (IsSourceError I.into_iter_gives I.IntoIter.next_gives T.writes
-        T.own_error [] values) }
+    ensures failed { IfErr result (IsSourceError (record {
+      source = values;
+      becomes = I.into_iter_gives;
+      steps = I.IntoIter.next_gives;
+      writes = T.writes;
+      own = T.own_error;
+      none = [];
+    })) }
 {
     Ok(Table::from(builder(alloc, values, "")?))
 }

@@ -63,7 +63,8 @@ returns-in_err-row-clause-failed g c =
     let becomes = g.I.IntoIterator.into_iter_gives in
     let i = c.rows.invariant in
     let e = c.in_err-row.field-0.0 in
-    passed (IsSourceError becomes steps writes own c.args.none.now c.args.values) c.from_residual.result e c.from_residual.ensures.1
+    passed (IsSourceError (record { source = c.args.values; becomes = becomes; steps = steps; writes = writes; own = own; none = c.args.none.now }))
+    c.from_residual.result e c.from_residual.ensures.1
     (at-failure steps writes own c.args.none.now becomes c.args.values i.start c.rows.row-iterator c.next.new.self e c.rows.builder i.made i.so_far
     (subst (λ o. row_steps steps writes own c.rows.row-iterator (Some o) c.next.new.self) c.in_err-row.was c.in-Some.ensures.steps))
 
