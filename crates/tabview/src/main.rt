@@ -2,10 +2,12 @@
 //! terminal.
 #![tactic(auto)]
 
+mod message;
 #[cfg(test)]
 mod tests;
 
 use clap::ArgMatches;
+use message::{complain, explain};
 use std::process::ExitCode;
 use std::rt::Env;
 use std::{env, io};
@@ -22,7 +24,7 @@ fn run(rt: &HostRuntime, words: &[String]) -> io::Result<ExitCode> {
     match command(rt.alloc())?.try_get_matches_from(words) {
         Ok(matches) => view(rt, &matches),
         Err(error) => {
-            error.print(rt)?;
+            explain(rt, &error)?;
             Ok(ExitCode::from(error.exit_code() as u8))
         }
     }
@@ -32,7 +34,7 @@ fn view(rt: &HostRuntime, matches: &ArgMatches<'_>) -> io::Result<ExitCode> {
     match Options::of(rt.alloc(), matches, terminal_width(rt)) {
         Ok(options) => outcome(rt, &options, show(rt, &options)),
         Err(error) => {
-            eprintln!(rt; "tabview: {error}")?;
+            complain(rt, &format!(in rt.alloc(); "{error}")?)?;
             Ok(ExitCode::from(2))
         }
     }
@@ -48,7 +50,7 @@ fn outcome(
         Ok(()) => Ok(ExitCode::SUCCESS),
         Err(error) => {
             let input = options.input.file.unwrap_or("standard input");
-            eprintln!(rt; "tabview: {input}: {error}")?;
+            complain(rt, &format!(in rt.alloc(); "{input}: {error}")?)?;
             Ok(ExitCode::from(1))
         }
     }

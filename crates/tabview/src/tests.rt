@@ -159,11 +159,17 @@ static ENDINGS: [Run; 6] = [
     },
 ];
 
-static INPUTS: [Run; 15] = [
+static INPUTS: [Run; 16] = [
     Run {
         words: &["tabview", "-s", "empty", "--no-header"],
         input: "\u{1b}[1mred,a\tb\n",
         shown: " ␛[1mred  a␉b \n",
+    },
+    // directional marks
+    Run {
+        words: &["tabview", "-s", "empty", "--no-header"],
+        input: "a\u{202e}b\u{2066}\n",
+        shown: " a␦eb␦f \n",
     },
     Run {
         words: &["tabview", "-s", "empty", "--no-header", "--raw"],

@@ -14,7 +14,7 @@ use Rattle.tabled_text.proofs.Pieces.{IsAscii-printable, chars-printable}
 use Rattle.tabled_text.specs.Measure.{text_columns}
 use Rattle.tabview_cells.proofs.Escapes.{above, below, escaped-none, inside}
 use Rattle.tabview_cells.specs.Choice.{shown_text}
-use Rattle.tabview_cells.specs.Escaping.{escaped, is_control, is_escaped, is_sign}
+use Rattle.tabview_cells.specs.Escaping.{escaped, is_acting, is_control, is_directional, is_escaped, is_sign}
 use Rattle.tabview_cells.specs.Kinds.{is_code}
 use Rattle.tabled_base.specs.Printable.{is_printable}
 use Rattle.tabview_cells.specs.Graphic.{is_graphic}
@@ -43,8 +43,13 @@ kept-printable lines c h =
     let sign : is_sign c ≡ false = below 0x2400 0x2426 c (omega (arith, high)) in
     let first : is_in_range 0 0x1F c ≡ false = above 0 0x1F c (omega (arith, low)) in
     let second : is_in_range 0x7F 0x9F c ≡ false = below 0x7F 0x9F c (omega (arith, high)) in
-    cond-false (c == 10) (not lines) (is_sign c || is_control c) (ne_eqb c 10 (λ e. absurd (omega (arith, low, e))))
-    ∙ or_from (is_sign c) (is_control c) sign (or_from (is_in_range 0 0x1F c) (is_in_range 0x7F 0x9F c) first second)
+    let third : is_in_range 0x202A 0x202E c ≡ false = below 0x202A 0x202E c (omega (arith, high)) in
+    let fourth : is_in_range 0x2066 0x2069 c ≡ false = below 0x2066 0x2069 c (omega (arith, high)) in
+    cond-false (c == 10) (not lines) (is_sign c || is_acting c) (ne_eqb c 10 (λ e. absurd (omega (arith, low, e))))
+    ∙ or_from (is_sign c) (is_acting c) sign
+    (or_from (is_control c) (is_directional c)
+    (or_from (is_in_range 0 0x1F c) (is_in_range 0x7F 0x9F c) first second)
+    (or_from (is_in_range 0x202A 0x202E c) (is_in_range 0x2066 0x2069 c) third fourth))
 
 none-escaped : (lines : Bool) (cs : List ℕ) → is_printable cs ≡ true → list_any (is_escaped lines) cs ≡ false
 none-escaped lines [] h = refl

@@ -22,9 +22,9 @@ use tabled_text::text_measures;
 pub enum Shown {
     /// As it is.
     Raw,
-    /// With control characters as visible ones, except line feeds.
+    /// With control characters and directional marks as visible ones, except line feeds.
     Lines,
-    /// With control characters as visible ones, line feeds too.
+    /// With control characters and directional marks as visible ones, line feeds too.
     OneLine,
 }
 

@@ -2,7 +2,7 @@
 //!
 //! - `choice`: the cells that are shown of a row.
 //! - `dates`: dates and times of digits.
-//! - `escaping`: control characters as visible ones, so that nothing is lost.
+//! - `escaping`: control characters and directional marks as visible ones, so that nothing is lost.
 //! - `fit`: the widths of columns of which some don't give.
 //! - `kinds`: what the cells of a column are: numbers, dates, codes or text.
 //! - `numbers`: decimal numbers.
