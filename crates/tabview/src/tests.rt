@@ -1,5 +1,7 @@
 //! Runs of the viewer: each option, and input that is wrong. The tables are worked out by hand.
 
+mod lines;
+
 use sqlite::Connection;
 use std::test::Fail;
 use tabview_options::{Options, command};

@@ -10,8 +10,8 @@ ghost use Rattle.tabview_cells.specs.Escaping.{unescape};
 use std::alloc::{AllocError, Global};
 use std::borrow::CowStr;
 
-/// The mark before a sign that represents itself, and before the letter of a control character or of
-/// a directional mark.
+/// The mark before a sign that represents itself, and before the letter of a control character or
+/// of a directional mark.
 const MARK: char = '␦';
 
 /// The picture of U+0000. Those of the other control characters follow it.

@@ -1,6 +1,6 @@
 -- Rows of comma-separated values, and the cells of their records.
 use Rattle.std.proofs.Common.{◌≡◌, ℕ, zero, suc, ◌+◌, List, [], ◌∷◌, ◌++◌, Bool, Option, Some, None, false, inl, inr, map, option_map, refl, sym, ap, take, ◌∙◌, arith}
-use Rattle.std.specs.Prelude.{is_some, true}
+use Rattle.std.specs.Prelude.{if◌then◌else◌, is_some, true, Result, Ok, Err, IfOk}
 use Rattle.std.specs.Str.Lossy.{utf8_lossy}
 use Rattle.std.proofs.lemmas.List.{map-append}
 use Rattle.csv.specs.Reading.{builder_config, builder_is_flexible, builder_names_headers, builder_trim, default_config, expected_len, is_flexible, names_headers, Ready, ReadRecord, took_first, reader_config, reader_headers, reader_state, reader_trim, source_of, strip_bom, with_config, with_flexible, with_names_headers}
@@ -11,9 +11,11 @@ use Rattle.csv.specs.declared.record.ByteRecordIter.{ByteRecordIter}
 use Rattle.csv.specs.declared.reader.Reader.{Reader}
 use Rattle.csv.specs.declared.reader.ReaderBuilder.{ReaderBuilder}
 use Rattle.csv.specs.declared.reader.Trim.TheVariants as trim
-use Rattle.tabview_read.specs.Csv.{BeginsCsv, HasDefaultSyntax, ReadsCells, ReadsFields, ReadsLossy, record_cells, is_lossy}
-use Rattle.tabview_read.specs.declared.csv_rows.CsvOptions.{CsvOptions}
+use Rattle.tabview_read.specs.Csv.{BeginsCsv, CsvGives, Gives, HasDefaultSyntax, IsReady, ReadsCells, ReadsFields, ReadsLossy, record_cells, is_lossy, watched_bytes}
+use Rattle.tabview_read.specs.declared.csv_records.CsvOptions.{CsvOptions}
+use Rattle.tabview_read.specs.declared.csv_records.CsvRecords.{CsvRecords}
 use Rattle.tabview_read.specs.declared.csv_rows.CsvRows.{CsvRows}
+use Rattle.tabview_read.specs.declared.row.Row.{Row as GivenRow}
 
 -- the settings of a builder after three calls
 built : (a b c d : ReaderBuilder) (fill : Bool) (delimiter : ℕ) → b ≡ with_names_headers a false → c ≡ with_flexible b fill
@@ -22,11 +24,11 @@ built : (a b c d : ReaderBuilder) (fill : Bool) (delimiter : ℕ) → b ≡ with
 built a b c d fill delimiter e f g =
     g ∙ ap (λ k. with_config k (record (builder_config k) { delimiter = delimiter })) (f ∙ ap (λ k. with_flexible k fill) e)
 
-pub csv-begins : {R : Type 0} (rem : R → Option (List ℕ)) (o : CsvOptions) (input : R) (s : CsvRows R) (a b c d : ReaderBuilder)
+pub csv-begins : {R : Type 0} (rem : R → Option (List ℕ)) (o : CsvOptions) (input : R) (s : CsvRecords R) (a b c d : ReaderBuilder)
     → builder_config a ≡ default_config → builder_trim a ≡ trim.None
     → b ≡ with_names_headers a false → c ≡ with_flexible b o.fill → d ≡ with_config c (record (builder_config c) { delimiter = o.delimiter })
     → reader_config s.reader ≡ builder_config d → names_headers s.reader ≡ builder_names_headers d → is_flexible s.reader ≡ builder_is_flexible d → reader_trim s.reader ≡ builder_trim d
-    → reader_headers s.reader ≡ None → expected_len s.reader ≡ None → reader_state s.reader ≡ state.StartRecord → source_of rem s.reader ≡ option_map strip_bom (rem input)
+    → reader_headers s.reader ≡ None → expected_len s.reader ≡ None → reader_state s.reader ≡ state.StartRecord → source_of (watched_bytes rem) s.reader ≡ option_map strip_bom (rem input)
     → is_lossy s ≡ o.lossy → s.names ≡ None → BeginsCsv rem o input s
 csv-begins rem o input s a b c d config trims e f g config2 named flexible trims2 headers expected state source lossy names =
     let all = built a b c d o.fill o.delimiter e f g in
@@ -108,8 +110,8 @@ pub reads_none : {R : Type 0} (rem : R → Option (List ℕ)) (old new : Reader 
 reads_none rem old new fields cells reads first flexible plain =
     record { fields = fields; reads = reads_fields rem old new false fields reads first flexible plain; are = λ never. absurd (cc) }
 
-pub cells_text : {R : Type 0} (rem : R → Option (List ℕ)) (from to : CsvRows R) (found : Bool) (cells : List (List ℕ))
-    → from.bytes ≡ None → to.bytes ≡ None → to.names ≡ from.names → ReadsFields rem from.reader found cells to.reader → ReadsCells rem from found cells to
+pub cells_text : {R : Type 0} (rem : R → Option (List ℕ)) (from to : CsvRecords R) (found : Bool) (cells : List (List ℕ))
+    → from.bytes ≡ None → to.bytes ≡ None → to.names ≡ from.names → ReadsFields (watched_bytes rem) from.reader found cells to.reader → ReadsCells rem from found cells to
 cells_text rem from to found cells old new names reads = record {
   fields = cells;
   reads = reads;
@@ -118,8 +120,8 @@ cells_text rem from to found cells old new names reads = record {
   lossy = ap is_some new ∙ sym (ap is_some old);
 }
 
-pub cells_lossy : {R : Type 0} (rem : R → Option (List ℕ)) (from to : CsvRows R) (found : Bool) (cells : List (List ℕ))
-    → is_lossy from ≡ true → is_lossy to ≡ true → to.names ≡ from.names → ReadsLossy rem from.reader found cells to.reader → ReadsCells rem from found cells to
+pub cells_lossy : {R : Type 0} (rem : R → Option (List ℕ)) (from to : CsvRecords R) (found : Bool) (cells : List (List ℕ))
+    → is_lossy from ≡ true → is_lossy to ≡ true → to.names ≡ from.names → ReadsLossy (watched_bytes rem) from.reader found cells to.reader → ReadsCells rem from found cells to
 cells_lossy rem from to found cells old new names reads = record {
   fields = reads.fields;
   reads = reads.reads;
@@ -127,3 +129,15 @@ cells_lossy rem from to found cells old new names reads = record {
   names = names;
   lossy = new ∙ sym old;
 }
+
+-- ---- rows
+pub csv_gives : {R : Type 0} (rem : R → Option (List ℕ)) (from ready : CsvRows R) (found : Bool) (row : GivenRow) (to : CsvRows R)
+    → IsReady rem from ready → Gives ready found row to → CsvGives rem from (if found then Some row else None) to
+csv_gives rem from ready true row to is gives = (ready, is, gives)
+csv_gives rem from ready false row to is gives = (ready, row, is, gives)
+
+pub csv_read : {R E : Type 0} (rem : R → Option (List ℕ)) (from ready : CsvRows R) (result : Result Bool E) (row : GivenRow) (to : CsvRows R)
+    → (HasDefaultSyntax from.records.reader → IsReady rem from ready) → IfOk result (λ found. Gives ready found row to)
+    → IfOk result (λ found. HasDefaultSyntax from.records.reader → CsvGives rem from (if found then Some row else None) to)
+csv_read rem from ready (Ok found) row to is gives = λ plain. csv_gives rem from ready found row to (is plain) gives
+csv_read rem from ready (Err e) row to is gives = tt

@@ -7,3 +7,4 @@ pub mod Selection
 pub mod Sheets
 pub mod Shown
 pub mod Csv
+pub mod CsvText

@@ -1,44 +1,40 @@
 //! Rows of comma- or tab-separated values.
 ghost use Rattle.csv.specs.Records.{fields_of};
-ghost use Rattle.std.specs.Prelude.{◌≡◌, IfOk, OnOk, map, option_map};
-ghost use Rattle.std.specs.Str.Lossy.{utf8_lossy};
-ghost use Rattle.tabview_read.specs.Csv.{BeginsCsv, CsvGives, HasDefaultSyntax, ReadsCells, ReadsFields, ReadsLossy};
+ghost use Rattle.std.specs.Prelude.{◌≡◌, ◌∷◌, [], IfOk, OnOk, false, option_map, true};
+ghost use Rattle.tabview_read.specs.Csv.{CsvGives, Gives, HasDefaultSyntax, IsAhead, IsReady};
 
+use crate::csv_records::{CsvOptions, CsvRecords};
 use crate::error::ReadError;
 use crate::row::{Row, Rows};
-use csv::{ByteRecord, Error, ErrorKind, Position, Reader, ReaderBuilder, StringRecord};
-use std::alloc::{AllocError, Global};
+use csv::StringRecord;
+use std::alloc::Global;
 use std::io::Read;
+use std::mem;
 
-/// How comma-separated values are read.
-#[derive(Clone, Copy)]
-pub struct CsvOptions {
-    /// The byte between two cells.
-    pub delimiter: u8,
-    /// Whether the first record has the names of the columns.
-    pub has_header: bool,
-    /// Whether records may have more or fewer cells than the first.
-    pub fill: bool,
-    /// Whether invalid UTF-8 is shown as U+FFFD.
-    pub lossy: bool,
-}
-
-/// Rows of comma-separated values. A byte-order mark is skipped, and CR LF ends a line.
+/// Rows of comma-separated values. In a text of one column, each blank line behind the first record
+/// is a row with an empty cell.
 pub struct CsvRows<R: Read + Drop> {
-    alloc: Global,
-    reader: Reader<R>,
-    names: Option<StringRecord>,
-    /// The record as bytes, if it may be invalid UTF-8.
-    bytes: Option<ByteRecord>,
+    records: CsvRecords<R>,
+    /// The cells of the first record, once it was read.
+    width: Option<usize>,
+    /// The blank lines before the next record that aren't given yet.
+    blank: u64,
+    /// The blank lines that were read.
+    passed: u64,
+    /// The cells of the next record, if it was read ahead.
+    next: StringRecord,
+    has_next: bool,
 }
 
 impl<R: Read + Drop> Drop for CsvRows<R> {
     fn drop(self) {
         let CsvRows {
-            alloc: _,
-            reader: _,
-            names: _,
-            bytes: _,
+            records: _,
+            width: _,
+            blank: _,
+            passed: _,
+            next: _,
+            has_next: _,
         } = self;
     }
 }
@@ -46,138 +42,112 @@ impl<R: Read + Drop> Drop for CsvRows<R> {
 impl<R: Read + Drop> CsvRows<R> {
     /// Begins to read. The first record is read if it has the names.
     pub fn new(alloc: Global, options: CsvOptions, input: R) -> Result<CsvRows<R>, ReadError>
-        ensures { IfOk result (λ rows. HasDefaultSyntax rows.reader) }
+        ensures { IfOk result (λ rows. HasDefaultSyntax rows.records.reader) }
     {
-        let mut rows = CsvRows::begin(alloc, options, input);
-        if options.has_header {
-            rows.read_names()?;
-        }
-        Ok(rows)
+        let records = CsvRecords::new(alloc, options, input)?;
+        let width = records.names.as_ref().map(|names| names.len());
+        Ok(CsvRows {
+            width,
+            blank: 0,
+            passed: records.blank_lines(),
+            records,
+            next: StringRecord::new(alloc),
+            has_next: false,
+        })
     }
 
-    /// Begins before the first record.
-    fn begin(alloc: Global, options: CsvOptions, input: R) -> CsvRows<R>
-        ensures { BeginsCsv R.remaining options input result }
+    /// Reads the next record ahead if no row is waiting.
+    fn make_ready(&mut self) -> Result<(), ReadError>
+        ensures { OnOk result (HasDefaultSyntax self.old.records.reader
+            → IsReady R.remaining self.old self.new) }
     {
-        let mut builder = ReaderBuilder::new();
-        CsvRows {
-            alloc,
-            reader: builder
-                .has_headers(false)
-                .flexible(options.fill)
-                .delimiter(options.delimiter)
-                .from_reader(alloc, input),
-            names: None,
-            bytes: options.lossy.then(|| ByteRecord::new(alloc)),
+        if self.blank > 0 || self.has_next {
+            return Ok(());
+        }
+        self.read_ahead()
+    }
+
+    /// Gives a blank line or the record that was read ahead, and returns whether there is one.
+    fn give(&mut self, row: &mut Row) -> Result<bool, ReadError>
+        ensures { IfOk result (λ found. Gives self.old found row.new self.new) }
+    {
+        if self.blank > 0 {
+            self.blank -= 1;
+            return put_blank(row);
+        }
+        row.nulls.clear();
+        mem::swap(&mut row.cells, &mut self.next);
+        Ok(mem::replace(&mut self.has_next, false))
+    }
+
+    /// Reads the next record ahead, if there is one, and counts the blank lines before it.
+    fn read_ahead(&mut self) -> Result<(), ReadError>
+        requires blank { self.old.blank ≡ 0 }
+        requires none { self.old.has_next ≡ false }
+        ensures { OnOk result (HasDefaultSyntax self.old.records.reader
+            → IsAhead R.remaining self.old self.new) }
+    {
+        self.has_next = self.records.read(&mut self.next)?;
+        match self.width {
+            Some(1) => {
+                self.count_blank();
+                Ok(())
+            }
+            Some(_) => Ok(()),
+            None => {
+                self.begin_rows();
+                Ok(())
+            }
         }
     }
 
-    /// Takes the names of the columns from the first record, if there is one.
-    fn read_names(&mut self) -> Result<(), ReadError>
-        ensures { HasDefaultSyntax self.old.reader → OnOk result (HasDefaultSyntax self.new.reader) }
+    /// Takes the width from the record that was read ahead. Blank lines before it are no rows.
+    fn begin_rows(&mut self)
+        ensures records { self.new.records ≡ self.old.records }
+        ensures next { self.new.next ≡ self.old.next }
+        ensures has_next { self.new.has_next ≡ self.old.has_next }
+        ensures blank { self.new.blank ≡ self.old.blank }
     {
-        let mut names = StringRecord::new(self.alloc);
-        if self.read_cells(&mut names)? {
-            self.names = Some(names);
-        }
-        Ok(())
+        self.passed = self.records.blank_lines();
+        self.width = Some(self.next.len());
     }
 
-    /// Reads the cells of the next record, and returns whether there is one.
-    #[tactic(auto, using(crate::proofs::CsvRecords::cells_text, crate::proofs::CsvRecords::cells_lossy))]
-    fn read_cells(&mut self, cells: &mut StringRecord) -> Result<bool, ReadError>
-        ensures { IfOk result (λ found. HasDefaultSyntax self.old.reader → ReadsCells R.remaining self.old
-            found (fields_of cells.new) self.new) }
+    /// Counts the blank lines before the record that was read ahead.
+    fn count_blank(&mut self)
+        ensures records { self.new.records ≡ self.old.records }
+        ensures next { self.new.next ≡ self.old.next }
+        ensures has_next { self.new.has_next ≡ self.old.has_next }
+        ensures width { self.new.width ≡ self.old.width }
     {
-        match &mut self.bytes {
-            None => read_text(&mut self.reader, cells),
-            Some(bytes) => read_lossy(self.alloc, &mut self.reader, bytes, cells),
-        }
+        let passed = self.records.blank_lines();
+        self.blank = passed.saturating_sub(self.passed);
+        self.passed = passed;
     }
 }
 
-/// Reads the next record, and returns whether there is one.
-#[tactic(auto, using(crate::proofs::CsvRecords::reads_fields))]
-fn read_text<R: Read>(reader: &mut Reader<R>, cells: &mut StringRecord) -> Result<bool, ReadError>
-    ensures { IfOk result (λ found. HasDefaultSyntax reader.old
-        → ReadsFields R.remaining reader.old found (fields_of cells.new) reader.new) }
+/// Makes a row with an empty cell.
+fn put_blank(row: &mut Row) -> Result<bool, ReadError>
+    ensures cells { OnOk result (fields_of row.new.cells ≡ [] ∷ []) }
+    ensures nulls { row.new.nulls.items ≡ [] }
+    ensures found { IfOk result (λ found. found ≡ true) }
 {
-    match reader.read_record(cells) {
-        Ok(found) => Ok(found),
-        Err(error) => Err(read_error(error)),
-    }
-}
-
-/// Reads the next record with U+FFFD for invalid UTF-8, and returns whether there is one.
-#[tactic(auto, using(crate::proofs::CsvRecords::reads_lossy, crate::proofs::CsvRecords::reads_none))]
-fn read_lossy<R: Read>(
-    alloc: Global,
-    reader: &mut Reader<R>,
-    bytes: &mut ByteRecord,
-    cells: &mut StringRecord,
-) -> Result<bool, ReadError>
-    ensures { IfOk result (λ found. HasDefaultSyntax reader.old
-        → ReadsLossy R.remaining reader.old found (fields_of cells.new) reader.new) }
-{
-    match reader.read_byte_record(bytes) {
-        Ok(true) => {
-            put_lossy(alloc, bytes, cells)?;
-            Ok(true)
-        }
-        Ok(false) => Ok(false),
-        Err(error) => Err(read_error(error)),
-    }
+    row.clear();
+    row.push_text("")?;
+    Ok(true)
 }
 
 impl<R: Read + Drop> Rows for CsvRows<R> {
-    ghost names_give = { λ s names. names ≡ option_map fields_of s.names };
+    ghost names_give = { λ s names. names ≡ option_map fields_of s.records.names };
 
-    ghost read_gives = { λ from row to. HasDefaultSyntax from.reader → CsvGives R.remaining from row to };
+    ghost read_gives = { λ from row to. HasDefaultSyntax from.records.reader
+        → CsvGives R.remaining from row to };
 
     fn names(&self) -> Option<&StringRecord> {
-        self.names.as_ref()
+        self.records.names.as_ref()
     }
 
     fn read(&mut self, row: &mut Row) -> Result<bool, ReadError> {
-        row.nulls.clear();
-        self.read_cells(&mut row.cells)
+        self.make_ready()?;
+        self.give(row)
     }
-}
-
-/// Puts the cells of a record of bytes, with U+FFFD for invalid UTF-8.
-fn put_lossy(alloc: Global, bytes: &ByteRecord, cells: &mut StringRecord) -> Result<(), AllocError>
-    ensures { OnOk result (fields_of cells.new ≡ map utf8_lossy (fields_of bytes.now)) }
-{
-    cells.clear();
-    for field in bytes {
-        cells.push_field(&String::from_utf8_lossy(alloc, field)?)?;
-    }
-    Ok(())
-}
-
-/// Says where a record is wrong.
-fn read_error(error: Error) -> ReadError {
-    match error.into_kind() {
-        ErrorKind::Io(error) => ReadError::Input(error),
-        ErrorKind::Utf8 { pos, err } => {
-            ReadError::CellNotUtf8(at(pos), err.field().saturating_add(1))
-        }
-        ErrorKind::UnequalLengths {
-            pos,
-            expected_len,
-            len,
-        } => ReadError::Ragged {
-            at: at(pos),
-            cells: len,
-            wanted: expected_len,
-        },
-        // The others are errors of values that are written or read as types.
-        ErrorKind::Serialize(_) | ErrorKind::Deserialize { .. } | ErrorKind::OutOfMemory => {
-            ReadError::Memory
-        }
-    }
-}
-
-fn at(position: Option<Position>) -> Position {
-    position.unwrap_or(Position::new())
 }

@@ -138,6 +138,8 @@ pub enum ReadError {
         cells: u64,
         wanted: u64,
     },
+    /// Comma-separated values end in quotes that began in this line.
+    OpenQuote(u64),
     /// A JSON text is wrong.
     Json(Place, Fault),
     /// A query failed.
@@ -163,6 +165,7 @@ impl Drop for ReadError {
                 cells: _,
                 wanted: _,
             } => {}
+            ReadError::OpenQuote(_) => {}
             ReadError::Json(_, _) => {}
             ReadError::Query(_) => {}
             ReadError::NoTable => {}
@@ -193,6 +196,7 @@ impl fmt::Display for ReadError {
                     "line {line}: {cells} {noun}, but {wanted} in the first record (record {record}, byte {byte})"
                 )
             }
+            ReadError::OpenQuote(line) => write!(f, "line {line}: a quote isn't closed"),
             ReadError::Json(place, fault) => write!(f, "{place}: {fault}"),
             ReadError::Query(error) => write!(f, "{error}"),
             ReadError::NoTable => f.write_str("the database has no table"),

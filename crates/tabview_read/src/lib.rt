@@ -1,7 +1,8 @@
 //! Reads rows from CSV, TSV, JSON, JSON lines and SQLite, and keeps those that are shown.
 //!
 //! - `chosen`: the columns that are shown.
-//! - `csv_rows`: rows of comma- or tab-separated values.
+//! - `csv_records`: records of comma- or tab-separated values.
+//! - `csv_rows`: rows of these, with blank lines in a text of one column.
 //! - `document`: a JSON text.
 //! - `error`: why an input can't be shown.
 //! - `faults`: where a JSON text is wrong.
@@ -13,14 +14,17 @@
 //! - `nesting`: which token of JSON may follow others.
 //! - `place`: places in a text.
 //! - `row`: rows, and what they are read from.
+//! - `scan`: what the bytes of comma-separated values belong to.
 //! - `selector`: selects the rows that are shown.
 //! - `sheet`: the lines that are shown.
 //! - `sqlite_rows`: the rows of a query.
 //! - `stream`: rows that are shown as they are read.
 //! - `values`: how JSON values become rows.
+//! - `watched`: comma-separated values that are watched as they are read.
 #![tactic(auto)]
 
 mod chosen;
+mod csv_records;
 mod csv_rows;
 mod document;
 mod error;
@@ -33,14 +37,17 @@ mod keys;
 mod nesting;
 mod place;
 mod row;
+mod scan;
 mod selector;
 mod sheet;
 mod sqlite_rows;
 mod stream;
 mod values;
+mod watched;
 
 pub use chosen::{Chosen, is_column};
-pub use csv_rows::{CsvOptions, CsvRows};
+pub use csv_records::CsvOptions;
+pub use csv_rows::CsvRows;
 pub use error::{Fault, Place, ReadError};
 pub use format::Format;
 pub use json_lines::JsonLines;

@@ -1,6 +1,6 @@
 use Rattle.std.proofs.Common.{◌∙◌}
 use Rattle.tabview_read.proofs.CsvRecords.{lossy-all, lossy-more}
-use Rattle.tabview_read.proofs.csv_rows.put_lossy.Goals as goal
+use Rattle.tabview_read.proofs.csv_records.put_lossy.Goals as goal
 
 pub loop-field-preserved : goal.loop-field-preserved
 loop-field-preserved c =

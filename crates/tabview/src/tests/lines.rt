@@ -1,0 +1,40 @@
+//! Runs over lines and values: where rows begin and end in an input.
+
+use super::{Run, check_runs};
+use std::test::Fail;
+
+/// Blank lines of one column, and quotes.
+static LINES: [Run; 5] = [
+    Run {
+        words: &["tabview", "-s", "markdown", "-n"],
+        input: "name\nAnn\n\nBo\n",
+        shown: "| # | name |\n|---|------|\n| 1 | Ann  |\n| 2 |      |\n| 3 | Bo   |\n",
+    },
+    // CR LF, before the names, inside quotes, and at the end
+    Run {
+        words: &["tabview", "-s", "markdown"],
+        input: "\r\nname\r\n\r\n\r\n\"a\n\n\"\r\n\r\n",
+        shown: "| name |\n|------|\n|      |\n|      |\n| a    |\n|      |\n|      |\n|      |\n",
+    },
+    // of several columns a blank line is no row
+    Run {
+        words: &["tabview", "-s", "markdown"],
+        input: "a,b\n\n1,2\n",
+        shown: "| a | b |\n|---|---|\n| 1 | 2 |\n",
+    },
+    Run {
+        words: &["tabview", "-s", "markdown"],
+        input: "a,b\n1,\"x\n\"\n2,\"y\n",
+        shown: "line 4: a quote isn't closed",
+    },
+    Run {
+        words: &["tabview", "-s", "markdown"],
+        input: "a,b\n\"x,y\n",
+        shown: "line 2: a quote isn't closed",
+    },
+];
+
+#[test]
+fn lines_are_told_apart(rt: HostRuntime) -> Result<(), Fail> {
+    check_runs(&rt, &LINES)
+}
