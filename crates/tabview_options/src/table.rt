@@ -43,7 +43,7 @@ pub(crate) static READING: [Described; 7] = [
         letter: Some('d'),
         takes: Takes::Text,
         value: "C",
-        help: "Character between cells: one of ASCII, or \\t",
+        help: "Character between cells: one of ASCII, or \\t{n}[default: a comma, or a tab, ; or | by the{n}first lines]",
         excludes: &[],
     },
     Described {

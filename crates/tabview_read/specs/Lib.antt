@@ -8,3 +8,4 @@ pub mod Sheets
 pub mod Shown
 pub mod Csv
 pub mod CsvText
+pub mod Delimiters

@@ -3,6 +3,7 @@
 //! - `chosen`: the columns that are shown.
 //! - `csv_records`: records of comma- or tab-separated values.
 //! - `csv_rows`: rows of these, with blank lines in a text of one column.
+//! - `delimiter`: the byte between cells, as the first records of a text show it.
 //! - `document`: a JSON text.
 //! - `error`: why an input can't be shown.
 //! - `faults`: where a JSON text is wrong.
@@ -26,6 +27,7 @@
 mod chosen;
 mod csv_records;
 mod csv_rows;
+mod delimiter;
 mod document;
 mod error;
 mod faults;
@@ -48,6 +50,7 @@ mod watched;
 pub use chosen::{Chosen, is_column};
 pub use csv_records::CsvOptions;
 pub use csv_rows::CsvRows;
+pub use delimiter::delimiter_of;
 pub use error::{Fault, Place, ReadError};
 pub use format::Format;
 pub use json_lines::JsonLines;

@@ -1,5 +1,5 @@
 -- What is asked for, in the words of the crates below. A text is the list of its bytes.
-use Rattle.std.specs.Prelude.{◌≡◌, ℕ, ◌+◌, ◌-◌, ◌^◌, ◌++◌, Bool, true, false, List, [], ◌∷◌, Option, Some, None, codes, if◌then◌else◌, map, min, option_map, unwrap_or}
+use Rattle.std.specs.Prelude.{◌≡◌, ℕ, ◌+◌, ◌-◌, ◌^◌, ◌++◌, Bool, true, false, List, [], ◌∷◌, Option, Some, None, codes, if◌then◌else◌, is_none, map, min, option_map, unwrap_or}
 use Rattle.std.specs.Borrow.{Bor}
 use Rattle.tabled_config.specs.declared.alignment.AlignmentHorizontal.{AlignmentHorizontal}
 use Rattle.tabled_config.specs.declared.alignment.AlignmentHorizontal.TheVariants as at
@@ -14,6 +14,7 @@ use Rattle.tabview_options.specs.declared.options.Side.TheVariants.{Left, Right,
 use Rattle.tabview_print.specs.declared.layout.Column.{Column}
 use Rattle.tabview_read.specs.Formats.{format_of_name, format_of_path}
 use Rattle.tabview_read.specs.declared.format.Format.{Format}
+use Rattle.tabview_read.specs.declared.format.Format.TheVariants.{Csv, Tsv, Json, JsonLines, Sqlite}
 use Rattle.tabview_read.specs.declared.sheet.Wanted.{Wanted}
 
 -- the text that is asked for, else another
@@ -29,6 +30,15 @@ abbrev pub format_of : Option (Bor (List ℕ)) → Option (Bor (List ℕ)) → O
 format_of (Some name) file = format_of_name name.now
 format_of None (Some path) = format_of_path path.now
 format_of None None = None
+
+-- the first bytes are read if the format isn't known, or the delimiter of comma-separated values
+abbrev pub wants_head : Option ℕ → Option Format → Bool
+wants_head delimiter None = true
+wants_head delimiter (Some Csv) = is_none delimiter
+wants_head delimiter (Some Tsv) = false
+wants_head delimiter (Some Json) = false
+wants_head delimiter (Some JsonLines) = false
+wants_head delimiter (Some Sqlite) = false
 
 -- what is wanted by the options
 pub record IsWanted (options : Options) (wanted : Wanted) : Type 0 where

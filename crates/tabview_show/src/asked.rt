@@ -1,7 +1,7 @@
 //! What is asked for, in the words of the crates below.
 ghost use Rattle.std.specs.Prelude.{◌≡◌, if◌then◌else◌, unwrap_or};
 ghost use Rattle.tabview_show.specs.Asked.{IsWanted, alignment, format_of, measured, shown_by};
-ghost use Rattle.tabview_show.specs.Asked.{side_of_kind};
+ghost use Rattle.tabview_show.specs.Asked.{side_of_kind, wants_head};
 
 use tabled_config::AlignmentHorizontal;
 use tabview_cells::{Kind, Shown};
@@ -59,6 +59,17 @@ pub(crate) fn json_options(input: &Input<'_>) -> JsonOptions
     JsonOptions {
         has_header: input.has_header,
         fill: input.fill,
+    }
+}
+
+/// Whether the first bytes of an input are read, to know its format or its delimiter.
+pub(crate) fn wants_head(input: &Input<'_>, format: Option<Format>) -> bool
+    ensures { result ≡ wants_head input.now.delimiter format }
+{
+    match format {
+        None => true,
+        Some(Format::Csv) => input.delimiter.is_none(),
+        Some(_) => false,
     }
 }
 

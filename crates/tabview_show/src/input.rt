@@ -1,6 +1,6 @@
 //! Reads an input by its format, and shows it.
 
-use crate::asked::{csv_options, format_of, json_options, wanted};
+use crate::asked::{csv_options, format_of, json_options, wanted, wants_head};
 use crate::error::ViewError;
 use crate::layout::layout_of;
 use crate::progress::Progress;
@@ -11,15 +11,15 @@ use std::fs::File;
 use std::io::{self, BufReader, BufWriter, Read, Write};
 use tabview_options::Options;
 use tabview_read::{
-    CsvRows, Format, JsonLines, JsonRows, ReadError, Rows, Sheet, SqliteRows, Wanted, query_of,
-    read_sheet, text_of,
+    CsvRows, Format, JsonLines, JsonRows, ReadError, Rows, Sheet, SqliteRows, Wanted, delimiter_of,
+    query_of, read_sheet, text_of,
 };
 
 /// The bytes that are written at once.
 const BLOCK: usize = 65_536;
 
-/// The bytes by which a format is known.
-const HEAD: u64 = 4096;
+/// The bytes by which a format and a delimiter are known.
+const HEAD: usize = 4096;
 
 /// Shows the file, or standard input without one, on standard output.
 ///
@@ -88,28 +88,40 @@ pub fn show_input<R: Read + Drop, W: Write>(
     mut input: R,
     out: &mut W,
 ) -> Result<bool, ViewError> {
+    let known = format_of(&options.input);
     let mut head = Vec::new(rt.alloc());
-    let format = match format_of(&options.input) {
-        Some(format) => format,
-        None => read_head(&mut input, &mut head)?,
-    };
+    if wants_head(&options.input, known) {
+        read_head(&mut input, options.stream.is_some(), &mut head)?;
+    }
+    let format = known.unwrap_or(Format::of_head(&head));
     if format == Format::Sqlite {
         return Ok(false);
     }
     if options.input.query.is_some() {
         return Err(ViewError::NoDatabase);
     }
-    show_text(rt, options, format, head.as_slice().chain(input), out)?;
+    if format == Format::Csv {
+        let delimiter = delimiter_of(&head, head.len() < HEAD);
+        show_csv(rt, options, delimiter, head.as_slice().chain(input), out)?;
+    } else {
+        show_text(rt, options, format, head.as_slice().chain(input), out)?;
+    }
     Ok(true)
 }
 
-/// Reads the first bytes of an input, and returns the format that they are of.
-fn read_head<R: Read>(input: &mut R, head: &mut Vec<u8>) -> Result<Format, ReadError> {
-    let mut first = input.by_ref().take(HEAD);
-    match first.read_to_end(head) {
-        Ok(_) => Ok(Format::of_head(head)),
-        Err(error) => Err(ReadError::Input(error)),
+/// Reads the first bytes of an input, or of a stream those of its first line.
+fn read_head<R: Read>(input: &mut R, is_stream: bool, head: &mut Vec<u8>) -> Result<(), ReadError> {
+    let step = if is_stream { 1 } else { HEAD as u64 };
+    for _step in 0..HEAD {
+        let mut bytes = input.by_ref().take(step);
+        if bytes.read_to_end(head)? == 0 || head.len() >= HEAD {
+            break;
+        }
+        if is_stream && head.last() == Some(&b'\n') {
+            break;
+        }
     }
+    Ok(())
 }
 
 /// Shows an input in a format of text.

@@ -3,8 +3,8 @@
 use super::{Run, check_runs};
 use std::test::Fail;
 
-/// Blank lines of one column, and quotes.
-static LINES: [Run; 5] = [
+/// Blank lines of one column, and delimiters that are found.
+static LINES: [Run; 11] = [
     Run {
         words: &["tabview", "-s", "markdown", "-n"],
         input: "name\nAnn\n\nBo\n",
@@ -31,6 +31,37 @@ static LINES: [Run; 5] = [
         words: &["tabview", "-s", "markdown"],
         input: "a,b\n\"x,y\n",
         shown: "line 2: a quote isn't closed",
+    },
+    Run {
+        words: &["tabview", "-s", "markdown"],
+        input: "a;b\n\"x;\";2,5\n",
+        shown: "| a  | b   |\n|----|-----|\n| x; | 2,5 |\n",
+    },
+    Run {
+        words: &["tabview", "-s", "markdown", "a.csv"],
+        input: "a|b\n1|2\n",
+        shown: "| a | b |\n|---|---|\n| 1 | 2 |\n",
+    },
+    Run {
+        words: &["tabview", "-s", "markdown", "a.csv"],
+        input: "a\tb;\n1\t2;\n",
+        shown: "| a | b; |\n|---|----|\n| 1 | 2; |\n",
+    },
+    // not equally often, a comma in the first line, and a delimiter that is given
+    Run {
+        words: &["tabview", "-s", "markdown"],
+        input: "a;b\n1\n",
+        shown: "| a;b |\n|-----|\n|   1 |\n",
+    },
+    Run {
+        words: &["tabview", "-s", "markdown"],
+        input: "a;b,c\n1;2,3\n",
+        shown: "| a;b | c |\n|-----|---|\n| 1;2 | 3 |\n",
+    },
+    Run {
+        words: &["tabview", "-s", "markdown", "-d", ","],
+        input: "a;b\n1;2\n",
+        shown: "| a;b |\n|-----|\n| 1;2 |\n",
     },
 ];
 
