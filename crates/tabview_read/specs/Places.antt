@@ -1,5 +1,5 @@
 -- Places in a text of bytes.
-use Rattle.std.specs.Prelude.{ℕ, ◌+◌, ◌-◌, ◌==◌, Bool, List, if◌then◌else◌, fold, min, ◌^◌}
+use Rattle.std.specs.Prelude.{ℕ, ◌+◌, ◌-◌, ◌==◌, Bool, List, if◌then◌else◌, fold, min, nat_le, ◌^◌}
 use Rattle.std.specs.Int.{is_in_range}
 
 -- a byte within a character of UTF-8
@@ -24,3 +24,11 @@ line_after bytes = fold line_step 1 bytes
 
 abbrev pub column_after : List ℕ → ℕ
 column_after bytes = fold column_step 1 bytes
+
+-- the line of a place in a text that begins in a line
+abbrev pub line_behind : ℕ → ℕ → ℕ
+line_behind begin line = min (begin + (line - 1)) (2 ^ 64 - 1)
+
+-- the column of a place in a text that begins at a column: in its first line it begins there
+abbrev pub column_behind : ℕ → ℕ → ℕ → ℕ
+column_behind begin line column = if nat_le line 1 then min (begin + (column - 1)) (2 ^ 64 - 1) else column

@@ -17,28 +17,27 @@ pub(crate) struct Document<'a> {
 }
 
 impl<'a> Document<'a> {
-    /// Reads a text. Fails if it isn't JSON, or if an object in it has a key twice.
+    /// Reads a text. Fails if it isn't JSON.
     pub(crate) fn parse(
         alloc: Global,
         text: &'a str,
         scratch: &'a mut Scratch,
     ) -> Result<Document<'a>, ReadError> {
-        match Value::parse_strict(alloc, text, scratch) {
+        match Value::parse(alloc, text, scratch) {
             Ok(value) => Ok(Document { value }),
             Err(error) => Err(why(alloc, text, error)),
         }
     }
 
-    /// Returns the count of the rows, if the text is an array or an object.
-    pub(crate) fn count(&self) -> Option<usize> {
+    /// Returns the count of the rows: those of an array, or one.
+    pub(crate) fn count(&self) -> usize {
         match &self.value {
-            Value::Array(items) => Some(items.len()),
-            Value::Object(_) => Some(1),
-            _ => None,
+            Value::Array(items) => items.len(),
+            _ => 1,
         }
     }
 
-    /// Returns a row of an array, or an object itself.
+    /// Returns a row of an array, or another value itself.
     pub(crate) fn row(&self, row: usize) -> Option<&Value<'a>>
         ensures { IfSome result (λ v. HasNumbers (value_view v.now)) }
     {

@@ -14,7 +14,7 @@ pub struct Place {
 
 impl Place {
     ghost use Rattle.std.specs.Prelude.{◌≡◌};
-    ghost use Rattle.tabview_read.specs.Places.{column_step, line_step};
+    ghost use Rattle.tabview_read.specs.Places.{column_behind, column_step, line_behind, line_step};
 
     /// Returns the place behind one more byte. A byte within a character has no column.
     pub(crate) fn after(self, byte: u8) -> Place
@@ -33,6 +33,22 @@ impl Place {
             },
         }
     }
+
+    /// Returns a place of a text that begins here.
+    pub(crate) fn behind(self, place: Place) -> Place
+        ensures line { result.line ≡ line_behind self.line place.line }
+        ensures column { result.column ≡ column_behind self.column place.line place.column }
+    {
+        let column = if place.line <= 1 {
+            self.column.saturating_add(place.column.saturating_sub(1))
+        } else {
+            place.column
+        };
+        Place {
+            line: self.line.saturating_add(place.line.saturating_sub(1)),
+            column,
+        }
+    }
 }
 
 impl fmt::Display for Place {
@@ -48,14 +64,12 @@ pub enum Fault {
     Memory,
     /// The text isn't JSON.
     NotJson,
-    /// A row is neither an object nor an array.
+    /// A row is neither an object nor an array, among rows that are.
     NotRow,
     /// A row is an object among arrays, or an array among objects.
     Mixed,
     /// An array has more or fewer cells than the first.
     Ragged { cells: usize, wanted: usize },
-    /// An object has a key twice.
-    Doubled,
     /// An object has a key that none of the rows read ahead has.
     Unknown(String),
 }
@@ -72,7 +86,6 @@ impl Drop for Fault {
                 cells: _,
                 wanted: _,
             } => {}
-            Fault::Doubled => {}
             Fault::Unknown(_) => {}
         }
     }
@@ -94,7 +107,6 @@ impl fmt::Display for Fault {
                 let noun = noun_of(*cells as u64);
                 write!(f, "{cells} {noun}, but {wanted} in the first row")
             }
-            Fault::Doubled => f.write_str("an object has a key twice"),
             Fault::Unknown(key) => write!(f, "the key {key} is in none of the rows read ahead"),
         }
     }

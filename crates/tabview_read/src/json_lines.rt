@@ -1,8 +1,8 @@
-//! Rows of JSON lines.
+//! Rows of a sequence of JSON values.
 
 use crate::document::Document;
-use crate::error::{Fault, Place, ReadError};
-use crate::place::text_of;
+use crate::error::ReadError;
+use crate::json_values::{ValueText, ValuesOf};
 use crate::row::{Row, Rows};
 use crate::values::{JsonOptions, Values};
 use csv::StringRecord;
@@ -11,77 +11,22 @@ use std::alloc::Global;
 use std::collections::VecDeque;
 use std::io::BufRead;
 
-/// A line of a text, and its number from 1.
-#[derive(Drop)]
-struct Line {
-    number: u64,
-    text: String,
-}
-
-/// The lines of an input that aren't blank.
-#[derive(Drop)]
-struct LinesOf<B: BufRead + Drop> {
-    alloc: Global,
-    input: B,
-    /// Whether invalid UTF-8 is shown as U+FFFD.
-    lossy: bool,
-    /// The lines that were read.
-    count: u64,
-}
-
-impl<B: BufRead + Drop> LinesOf<B> {
-    fn next_line(&mut self) -> Result<Option<Line>, ReadError> {
-        for _line in self.count..u64::MAX {
-            let mut bytes = Vec::new(self.alloc);
-            if self.input.read_until(b'\n', &mut bytes)? == 0 {
-                break;
-            }
-            self.count = self.count.saturating_add(1);
-            if !bytes.iter().all(|b| b.is_ascii_whitespace()) {
-                return Ok(Some(self.line_of(&bytes)?));
-            }
-        }
-        Ok(None)
-    }
-
-    fn line_of(&self, bytes: &[u8]) -> Result<Line, ReadError> {
-        let bytes = bytes.strip_suffix(b"\n").unwrap_or(bytes);
-        let bytes = bytes.strip_suffix(b"\r").unwrap_or(bytes);
-        match text_of(self.alloc, bytes, self.lossy) {
-            Ok(text) => Ok(Line {
-                number: self.count,
-                text,
-            }),
-            Err(error) => Err(on_line(error, self.count)),
-        }
-    }
-}
-
-/// Returns an error in a text that is a line.
-fn on_line(mut error: ReadError, line: u64) -> ReadError {
-    match &mut error {
-        ReadError::NotUtf8(place) => place.line = line,
-        ReadError::Json(place, _) => place.line = line,
-        _ => {}
-    }
-    error
-}
-
-/// Objects or arrays, one in each line. Blank lines are passed over.
+/// Objects, arrays or plain values, as one in each line. A value may also take several lines, and
+/// several values one line.
 pub struct JsonLines<B: BufRead + Drop> {
     alloc: Global,
-    lines: LinesOf<B>,
+    texts: ValuesOf<B>,
     scratch: Scratch,
     values: Values,
-    /// The lines that were read ahead.
-    ahead: VecDeque<Line>,
+    /// The values that were read ahead.
+    ahead: VecDeque<ValueText>,
 }
 
 impl<B: BufRead + Drop> Drop for JsonLines<B> {
     fn drop(self) {
         let JsonLines {
             alloc: _,
-            lines: _,
+            texts: _,
             scratch: _,
             values: _,
             ahead: _,
@@ -90,8 +35,8 @@ impl<B: BufRead + Drop> Drop for JsonLines<B> {
 }
 
 impl<B: BufRead + Drop> JsonLines<B> {
-    /// Reads lines ahead, at least one, of which the names of the columns are taken. A key of a
-    /// later line that is none of these is an error.
+    /// Reads values ahead, at least one, of which the names of the columns are taken. A key of a
+    /// later value that is none of these is an error.
     pub fn new(
         alloc: Global,
         options: JsonOptions,
@@ -100,7 +45,7 @@ impl<B: BufRead + Drop> JsonLines<B> {
         ahead: usize,
     ) -> Result<JsonLines<B>, ReadError> {
         let mut rows = JsonLines::begin(alloc, options, lossy, input);
-        for _line in 0..ahead.max(1) {
+        for _value in 0..ahead.max(1) {
             if !rows.read_ahead()? {
                 break;
             }
@@ -109,48 +54,43 @@ impl<B: BufRead + Drop> JsonLines<B> {
         Ok(rows)
     }
 
-    /// Begins before the first line.
+    /// Begins before the first value.
     fn begin(alloc: Global, options: JsonOptions, lossy: bool, input: B) -> JsonLines<B> {
         JsonLines {
             alloc,
-            lines: LinesOf {
-                alloc,
-                input,
-                lossy,
-                count: 0,
-            },
+            texts: ValuesOf::new(alloc, lossy, input),
             scratch: Scratch::new(alloc),
             values: Values::new(alloc, options),
             ahead: VecDeque::new(alloc),
         }
     }
 
-    /// Reads a line ahead, and returns whether there is one.
+    /// Reads a value ahead, and returns whether there is one.
     fn read_ahead(&mut self) -> Result<bool, ReadError> {
-        match self.lines.next_line()? {
-            Some(line) => {
-                self.look(line)?;
+        match self.texts.next_value()? {
+            Some(text) => {
+                self.look(text)?;
                 Ok(true)
             }
             None => Ok(false),
         }
     }
 
-    /// Looks at a line, and keeps it.
-    fn look(&mut self, line: Line) -> Result<(), ReadError> {
-        match Document::parse(self.alloc, &line.text, &mut self.scratch) {
+    /// Looks at a value, and keeps it.
+    fn look(&mut self, text: ValueText) -> Result<(), ReadError> {
+        match Document::parse(self.alloc, &text.text, &mut self.scratch) {
             Ok(document) => {
                 if let Err(fault) = self.values.look(&document.value) {
-                    return Err(error_on(line.number, fault));
+                    return Err(fault.at(text.place));
                 }
             }
-            Err(error) => return Err(on_line(error, line.number)),
+            Err(error) => return Err(text.error_in(error)),
         }
-        self.ahead.push_back(line)?;
+        self.ahead.push_back(text)?;
         Ok(())
     }
 
-    /// Names the columns by the lines that were read ahead.
+    /// Names the columns by the values that were read ahead.
     fn name(&mut self) -> Result<(), ReadError> {
         let Some(first) = self.ahead.front() else {
             return Ok(());
@@ -158,7 +98,7 @@ impl<B: BufRead + Drop> JsonLines<B> {
         let document = Document::parse(self.alloc, &first.text, &mut self.scratch)?;
         let has_names = match self.values.name(&document.value) {
             Ok(has_names) => has_names,
-            Err(fault) => return Err(error_on(first.number, fault)),
+            Err(fault) => return Err(fault.at(first.place)),
         };
         drop(document);
         if has_names {
@@ -167,20 +107,16 @@ impl<B: BufRead + Drop> JsonLines<B> {
         Ok(())
     }
 
-    /// Makes a row of a line.
-    fn put(&mut self, line: &Line, row: &mut Row) -> Result<(), ReadError> {
-        match Document::parse(self.alloc, &line.text, &mut self.scratch) {
+    /// Makes a row of a value.
+    fn put(&mut self, text: &ValueText, row: &mut Row) -> Result<(), ReadError> {
+        match Document::parse(self.alloc, &text.text, &mut self.scratch) {
             Ok(document) => match self.values.put(&document.value, row) {
                 Ok(()) => Ok(()),
-                Err(fault) => Err(error_on(line.number, fault)),
+                Err(fault) => Err(fault.at(text.place)),
             },
-            Err(error) => Err(on_line(error, line.number)),
+            Err(error) => Err(text.error_in(error)),
         }
     }
-}
-
-fn error_on(line: u64, fault: Fault) -> ReadError {
-    fault.at(Place { line, column: 1 })
 }
 
 impl<B: BufRead + Drop> Rows for JsonLines<B> {
@@ -189,14 +125,14 @@ impl<B: BufRead + Drop> Rows for JsonLines<B> {
     }
 
     fn read(&mut self, row: &mut Row) -> Result<bool, ReadError> {
-        let line = match self.ahead.pop_front() {
-            Some(line) => line,
-            None => match self.lines.next_line()? {
-                Some(line) => line,
+        let text = match self.ahead.pop_front() {
+            Some(text) => text,
+            None => match self.texts.next_value()? {
+                Some(text) => text,
                 None => return Ok(false),
             },
         };
-        self.put(&line, row)?;
+        self.put(&text, row)?;
         Ok(true)
     }
 }

@@ -1,7 +1,7 @@
 //! The rows of a JSON text.
 
 use crate::document::Document;
-use crate::error::{Fault, Place, ReadError};
+use crate::error::{Fault, ReadError};
 use crate::faults::place_of;
 use crate::row::{Row, Rows};
 use crate::values::{JsonOptions, Values};
@@ -9,7 +9,7 @@ use csv::StringRecord;
 use json::Scratch;
 use std::alloc::Global;
 
-/// The rows of an array of objects or of arrays, or of one object.
+/// The rows of an array of objects, of arrays or of plain values, or the row of another value.
 pub struct JsonRows<'a> {
     alloc: Global,
     text: &'a str,
@@ -35,8 +35,7 @@ impl Drop for JsonRows<'_> {
 }
 
 impl<'a> JsonRows<'a> {
-    /// Reads a text. Fails unless it is an array of objects, an array of arrays, or an object, with
-    /// no key twice in an object.
+    /// Reads a text. Fails unless it is a value whose rows are all of one kind.
     pub fn new(
         alloc: Global,
         options: JsonOptions,
@@ -44,15 +43,12 @@ impl<'a> JsonRows<'a> {
         scratch: &'a mut Scratch,
     ) -> Result<JsonRows<'a>, ReadError> {
         let document = Document::parse(alloc, text, scratch)?;
-        let Some(count) = document.count() else {
-            return Err(Fault::NotRow.at(Place { line: 1, column: 1 }));
-        };
         let mut rows = JsonRows {
             alloc,
             text,
+            count: document.count(),
             document,
             values: Values::new(alloc, options),
-            count,
             taken: 0,
         };
         rows.look()?;

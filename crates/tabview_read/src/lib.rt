@@ -9,8 +9,9 @@
 //! - `faults`: where a JSON text is wrong.
 //! - `format`: the format of an input, by its name, the ending of a path, or its first bytes.
 //! - `json_cells`: the cells of objects and arrays.
-//! - `json_lines`: rows of JSON lines.
+//! - `json_lines`: rows of a sequence of JSON values.
 //! - `json_rows`: the rows of a JSON text.
+//! - `json_values`: the values of a sequence of JSON.
 //! - `keys`: the keys of objects, in the order of their first occurrence.
 //! - `nesting`: which token of JSON may follow others.
 //! - `place`: places in a text.
@@ -20,6 +21,7 @@
 //! - `sheet`: the lines that are shown.
 //! - `sqlite_rows`: the rows of a query.
 //! - `stream`: rows that are shown as they are read.
+//! - `value_scan`: where a value of JSON ends.
 //! - `values`: how JSON values become rows.
 //! - `watched`: comma-separated values that are watched as they are read.
 #![tactic(auto)]
@@ -35,6 +37,7 @@ mod format;
 mod json_cells;
 mod json_lines;
 mod json_rows;
+mod json_values;
 mod keys;
 mod nesting;
 mod place;
@@ -44,6 +47,7 @@ mod selector;
 mod sheet;
 mod sqlite_rows;
 mod stream;
+mod value_scan;
 mod values;
 mod watched;
 
@@ -61,4 +65,5 @@ pub use selector::read_sheet;
 pub use sheet::{Sheet, Wanted};
 pub use sqlite_rows::{SqliteRows, query_of};
 pub use stream::Stream;
+pub use value_scan::is_sequence;
 pub use values::JsonOptions;

@@ -3,7 +3,7 @@ ghost use Rattle.json.specs.Tree.{HasNumbers};
 ghost use Rattle.json.specs.Value.{value_view};
 
 use crate::error::Fault;
-use crate::json_cells::{push_items, push_members};
+use crate::json_cells::{push_items, push_members, push_value};
 use crate::keys::Keys;
 use crate::row::Row;
 use csv::StringRecord;
@@ -24,7 +24,12 @@ pub struct JsonOptions {
 enum Shape {
     Objects,
     Arrays { width: usize },
+    /// Numbers, texts, truth values and null.
+    Plain,
 }
+
+/// The name of the column of plain values.
+const VALUE: &str = "value";
 
 /// What the values of some rows have in common.
 #[derive(Drop)]
@@ -59,6 +64,11 @@ impl Values {
                 self.shape = Some(Shape::Arrays { width: items.len() });
                 Ok(())
             }
+            (Value::Object(_) | Value::Array(_), _) => self.check(value),
+            (_, None) => {
+                self.shape = Some(Shape::Plain);
+                Ok(())
+            }
             _ => self.check(value),
         }
     }
@@ -77,6 +87,7 @@ impl Values {
                 })
             }
             (Value::Object(_) | Value::Array(_), Some(_)) => Err(Fault::Mixed),
+            (_, Some(Shape::Plain)) => Ok(()),
             _ => Err(Fault::NotRow),
         }
     }
@@ -89,7 +100,7 @@ impl Values {
     }
 
     /// Names the columns: by the keys of the objects that were looked at, or by the cells of the
-    /// first array. Returns whether the first value has the names.
+    /// first array. That of plain values is `value`. Returns whether the first value has the names.
     pub(crate) fn name(&mut self, first: &Value<'_>) -> Result<bool, Fault>
         requires { HasNumbers (value_view first.now) }
     {
@@ -102,8 +113,12 @@ impl Values {
                 Ok(true)
             }
             Value::Array(_) => Ok(false),
-            _ => {
+            Value::Object(_) => {
                 self.names = Some(self.keys.names()?);
+                Ok(false)
+            }
+            _ => {
+                self.names = Some(StringRecord::from_fields(self.alloc, &[VALUE])?);
                 Ok(false)
             }
         }
@@ -117,8 +132,9 @@ impl Values {
         row.clear();
         match (value, &self.names) {
             (Value::Array(items), _) => push_items(self.alloc, row, items)?,
-            (_, Some(names)) => push_members(self.alloc, row, names, value)?,
-            (_, None) => (),
+            (Value::Object(_), Some(names)) => push_members(self.alloc, row, names, value)?,
+            (Value::Object(_), None) => (),
+            _ => push_value(self.alloc, row, value)?,
         }
         Ok(())
     }

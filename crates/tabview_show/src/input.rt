@@ -8,11 +8,11 @@ use crate::view::{put_sheet, put_stream};
 use json::Scratch;
 use sqlite::{Alter, Connection};
 use std::fs::File;
-use std::io::{self, BufReader, BufWriter, Read, Write};
+use std::io::{self, BufRead, BufReader, BufWriter, Read, Write};
 use tabview_options::Options;
 use tabview_read::{
     CsvRows, Format, JsonLines, JsonRows, ReadError, Rows, Sheet, SqliteRows, Wanted, delimiter_of,
-    query_of, read_sheet, text_of,
+    is_sequence, query_of, read_sheet, text_of,
 };
 
 /// The bytes that are written at once.
@@ -180,6 +180,9 @@ fn show_json_text<W: Write>(
     text: &str,
     out: &mut W,
 ) -> Result<(), ViewError> {
+    if is_sequence(text.as_bytes()) {
+        return show_values(rt, options, text.as_bytes(), out);
+    }
     let mut scratch = Scratch::new(rt.alloc());
     let json = json_options(&options.input);
     let mut rows = JsonRows::new(rt.alloc(), json, text, &mut scratch)?;
@@ -193,15 +196,15 @@ fn show_lines<R: Read + Drop, W: Write>(
     out: &mut W,
 ) -> Result<(), ViewError> {
     match BufReader::new(rt.alloc(), input) {
-        Ok(input) => show_buffered(rt, options, input, out),
+        Ok(input) => show_values(rt, options, input, out),
         Err(error) => Err(ViewError::Read(ReadError::Input(error))),
     }
 }
 
-fn show_buffered<R: Read + Drop, W: Write>(
+fn show_values<B: BufRead + Drop, W: Write>(
     rt: &HostRuntime,
     options: &Options<'_>,
-    input: BufReader<R>,
+    input: B,
     out: &mut W,
 ) -> Result<(), ViewError> {
     let json = json_options(&options.input);

@@ -3,6 +3,41 @@
 use super::{Run, check_runs};
 use std::test::Fail;
 
+/// Values of JSON over several lines, or several in one line, and arrays of plain values.
+static VALUES: [Run; 6] = [
+    Run {
+        words: &["tabview", "-s", "markdown"],
+        input: "{\n  \"a\": 1,\n  \"b\": \"}\"\n}\n{\n  \"a\": 2\n}\n",
+        shown: "| a | b |\n|---|---|\n| 1 | } |\n| 2 |   |\n",
+    },
+    Run {
+        words: &["tabview", "-s", "markdown"],
+        input: "{\"a\":1}{\"a\":\"\\\"{\"} {\"a\":3}",
+        shown: "| a  |\n|----|\n| 1  |\n| \"{ |\n| 3  |\n",
+    },
+    Run {
+        words: &["tabview", "-s", "markdown"],
+        input: "[1,\"x\",null]",
+        shown: "| value |\n|-------|\n| 1     |\n| x     |\n| NULL  |\n",
+    },
+    Run {
+        words: &["tabview", "-s", "markdown", "-f", "jsonl"],
+        input: "1\n2.5 true\n\"x\"\n",
+        shown: "| value |\n|-------|\n| 1     |\n| 2.5   |\n| true  |\n| x     |\n",
+    },
+    Run {
+        words: &["tabview", "-s", "markdown", "a.json"],
+        input: "{\"a\":1}\n{\"a\":2}\n",
+        shown: "| a |\n|---|\n| 1 |\n| 2 |\n",
+    },
+    // the last of two keys counts
+    Run {
+        words: &["tabview", "-s", "markdown"],
+        input: "{\"a\":1,\"a\":2,\"b\":3}\n",
+        shown: "| a | b |\n|---|---|\n| 2 | 3 |\n",
+    },
+];
+
 /// Blank lines of one column, and delimiters that are found.
 static LINES: [Run; 11] = [
     Run {
@@ -64,6 +99,11 @@ static LINES: [Run; 11] = [
         shown: "| a;b |\n|-----|\n| 1;2 |\n",
     },
 ];
+
+#[test]
+fn values_are_rows(rt: HostRuntime) -> Result<(), Fail> {
+    check_runs(&rt, &VALUES)
+}
 
 #[test]
 fn lines_are_told_apart(rt: HostRuntime) -> Result<(), Fail> {
