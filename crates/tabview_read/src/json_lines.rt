@@ -36,7 +36,7 @@ impl<B: BufRead + Drop> Drop for JsonLines<B> {
 
 impl<B: BufRead + Drop> JsonLines<B> {
     /// Reads values ahead, at least one, of which the names of the columns are taken. A key of a
-    /// later value that is none of these is an error.
+    /// later value that is none of these is an error, or passed over.
     pub fn new(
         alloc: Global,
         options: JsonOptions,

@@ -17,6 +17,8 @@ pub struct JsonOptions {
     pub has_header: bool,
     /// Whether arrays may have more or fewer cells than the first.
     pub fill: bool,
+    /// Whether a key that none of the rows read ahead has is passed over.
+    pub passes_keys: bool,
 }
 
 /// What rows are made of.
@@ -93,6 +95,9 @@ impl Values {
     }
 
     fn check_keys(&self, members: &[(&str, Value<'_>)]) -> Result<(), Fault> {
+        if self.options.passes_keys {
+            return Ok(());
+        }
         match self.keys.unknown(members) {
             Some(key) => Err(Fault::Unknown(String::from_str(self.alloc, key)?)),
             None => Ok(()),

@@ -31,6 +31,12 @@ format_of (Some name) file = format_of_name name.now
 format_of None (Some path) = format_of_path path.now
 format_of None None = None
 
+-- the values that are read ahead: those that a stream measures, or the first ones if no others are
+-- shown, or all
+abbrev pub rows_ahead : Option ℕ → Option ℕ → Option ℕ → ℕ
+rows_ahead measured rows (Some tail) = unwrap_or measured (2 ^ 64 - 1)
+rows_ahead measured rows None = min (unwrap_or measured (2 ^ 64 - 1)) (unwrap_or rows (2 ^ 64 - 1))
+
 -- the first bytes are read if the format isn't known, or the delimiter of comma-separated values
 abbrev pub wants_head : Option ℕ → Option Format → Bool
 wants_head delimiter None = true

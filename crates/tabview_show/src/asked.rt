@@ -1,7 +1,7 @@
 //! What is asked for, in the words of the crates below.
 ghost use Rattle.std.specs.Prelude.{◌≡◌, if◌then◌else◌, unwrap_or};
 ghost use Rattle.tabview_show.specs.Asked.{IsWanted, alignment, format_of, measured, shown_by};
-ghost use Rattle.tabview_show.specs.Asked.{side_of_kind, wants_head};
+ghost use Rattle.tabview_show.specs.Asked.{rows_ahead, side_of_kind, wants_head};
 
 use tabled_config::AlignmentHorizontal;
 use tabview_cells::{Kind, Shown};
@@ -52,13 +52,31 @@ pub(crate) fn csv_options(input: &Input<'_>, delimiter: u8) -> CsvOptions
     }
 }
 
-/// Returns how JSON is read.
-pub(crate) fn json_options(input: &Input<'_>) -> JsonOptions
-    ensures { result ≡ record { has_header = input.now.has_header; fill = input.now.fill } }
+/// Returns how JSON is read, with keys that weren't read ahead passed over or not.
+pub(crate) fn json_options(input: &Input<'_>, passes_keys: bool) -> JsonOptions
+    ensures { result ≡ record {
+      has_header = input.now.has_header;
+      fill = input.now.fill;
+      passes_keys = passes_keys;
+    } }
 {
     JsonOptions {
         has_header: input.has_header,
         fill: input.fill,
+        passes_keys,
+    }
+}
+
+/// Returns the count of the values that are read ahead, by which the columns are known: those that
+/// a stream measures, or the first ones if no others are shown, or all.
+pub(crate) fn rows_ahead(options: &Options<'_>) -> usize
+    ensures { result ≡ rows_ahead options.now.stream options.now.choice.rows
+        options.now.choice.tail }
+{
+    let measured = options.stream.unwrap_or(usize::MAX);
+    match options.choice.tail {
+        Some(_) => measured,
+        None => measured.min(options.choice.rows.unwrap_or(usize::MAX)),
     }
 }
 

@@ -1,6 +1,6 @@
 //! Reads an input by its format, and shows it.
 
-use crate::asked::{csv_options, format_of, json_options, wanted, wants_head};
+use crate::asked::{csv_options, format_of, json_options, rows_ahead, wanted, wants_head};
 use crate::error::ViewError;
 use crate::layout::layout_of;
 use crate::progress::Progress;
@@ -184,7 +184,7 @@ fn show_json_text<W: Write>(
         return show_values(rt, options, text.as_bytes(), out);
     }
     let mut scratch = Scratch::new(rt.alloc());
-    let json = json_options(&options.input);
+    let json = json_options(&options.input, options.stream.is_none());
     let mut rows = JsonRows::new(rt.alloc(), json, text, &mut scratch)?;
     show_rows(rt, options, &mut rows, out)
 }
@@ -207,8 +207,8 @@ fn show_values<B: BufRead + Drop, W: Write>(
     input: B,
     out: &mut W,
 ) -> Result<(), ViewError> {
-    let json = json_options(&options.input);
-    let ahead = options.stream.unwrap_or(usize::MAX);
+    let json = json_options(&options.input, options.stream.is_none());
+    let ahead = rows_ahead(options);
     let mut rows = JsonLines::new(rt.alloc(), json, options.input.lossy, input, ahead)?;
     show_rows(rt, options, &mut rows, out)
 }

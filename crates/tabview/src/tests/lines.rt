@@ -4,7 +4,7 @@ use super::{Run, check_runs};
 use std::test::Fail;
 
 /// Values of JSON over several lines, or several in one line, and arrays of plain values.
-static VALUES: [Run; 6] = [
+static VALUES: [Run; 9] = [
     Run {
         words: &["tabview", "-s", "markdown"],
         input: "{\n  \"a\": 1,\n  \"b\": \"}\"\n}\n{\n  \"a\": 2\n}\n",
@@ -35,6 +35,22 @@ static VALUES: [Run; 6] = [
         words: &["tabview", "-s", "markdown"],
         input: "{\"a\":1,\"a\":2,\"b\":3}\n",
         shown: "| a | b |\n|---|---|\n| 2 | 3 |\n",
+    },
+    // the rows behind the first ones aren't read, and their keys aren't shown
+    Run {
+        words: &["tabview", "-s", "markdown", "--rows", "1"],
+        input: "{\"a\":1}\n{\"b\":2}\n{bad",
+        shown: "| a |\n|---|\n| 1 |\n",
+    },
+    Run {
+        words: &["tabview", "-s", "markdown", "--rows", "1"],
+        input: "[\"a\"]\n[1]\n[bad",
+        shown: "| a |\n|---|\n| 1 |\n",
+    },
+    Run {
+        words: &["tabview", "-s", "empty", "--rows", "1", "--count"],
+        input: "{\"a\":1}\n{\"b\":2}\n",
+        shown: " a \n 1 \n… 1 rows more\n",
     },
 ];
 
