@@ -480,3 +480,18 @@ fn a_database_has_one_table(rt: HostRuntime) -> Result<(), Fail> {
     check(text, "the database has several tables: city, land")?;
     Ok(())
 }
+
+#[test]
+fn help_fits_80_columns(rt: HostRuntime) -> Result<(), Fail> {
+    let alloc = rt.alloc();
+    let Err(help) = command(alloc)?.try_get_matches_from(&["tabview", "--help"]) else {
+        return Err(Fail::from("no help"));
+    };
+    let text = format!(in alloc; "{help}")?;
+    for line in text.lines() {
+        if line.chars().count() > 80 {
+            return Err(Fail::from(String::from_str(alloc, line)?));
+        }
+    }
+    Ok(())
+}

@@ -5,21 +5,28 @@ use clap::builder::ValueParser;
 use clap::{Arg, ArgAction, Command};
 use std::alloc::{AllocError, Global};
 
-const ABOUT: &str = "Prints CSV, TSV, JSON or a query of SQLite as a table that fits the terminal.
+const ABOUT: &str = "\
+Prints CSV, TSV, JSON or a query of SQLite as a table that fits the terminal.
+For that, put this line into the start file of the shell, such as ~/.bashrc:
 
-Columns of numbers, dates and short codes keep their width; columns of text give, and are wrapped
-between words. Control characters are shown as visible signs.";
+  alias tabview='tabview -w \"$COLUMNS\"'
 
-const EXAMPLES: &str = "Examples:
-  tabview cities.csv                          the table, as wide as it comes
-  tabview -w $COLUMNS cities.csv              as wide as the terminal; texts are wrapped
-  tabview -w 80 --cut cities.csv              at most 80 columns; texts are cut, and end in …
-  tabview --columns City,People cities.csv    two of the columns
-  tabview --tail 10 -n cities.csv             the last ten rows, with their numbers
-  tabview shop.db -q 'SELECT * FROM orders'   a query of an SQLite file
-  curl .. | tabview -f json -x                one row below the other
+Columns of numbers, dates and short codes keep their width; columns of text
+give, and are wrapped between words. Control characters are shown as visible
+signs.";
+
+const EXAMPLES: &str = "\
+Examples:
+  tabview cities.csv                        the table, as wide as it comes
+  tabview -w $COLUMNS cities.csv            as wide as the terminal, wrapped
+  tabview -w 80 --cut cities.csv            at most 80 columns; cells end in …
+  tabview --columns City,People cities.csv  two of the columns
+  tabview --tail 10 -n cities.csv           the last ten rows, with their numbers
+  tabview shop.db -q 'SELECT * FROM t'      a query of an SQLite file
+  curl .. | tabview -f json -x              one row below the other
   tail -f log.jsonl | tabview -f jsonl --stream 20
-                                              each row when it is read, as wide as the first 20
+                                            each row when it is read, as wide as
+                                            the first 20
 
 Exit status: 0, or 1 for an error in the input, or 2 for a wrong command line.";
 
@@ -92,7 +99,10 @@ fn taking<'a>(arg: Arg<'a>, option: &Described) -> Arg<'a> {
         Takes::Text | Takes::Texts => arg.value_name(option.value),
         Takes::List => arg.value_name(option.value).value_delimiter(','),
         Takes::Number => arg.value_name(option.value).value_parser(NUMBER),
-        Takes::Word(words) => arg.value_name(option.value).value_parser(words),
+        Takes::Word(words) => arg
+            .value_name(option.value)
+            .value_parser(words)
+            .hide_possible_values(true),
     }
 }
 

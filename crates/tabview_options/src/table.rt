@@ -23,6 +23,7 @@ pub(crate) struct Described {
     pub takes: Takes,
     /// What its value is called.
     pub value: &'static str,
+    /// Its help: lines of at most 51 columns, with `{n}` between them, behind the option in 29.
     pub help: &'static str,
     /// The options that don't go with it.
     pub excludes: &'static [&'static str],
@@ -35,7 +36,8 @@ pub(crate) static READING: [Described; 7] = [
         letter: Some('f'),
         takes: Takes::Word(&["csv", "tsv", "json", "jsonl", "sqlite"]),
         value: "FORMAT",
-        help: "Format of the input [default: by the file's ending, else by its first bytes]",
+        help: "Format: csv, tsv, json, jsonl or sqlite{n}\
+            [default: by the file's ending, else by its{n}first bytes]",
         excludes: &[],
     },
     Described {
@@ -43,7 +45,8 @@ pub(crate) static READING: [Described; 7] = [
         letter: Some('d'),
         takes: Takes::Text,
         value: "C",
-        help: "Character between cells: one of ASCII, or \\t{n}[default: a comma, or a tab, ; or | by the{n}first lines]",
+        help: "Character between cells: one of ASCII, or \\t{n}\
+            [default: a comma, or a tab, ; or | by the{n}first lines]",
         excludes: &[],
     },
     Described {
@@ -67,7 +70,7 @@ pub(crate) static READING: [Described; 7] = [
         letter: None,
         takes: Takes::Nothing,
         value: "",
-        help: "Fill short rows with empty cells, in place of an error",
+        help: "Fill short rows with empty cells; else an error",
         excludes: &[],
     },
     Described {
@@ -75,7 +78,7 @@ pub(crate) static READING: [Described; 7] = [
         letter: None,
         takes: Takes::Nothing,
         value: "",
-        help: "Show bytes that are no UTF-8 as \u{fffd}, in place of an error",
+        help: "Show bytes that are no UTF-8 as \u{fffd}; else an error",
         excludes: &[],
     },
     Described {
@@ -83,7 +86,7 @@ pub(crate) static READING: [Described; 7] = [
         letter: None,
         takes: Takes::Text,
         value: "TEXT",
-        help: "Text shown for null; cells of CSV with it count as empty [default: NULL]",
+        help: "Text shown for null; cells of CSV with it count{n}as empty [default: NULL]",
         excludes: &[],
     },
 ];
@@ -95,7 +98,7 @@ pub(crate) static CHOOSING: [Described; 5] = [
         letter: None,
         takes: Takes::List,
         value: "A,B,..",
-        help: "Show these columns, by name or number, in this order",
+        help: "Show these columns, by name or number, in this{n}order",
         excludes: &[],
     },
     Described {
@@ -152,7 +155,10 @@ pub(crate) static SHOWING: [Described; 9] = [
             "empty",
         ]),
         value: "STYLE",
-        help: "Lines of the table [default: rounded]",
+        help: "Lines of the table: rounded, sharp, modern,{n}\
+            modern-rounded, ascii, ascii-rounded, extended,{n}\
+            markdown, psql, rst, blank or empty{n}\
+            [default: rounded]",
         excludes: &[],
     },
     Described {
@@ -160,7 +166,7 @@ pub(crate) static SHOWING: [Described; 9] = [
         letter: Some('w'),
         takes: Takes::Number,
         value: "N",
-        help: "Fit the table to N columns [default: COLUMNS of the environment]",
+        help: "Fit the table to N columns{n}[default: COLUMNS of the environment]",
         excludes: &[],
     },
     Described {
@@ -168,7 +174,7 @@ pub(crate) static SHOWING: [Described; 9] = [
         letter: Some('a'),
         takes: Takes::Texts,
         value: "COLUMN=SIDE",
-        help: "Align a column: left, right or center. Numbers are at the right",
+        help: "Align a column: left, right or center{n}[default: right for numbers]",
         excludes: &[],
     },
     Described {
@@ -176,7 +182,7 @@ pub(crate) static SHOWING: [Described; 9] = [
         letter: None,
         takes: Takes::Nothing,
         value: "",
-        help: "Wrap texts that are too wide between words [default]",
+        help: "Wrap texts that are too wide between words{n}[default]",
         excludes: &[],
     },
     Described {
@@ -192,7 +198,7 @@ pub(crate) static SHOWING: [Described; 9] = [
         letter: Some('x'),
         takes: Takes::Nothing,
         value: "",
-        help: "Show one row below the other; chosen where no table fits",
+        help: "Show one row below the other; chosen where no{n}table fits",
         excludes: &[],
     },
     Described {
@@ -208,7 +214,7 @@ pub(crate) static SHOWING: [Described; 9] = [
         letter: None,
         takes: Takes::Number,
         value: "N",
-        help: "Print each row when it is read, as wide as the first N; wider cells are cut",
+        help: "Print each row when it is read, as wide as the{n}first N; wider cells are cut",
         excludes: &["tail", "expand", "count"],
     },
     Described {
@@ -216,7 +222,7 @@ pub(crate) static SHOWING: [Described; 9] = [
         letter: None,
         takes: Takes::Nothing,
         value: "",
-        help: "Show on standard error how many rows were read, after two seconds",
+        help: "Show on standard error how many rows were read,{n}after two seconds",
         excludes: &["stream"],
     },
 ];

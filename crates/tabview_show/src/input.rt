@@ -2,13 +2,14 @@
 
 use crate::asked::{csv_options, format_of, json_options, rows_ahead, wanted, wants_head};
 use crate::error::ViewError;
+use crate::hint::{HINT, Measured, wants_hint};
 use crate::layout::layout_of;
 use crate::progress::Progress;
 use crate::view::{put_sheet, put_stream};
 use json::Scratch;
 use sqlite::{Alter, Connection};
 use std::fs::File;
-use std::io::{self, BufRead, BufReader, BufWriter, Read, Write};
+use std::io::{self, BufRead, BufReader, BufWriter, IsTerminal, Read, Write};
 use tabview_options::Options;
 use tabview_read::{
     CsvRows, Format, JsonLines, JsonRows, ReadError, Rows, Sheet, SqliteRows, Wanted, delimiter_of,
@@ -27,9 +28,26 @@ const HEAD: usize = 4096;
 /// database was given at standard input; there is a query, but no database.
 pub fn show(rt: &HostRuntime, options: &Options<'_>) -> Result<(), ViewError> {
     match BufWriter::with_capacity(rt.alloc(), BLOCK, io::writer(rt)) {
-        Ok(mut out) => show_on(rt, options, &mut out),
+        Ok(mut out) => show_hinting(rt, options, &mut out),
         Err(error) => Err(ViewError::Output(error)),
     }
+}
+
+/// Shows the input. On a terminal, a table that may be too wide for it brings a hint.
+fn show_hinting<W: Write>(
+    rt: &HostRuntime,
+    options: &Options<'_>,
+    out: &mut W,
+) -> Result<(), ViewError> {
+    if !wants_hint(options) || !rt.stdout().is_terminal() {
+        return show_on(rt, options, out);
+    }
+    let mut out = Measured::new(out);
+    let shown = show_on(rt, options, &mut out);
+    if out.is_wide() {
+        let _told = eprintln!(rt; "{HINT}");
+    }
+    shown
 }
 
 fn show_on<W: Write>(

@@ -3,6 +3,7 @@
 //! - `asked`: what is asked for, in the words of the crates below.
 //! - `ending`: the end of a table, and readers that went away.
 //! - `error`: why nothing is shown.
+//! - `hint`: a hint for tables that are too wide for a terminal.
 //! - `input`: an input by its format.
 //! - `layout`: how the rows that are shown are laid out.
 //! - `progress`: how far reading is.
@@ -12,6 +13,7 @@
 mod asked;
 mod ending;
 mod error;
+mod hint;
 mod input;
 mod layout;
 mod progress;
