@@ -73,7 +73,7 @@ impl<B: BufRead + Drop> ValuesOf<B> {
                 break;
             }
         }
-        match text_of(self.alloc, &bytes, self.lossy) {
+        match text_of(self.alloc, bytes.trim_ascii_end(), self.lossy) {
             Ok(text) => Ok(Some(ValueText { place, text })),
             Err(error) => Err(moved(error, place)),
         }

@@ -86,7 +86,7 @@ static LINES: [Run; 11] = [
     Run {
         words: &["tabview", "-s", "markdown"],
         input: "a;b\n\"x;\";2,5\n",
-        shown: "| a  | b   |\n|----|-----|\n| x; | 2,5 |\n",
+        shown: "| a  |   b |\n|----|-----|\n| x; | 2,5 |\n",
     },
     Run {
         words: &["tabview", "-s", "markdown", "a.csv"],
