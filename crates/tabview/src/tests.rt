@@ -43,12 +43,12 @@ static TABLES: [Run; 9] = [
     Run {
         words: &["tabview", "-s", "markdown", "--rows", "1", "--count"],
         input: "a,b\n1,x\n2,y\n3,z\n",
-        shown: "| a | b |\n|---|---|\n| 1 | x |\n… 2 rows more\n",
+        shown: "| a | b |\n|--:|---|\n| 1 | x |\n\n… 2 rows more\n",
     },
     Run {
         words: &["tabview", "-s", "markdown", "--tail", "2", "--number"],
         input: "a,b\n1,x\n2,y\n3,z\n",
-        shown: "| # | a | b |\n|---|---|---|\n| 2 | 2 | y |\n| 3 | 3 | z |\n",
+        shown: "| # | a | b |\n|--:|--:|---|\n| 2 | 2 | y |\n| 3 | 3 | z |\n",
     },
     // a side, and a text that counts as empty
     Run {
@@ -62,7 +62,7 @@ static TABLES: [Run; 9] = [
             "NA",
         ],
         input: "aaa,bbb\n1,x\nNA,y\n",
-        shown: "| aaa | bbb |\n|-----|-----|\n|   1 |   x |\n|  NA |   y |\n",
+        shown: "| aaa | bbb |\n|----:|----:|\n|   1 |   x |\n|  NA |   y |\n",
     },
     Run {
         words: &["tabview", "-x"],
@@ -89,22 +89,34 @@ static TABLES: [Run; 9] = [
 
 const GATE: &str = "id,remark\n1234567890,the east gate\n";
 
-static WIDTHS: [Run; 5] = [
+static WIDTHS: [Run; 7] = [
     Run {
-        words: &["tabview", "-s", "markdown", "-w", "24", "--wrap"],
+        words: &["tabview", "-s", "psql", "-w", "24", "--wrap"],
         input: GATE,
-        shown: "|         id | remark  |\n\
-                |------------|---------|\n\
-                | 1234567890 | the     |\n\
-                |            | east    |\n\
-                |            | gate    |\n",
+        shown: "         id | remark    \n\
+                ------------+-----------\n 1234567890 | the east  \n\
+                \x20           | gate      \n",
     },
+    Run {
+        words: &["tabview", "-s", "psql", "-w", "24", "--cut"],
+        input: GATE,
+        shown: "         id | remark    \n\
+                ------------+-----------\n 1234567890 | the east… \n",
+    },
+    // a row of Markdown is one line, so it may be cut, and isn't wrapped
     Run {
         words: &["tabview", "-s", "markdown", "-w", "24", "--cut"],
         input: GATE,
         shown: "|         id | remark  |\n\
-                |------------|---------|\n\
+                |-----------:|---------|\n\
                 | 1234567890 | the ea… |\n",
+    },
+    Run {
+        words: &["tabview", "-s", "markdown", "-w", "24"],
+        input: GATE,
+        shown: "|         id | remark        |\n\
+                |-----------:|---------------|\n\
+                | 1234567890 | the east gate |\n",
     },
     // a width that is too small
     Run {
@@ -131,17 +143,17 @@ static ENDINGS: [Run; 6] = [
     Run {
         words: &["tabview", "-s", "markdown", "a.json.csv"],
         input: "[a],b\nx,1\n",
-        shown: "| [a] | b |\n|-----|---|\n| x   | 1 |\n",
+        shown: "| [a] | b |\n|-----|--:|\n| x   | 1 |\n",
     },
     Run {
         words: &["tabview", "-s", "markdown", "a.tsv"],
         input: "a,b\tc\nx,y\t3\n",
-        shown: "| a,b | c |\n|-----|---|\n| x,y | 3 |\n",
+        shown: "| a,b | c |\n|-----|--:|\n| x,y | 3 |\n",
     },
     Run {
         words: &["tabview", "-s", "markdown", "a.ndjson"],
         input: "[1,2]\n[3,4]\n",
-        shown: "| 1 | 2 |\n|---|---|\n| 3 | 4 |\n",
+        shown: "| 1 | 2 |\n|--:|--:|\n| 3 | 4 |\n",
     },
     Run {
         words: &["tabview", "a.sqlite3"],
@@ -181,24 +193,24 @@ static INPUTS: [Run; 16] = [
     Run {
         words: &["tabview", "-s", "markdown", "--fill"],
         input: "a,b\n1\n",
-        shown: "| a | b |\n|---|---|\n| 1 |   |\n",
+        shown: "| a | b |\n|--:|---|\n| 1 |   |\n",
     },
     // a row is longer than the names
     Run {
         words: &["tabview", "-s", "markdown", "--fill"],
         input: "a,b\n2,3,4\n",
-        shown: "| a | b |   |\n|---|---|---|\n| 2 | 3 | 4 |\n",
+        shown: "| a | b |   |\n|--:|--:|--:|\n| 2 | 3 | 4 |\n",
     },
     Run {
         words: &["tabview", "-s", "markdown"],
         input: "a\tb\n1\t2\n",
-        shown: "| a | b |\n|---|---|\n| 1 | 2 |\n",
+        shown: "| a | b |\n|--:|--:|\n| 1 | 2 |\n",
     },
     // a byte-order mark and CR LF
     Run {
         words: &["tabview", "-s", "markdown", "-d", ";"],
         input: "\u{feff}a;b\r\n1;2\r\n",
-        shown: "| a | b |\n|---|---|\n| 1 | 2 |\n",
+        shown: "| a | b |\n|--:|--:|\n| 1 | 2 |\n",
     },
     Run {
         words: &["tabview", "-s", "markdown"],
@@ -213,24 +225,24 @@ static INPUTS: [Run; 16] = [
     Run {
         words: &["tabview", "-s", "markdown", "-f", "json"],
         input: "[[\"a\"],[1]]",
-        shown: "| a |\n|---|\n| 1 |\n",
+        shown: "| a |\n|--:|\n| 1 |\n",
     },
     // blank lines, and a key that the first line lacks
     Run {
         words: &["tabview", "-s", "markdown"],
         input: "{\"a\":1}\r\n\n{\"b\":2}\n",
-        shown: "| a | b |\n|---|---|\n| 1 |   |\n|   | 2 |\n",
+        shown: "| a | b |\n|--:|--:|\n| 1 |   |\n|   | 2 |\n",
     },
     Run {
         words: &["tabview", "-s", "markdown", "-f", "jsonl"],
         input: "[\"a\"]\n[1]\n[2]",
-        shown: "| a |\n|---|\n| 1 |\n| 2 |\n",
+        shown: "| a |\n|--:|\n| 1 |\n| 2 |\n",
     },
     // null has a text, an empty cell has none
     Run {
         words: &["tabview", "-s", "markdown", "--null", "-"],
         input: "{\"a\":10}\n{\"a\":null}\n{\"a\":\"\"}\n",
-        shown: "|  a |\n|----|\n| 10 |\n|  - |\n|    |\n",
+        shown: "|  a |\n|---:|\n| 10 |\n|  - |\n|    |\n",
     },
     // with progress the table is the same
     Run {
@@ -413,14 +425,12 @@ fn faults_are_named(rt: HostRuntime) -> Result<(), Fail> {
 
 #[test]
 fn a_terminal_has_a_width(rt: HostRuntime) -> Result<(), Fail> {
-    let narrow = "|         id | remark  |\n\
-                  |------------|---------|\n\
-                  | 1234567890 | the     |\n\
-                  |            | east    |\n\
-                  |            | gate    |\n";
-    let words = ["tabview", "-s", "markdown"];
+    let narrow = "         id | remark    \n\
+                  ------------+-----------\n 1234567890 | the east  \n\
+                  \x20           | gate      \n";
+    let words = ["tabview", "-s", "psql"];
     check(shown(&rt, &words, Some(24), GATE.as_bytes())?, narrow)?;
-    let words = ["tabview", "-s", "markdown", "-w", "24"];
+    let words = ["tabview", "-s", "psql", "-w", "24"];
     check(shown(&rt, &words, Some(80), GATE.as_bytes())?, narrow)?;
     Ok(())
 }
@@ -433,7 +443,7 @@ fn bytes_that_are_no_text(rt: HostRuntime) -> Result<(), Fail> {
     check(text, "line 2, column 1: invalid UTF-8")?;
     let words = ["tabview", "-s", "markdown", "--lossy"];
     let text = shown(&rt, &words, None, b"a,b\n1,\xFF\n")?;
-    check(text, "| a | b |\n|---|---|\n| 1 | \u{fffd} |\n")?;
+    check(text, "| a | b |\n|--:|---|\n| 1 | \u{fffd} |\n")?;
     Ok(())
 }
 
@@ -465,7 +475,7 @@ fn databases_are_queried(rt: HostRuntime) -> Result<(), Fail> {
     check(
         queried(&rt, &[CITY], &words)?,
         "| people | name  | mark    |\n\
-         |--------|-------|---------|\n\
+         |-------:|-------|---------|\n\
          |   5774 | Vaduz | x'00ff' |\n\
          |   NULL |       |         |\n",
     )?;

@@ -6,3 +6,4 @@ pub mod Streams
 pub mod Expanded
 pub mod Fallback
 pub mod Styles
+pub mod MarkdownRules

@@ -30,10 +30,10 @@ abbrev pub is_markdown : Option (List ℕ) → Bool
 is_markdown None = false
 is_markdown (Some name) = bytes_eq name (codes "markdown")
 
--- whether the line below the first row is drawn: always by markdown. Else the row is a header, and
--- rows are below it, or the table has no line at its bottom
+-- whether the line below the first row is drawn: never by markdown. Else the row is a header, and rows
+-- are below it, or the table has no line at its bottom
 abbrev pub draws_line : Option (List ℕ) → Bool → ℕ → Style → Bool
-draws_line name header rows style = is_markdown name || (header && (not (rows == 1) || is_none style.borders.bottom))
+draws_line name header rows style = not (is_markdown name) && (header && (not (rows == 1) || is_none style.borders.bottom))
 
 -- the style for a table of some rows
 abbrev pub style_for : Option (List ℕ) → Bool → ℕ → Style

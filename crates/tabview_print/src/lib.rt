@@ -4,6 +4,7 @@
 //! - `floors`: the widths below which columns don't shrink.
 //! - `fitting`: a table that is fitted to a width.
 //! - `expanded`: records one below the other.
+//! - `markdown`: the line below the header of a table of Markdown.
 //! - `stream`: rows that are printed while they are read.
 //! - `fallback`: rows as a table, or one below the other.
 //! - `styles`: the styles by their names.
@@ -15,6 +16,7 @@ mod fallback;
 mod fitting;
 mod floors;
 mod layout;
+mod markdown;
 mod rows;
 mod stream;
 mod styles;
@@ -22,5 +24,6 @@ mod styles;
 pub use fallback::print_or_expand;
 pub use fitting::print_table;
 pub use layout::{Column, Layout, Narrowing};
+pub use markdown::markdown_rule;
 pub use stream::print_stream;
-pub use styles::{style_for, style_of};
+pub use styles::{is_markdown, style_for, style_of};

@@ -5,7 +5,8 @@ ghost use Rattle.tabview_print.specs.Styles.{draws_line, is_markdown, style_for,
 use tabled_config::Style;
 
 /// Returns the style for a table of some rows. Its line below the first row is drawn if this is a
-/// header, and if rows are below it or the table has no line at its bottom. Markdown always has it.
+/// header, and if rows are below it or the table has no line at its bottom. That of Markdown is no
+/// part of its style: `markdown_rule` returns it.
 pub fn style_for(name: Option<&str>, has_header: bool, rows: usize) -> Style
     ensures { result ≡ style_for (option_map (λ s. s.now) name.entry) has_header rows }
 {
@@ -22,10 +23,11 @@ fn draws_line(name: Option<&str>, has_header: bool, rows: usize, style: &Style) 
     ensures { result ≡ draws_line (option_map (λ s. s.now) name.entry) has_header rows style.now }
 {
     let has_end = rows != 1 || style.get_borders().bottom.is_none();
-    is_markdown(name) || (has_header && has_end)
+    !is_markdown(name) && (has_header && has_end)
 }
 
-fn is_markdown(name: Option<&str>) -> bool
+/// Whether a style is that of tables of Markdown.
+pub fn is_markdown(name: Option<&str>) -> bool
     ensures { result ≡ is_markdown (option_map (λ s. s.now) name.entry) }
 {
     match name {

@@ -6,3 +6,4 @@ pub mod Lines
 pub mod Parts
 pub mod Selected
 pub mod ShownCells
+pub mod MarkedCells

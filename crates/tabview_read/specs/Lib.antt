@@ -9,3 +9,4 @@ pub mod Shown
 pub mod Csv
 pub mod CsvText
 pub mod Delimiters
+pub mod MarkedCells

@@ -74,7 +74,7 @@ pub(crate) fn push_members(
 }
 
 /// Returns the name of a column.
-fn name_at(names: &StringRecord, column: usize) -> &str
+pub(crate) fn name_at(names: &StringRecord, column: usize) -> &str
     requires { column < length (fields_of names.now) }
     ensures { result.now ≡ get_or (fields_of names.now) column [] }
 {

@@ -13,6 +13,7 @@
 //! - `json_rows`: the rows of a JSON text.
 //! - `json_values`: the values of a sequence of JSON.
 //! - `keys`: the keys of objects, in the order of their first occurrence.
+//! - `markdown`: rows as those of a table of Markdown.
 //! - `nesting`: which token of JSON may follow others.
 //! - `place`: places in a text.
 //! - `row`: rows, and what they are read from.
@@ -39,6 +40,7 @@ mod json_lines;
 mod json_rows;
 mod json_values;
 mod keys;
+mod markdown;
 mod nesting;
 mod place;
 mod row;
@@ -59,6 +61,7 @@ pub use error::{Fault, Place, ReadError};
 pub use format::Format;
 pub use json_lines::JsonLines;
 pub use json_rows::JsonRows;
+pub use markdown::MarkdownRows;
 pub use place::text_of;
 pub use row::{Row, Rows};
 pub use selector::read_sheet;

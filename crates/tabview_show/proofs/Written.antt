@@ -19,6 +19,11 @@ appends-kept (Some a) None c xs h k = absurd h
 appends-kept (Some a) (Some b) None xs h k = absurd k
 appends-kept (Some a) (Some b) (Some c) xs h k = k ∙ h
 
+pub appends-last : {T E : Type 0} (r : Result T E) (a b c : Option (List ℕ)) (xs ys : List ℕ) → Appends a b xs → OnOk r (Appends b c ys)
+    → OnOk r (Appends a c (xs ++ ys))
+appends-last (Ok done) a b c xs ys h k = appends-then a b c xs ys h k
+appends-last (Err error) a b c xs ys h k = tt
+
 pub on-ok : {T E : Type 0} (r : Result T E) (P : Type 0) → P → OnOk r P
 on-ok (Ok done) P h = h
 on-ok (Err error) P h = tt

@@ -1,5 +1,5 @@
 -- What is asked for, in the words of the crates below. A text is the list of its bytes.
-use Rattle.std.specs.Prelude.{◌≡◌, ℕ, ◌+◌, ◌-◌, ◌^◌, ◌++◌, Bool, true, false, List, [], ◌∷◌, Option, Some, None, codes, if◌then◌else◌, is_none, map, min, option_map, unwrap_or}
+use Rattle.std.specs.Prelude.{◌≡◌, ℕ, ◌+◌, ◌-◌, ◌^◌, ◌++◌, ◌&&◌, Bool, true, false, List, [], ◌∷◌, Option, Some, None, codes, if◌then◌else◌, is_none, map, min, not, option_map, unwrap_or}
 use Rattle.std.specs.Borrow.{Bor}
 use Rattle.tabled_config.specs.declared.alignment.AlignmentHorizontal.{AlignmentHorizontal}
 use Rattle.tabled_config.specs.declared.alignment.AlignmentHorizontal.TheVariants as at
@@ -11,6 +11,7 @@ use Rattle.tabview_cells.specs.declared.kinds.Kind.TheVariants.{Number}
 use Rattle.tabview_options.specs.declared.options.Options.{Options}
 use Rattle.tabview_options.specs.declared.options.Side.{Side}
 use Rattle.tabview_options.specs.declared.options.Side.TheVariants.{Left, Right, Center}
+use Rattle.tabview_print.specs.Styles.{is_markdown}
 use Rattle.tabview_print.specs.declared.layout.Column.{Column}
 use Rattle.tabview_read.specs.Formats.{format_of_name, format_of_path}
 use Rattle.tabview_read.specs.declared.format.Format.{Format}
@@ -57,6 +58,10 @@ pub record IsWanted (options : Options) (wanted : Wanted) : Type 0 where
   -- cells with the text of null don't count for the kind of their column, and empty cells don't
   pub blank : wanted.blank.now ≡ text_or [] options.input.null
   pub shown : wanted.shown ≡ shown_by options.look.raw
+
+-- a table of Markdown is printed
+abbrev pub is_marked : Option (Bor (List ℕ)) → Bool → Bool
+is_marked style expand = is_markdown (option_map (λ s. s.now) style) && not expand
 
 abbrev pub alignment : Side → AlignmentHorizontal
 alignment Left = at.Left

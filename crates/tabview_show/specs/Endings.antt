@@ -5,20 +5,26 @@ use Rattle.std.specs.declared.io.Error.{Error}
 use Rattle.std.specs.declared.io.ErrorKind.TheVariants.{BrokenPipe}
 use Rattle.tabled_base.specs.declared.error.TableError.{TableError}
 use Rattle.tabled_base.specs.declared.error.TableError.TheVariants.{Writer}
+use Rattle.tabview_show.specs.declared.ending.Hidden.{Hidden}
 use Rattle.tabview_show.specs.declared.error.ViewError.{ViewError}
 use Rattle.tabview_show.specs.declared.error.ViewError.TheVariants.{Output, Table}
 
--- a line feed, if something was printed
+-- a line feed, or none
 abbrev pub line_end : Bool → List ℕ
 line_end begun = if begun then 10 ∷ [] else []
 
--- `… 12 rows more`, if rows aren't shown
-abbrev pub hidden_line : ℕ → List ℕ
-hidden_line hidden =
-    if hidden == 0 then [] else (0xE2 ∷ 0x80 ∷ 0xA6 ∷ 32 ∷ []) ++ decimal hidden ++ codes " rows more\n"
+-- `… 12 rows more`, or `… 1 row more`
+abbrev pub count_line : ℕ → List ℕ
+count_line rows =
+    if rows == 1 then (0xE2 ∷ 0x80 ∷ 0xA6 ∷ 32 ∷ []) ++ codes "1 row more\n"
+    else (0xE2 ∷ 0x80 ∷ 0xA6 ∷ 32 ∷ []) ++ decimal rows ++ codes " rows more\n"
+
+-- that line, if rows aren't shown, with a blank line before it or not
+abbrev pub hidden_line : Hidden → List ℕ
+hidden_line hidden = if hidden.rows == 0 then [] else line_end hidden.is_apart ++ count_line hidden.rows
 
 -- what ends the output
-abbrev pub end_of : Bool → ℕ → List ℕ
+abbrev pub end_of : Bool → Hidden → List ℕ
 end_of begun hidden = line_end begun ++ hidden_line hidden
 
 -- a failed write is an error, unless the reader went away

@@ -1,12 +1,13 @@
 //! What is asked for, in the words of the crates below.
-ghost use Rattle.std.specs.Prelude.{◌≡◌, if◌then◌else◌, unwrap_or};
+ghost use Rattle.std.specs.Prelude.{◌≡◌, ◌&&◌, None, if◌then◌else◌, not, unwrap_or};
 ghost use Rattle.tabview_show.specs.Asked.{IsWanted, alignment, format_of, measured, shown_by};
-ghost use Rattle.tabview_show.specs.Asked.{rows_ahead, side_of_kind, wants_head};
+ghost use Rattle.tabview_show.specs.Asked.{is_marked, rows_ahead, side_of_kind};
+ghost use Rattle.tabview_show.specs.Asked.{wants_head};
 
 use tabled_config::AlignmentHorizontal;
 use tabview_cells::{Kind, Shown};
-use tabview_options::{Input, Options, Side};
-use tabview_print::Narrowing;
+use tabview_options::{Input, Look, Options, Side};
+use tabview_print::{Narrowing, is_markdown};
 use tabview_read::{CsvOptions, Format, JsonOptions, Wanted};
 
 /// Returns which rows and columns are shown.
@@ -102,6 +103,26 @@ pub(crate) fn format_of(input: &Input<'_>) -> Option<Format>
             None => None,
         },
     }
+}
+
+/// Whether a table of Markdown is printed: its style is asked for, and records one below the other
+/// aren't.
+pub(crate) fn is_marked(look: &Look<'_>) -> bool
+    ensures { result ≡ is_marked look.now.style look.now.expand }
+{
+    is_markdown(look.style) && !look.expand
+}
+
+/// Returns the width to which a table is fitted. One of Markdown isn't wrapped, since each of its
+/// lines is a row.
+pub(crate) fn fitted_width(look: &Look<'_>) -> Option<usize>
+    ensures { result ≡ (if is_marked look.now.style look.now.expand && not look.now.cut then None
+        else look.now.width) }
+{
+    if is_marked(look) && !look.cut {
+        return None;
+    }
+    look.width
 }
 
 pub(crate) fn narrowing(cut: bool) -> Narrowing

@@ -2,9 +2,10 @@
 ghost use Rattle.std.specs.Io.{WritesAtMost};
 ghost use Rattle.std.specs.Io.KnownBytes.{Appends, WriteAppends};
 ghost use Rattle.std.specs.IoError.{error_kind};
-ghost use Rattle.std.specs.Prelude.{◌↔◌, ◌≡◌, IsTrue, OnOk, false, true};
+ghost use Rattle.std.specs.Prelude.{◌↔◌, ◌≡◌, ◌++◌, IsTrue, OnOk, false, true};
 ghost use Rattle.std.specs.declared.io.ErrorKind.TheVariants.{BrokenPipe};
-ghost use Rattle.tabview_show.specs.Endings.{IsFailed, IsWritten, end_of, hidden_line, line_end};
+ghost use Rattle.tabview_show.specs.Endings.{IsFailed, IsWritten, count_line, end_of, hidden_line};
+ghost use Rattle.tabview_show.specs.Endings.{line_end};
 
 use crate::error::ViewError;
 use std::io::{self, Write};
@@ -57,11 +58,25 @@ impl<W: Write> Write for Noted<'_, W> {
     }
 }
 
+/// The rows that aren't shown.
+#[derive(Clone, Copy)]
+pub(crate) struct Hidden {
+    /// Their count, 0 if it isn't asked for.
+    pub rows: u64,
+    /// Whether a blank line separates the count from the table.
+    pub is_apart: bool,
+}
+
+const NONE_HIDDEN: Hidden = Hidden {
+    rows: 0,
+    is_apart: false,
+};
+
 /// Ends a table that was printed, and says how many rows aren't shown. Or says why it wasn't
 /// printed.
 pub(crate) fn end<W: Write>(
     printed: Result<(), TableError>,
-    hidden: u64,
+    hidden: Hidden,
     out: &mut Noted<'_, W>,
 ) -> Result<(), ViewError> {
     match printed {
@@ -78,7 +93,7 @@ pub(crate) fn end_stream<W: Write>(
 ) -> Result<(), ViewError> {
     match printed {
         Ok(()) => {
-            unless_closed(put_end(0, out))?;
+            unless_closed(put_end(NONE_HIDDEN, out))?;
             read.map_err(ViewError::Read)
         }
         Err(error) => failed(error, out),
@@ -86,7 +101,7 @@ pub(crate) fn end_stream<W: Write>(
 }
 
 /// Ends the last line, if there is one, and says how many rows aren't shown.
-fn put_end<W: Write>(hidden: u64, out: &mut Noted<'_, W>) -> io::Result<()>
+fn put_end<W: Write>(hidden: Hidden, out: &mut Noted<'_, W>) -> io::Result<()>
     ensures { OnOk result (Appends (W.contents out.old.out.now) (W.contents out.new.out.now)
         (end_of out.old.is_begun hidden)) }
 {
@@ -107,14 +122,45 @@ fn end_line<W: Write>(out: &mut Noted<'_, W>) -> io::Result<()>
 }
 
 /// Says how many rows aren't shown, if there are some.
-fn put_hidden<W: Write>(hidden: u64, out: &mut Noted<'_, W>) -> io::Result<()>
+fn put_hidden<W: Write>(hidden: Hidden, out: &mut Noted<'_, W>) -> io::Result<()>
     ensures { OnOk result (Appends (W.contents out.old.out.now) (W.contents out.new.out.now)
         (hidden_line hidden)) }
 {
-    if hidden > 0 {
-        return writeln!(out, "… {hidden} rows more");
+    if hidden.rows > 0 {
+        return put_hidden_rows(hidden, out);
     }
     Ok(())
+}
+
+/// Says how many rows aren't shown, behind a blank line or not.
+fn put_hidden_rows<W: Write>(hidden: Hidden, out: &mut Noted<'_, W>) -> io::Result<()>
+    ensures { OnOk result (Appends (W.contents out.old.out.now) (W.contents out.new.out.now)
+        (line_end hidden.is_apart ++ count_line hidden.rows)) }
+{
+    put_gap(hidden.is_apart, out)?;
+    put_count(hidden.rows, out)
+}
+
+/// Writes a blank line, if one separates the count from the table.
+fn put_gap<W: Write>(is_apart: bool, out: &mut Noted<'_, W>) -> io::Result<()>
+    ensures { OnOk result (Appends (W.contents out.old.out.now) (W.contents out.new.out.now)
+        (line_end is_apart)) }
+{
+    if is_apart {
+        return out.write_all(b"\n");
+    }
+    Ok(())
+}
+
+/// Writes how many rows aren't shown.
+fn put_count<W: Write>(rows: u64, out: &mut Noted<'_, W>) -> io::Result<()>
+    ensures { OnOk result (Appends (W.contents out.old.out.now) (W.contents out.new.out.now)
+        (count_line rows)) }
+{
+    if rows == 1 {
+        return writeln!(out, "… 1 row more");
+    }
+    writeln!(out, "… {rows} rows more")
 }
 
 /// Says why a table wasn't printed. The writer says why it failed.

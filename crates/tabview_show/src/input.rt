@@ -1,6 +1,8 @@
 //! Reads an input by its format, and shows it.
 
-use crate::asked::{csv_options, format_of, json_options, rows_ahead, wanted, wants_head};
+use crate::asked::{
+    csv_options, format_of, is_marked, json_options, rows_ahead, wanted, wants_head,
+};
 use crate::error::ViewError;
 use crate::hint::{HINT, Measured, wants_hint};
 use crate::layout::layout_of;
@@ -12,8 +14,8 @@ use std::fs::File;
 use std::io::{self, BufRead, BufReader, BufWriter, IsTerminal, Read, Write};
 use tabview_options::Options;
 use tabview_read::{
-    CsvRows, Format, JsonLines, JsonRows, ReadError, Rows, Sheet, SqliteRows, Wanted, delimiter_of,
-    is_sequence, query_of, read_sheet, text_of,
+    CsvRows, Format, JsonLines, JsonRows, MarkdownRows, ReadError, Rows, Sheet, SqliteRows, Wanted,
+    delimiter_of, is_sequence, query_of, read_sheet, text_of,
 };
 
 /// The bytes that are written at once.
@@ -260,8 +262,22 @@ fn show_query<S: Alter, W: Write>(
     show_rows(rt, options, &mut rows, out)
 }
 
-/// Shows rows, as they are read or when all are.
+/// Shows rows, as those of Markdown if a table of it is printed.
 fn show_rows<T: Rows, W: Write>(
+    rt: &HostRuntime,
+    options: &Options<'_>,
+    rows: &mut T,
+    out: &mut W,
+) -> Result<(), ViewError> {
+    if is_marked(&options.look) {
+        let mut rows = MarkdownRows::new(rt.alloc(), rows)?;
+        return show_cells(rt, options, &mut rows, out);
+    }
+    show_cells(rt, options, rows, out)
+}
+
+/// Shows rows, as they are read or when all are.
+fn show_cells<T: Rows, W: Write>(
     rt: &HostRuntime,
     options: &Options<'_>,
     rows: &mut T,

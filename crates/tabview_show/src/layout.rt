@@ -3,7 +3,7 @@ ghost use Rattle.std.specs.Prelude.{◌≡◌, ℕ, List, [], Contains, IfOk, If
 ghost use Rattle.tabview_cells.specs.Kinds.{keeps_width};
 ghost use Rattle.tabview_show.specs.Asked.{AreLaid, default_column, number_columns};
 
-use crate::asked::{alignment, narrowing, side_of_kind};
+use crate::asked::{alignment, fitted_width, narrowing, side_of_kind};
 use csv::StringRecord;
 use std::alloc::{AllocError, Global};
 use tabled_base::ExactRecords;
@@ -28,7 +28,7 @@ pub(crate) fn layout_of(
             sheet.has_names,
             sheet.records.count_rows(),
         ),
-        width: options.look.width,
+        width: fitted_width(&options.look),
         narrowing: narrowing(options.look.cut),
         columns,
         has_header: sheet.has_names,

@@ -7,6 +7,7 @@
 //! - `input`: an input by its format.
 //! - `layout`: how the rows that are shown are laid out.
 //! - `progress`: how far reading is.
+//! - `ruled`: the line below the header of a table of Markdown.
 //! - `view`: rows that are read, or as they are.
 #![tactic(auto)]
 
@@ -17,6 +18,7 @@ mod hint;
 mod input;
 mod layout;
 mod progress;
+mod ruled;
 mod view;
 
 pub use error::ViewError;

@@ -1,9 +1,10 @@
 //! Shows rows: all that are read, or each as it is read.
 ghost use Rattle.std.specs.Prelude.{◌≡◌, if◌then◌else◌};
 
-use crate::asked::{measured, wanted};
-use crate::ending::{Noted, end, end_stream};
+use crate::asked::{is_marked, measured, wanted};
+use crate::ending::{Hidden, Noted, end, end_stream};
 use crate::error::ViewError;
+use crate::ruled::Ruled;
 use std::alloc::Global;
 use std::io::Write;
 use tabled_base::{ExactRecords, TableError};
@@ -25,9 +26,28 @@ pub(crate) fn put_sheet<W: Write>(
     if sheet.records.count_rows() == 0 || sheet.records.count_columns() == 0 {
         return Ok(());
     }
+    if !is_marked(&options.look) {
+        return put_table(alloc, options, layout, sheet, out);
+    }
+    let columns = Vec::from_slice(alloc, layout.columns.as_slice())?;
+    let mut out = Ruled::new(alloc, out, columns.as_slice());
+    put_table(alloc, options, layout, sheet, &mut out)
+}
+
+fn put_table<W: Write>(
+    alloc: Global,
+    options: &Options<'_>,
+    layout: Layout,
+    sheet: &Sheet,
+    out: &mut W,
+) -> Result<(), ViewError> {
     let mut out = Noted::new(out);
     let printed = print_sheet(alloc, options.look.expand, layout, sheet, &mut out);
-    end(printed, hidden(&options.choice, sheet), &mut out)
+    let hidden = Hidden {
+        rows: hidden(&options.choice, sheet),
+        is_apart: is_marked(&options.look),
+    };
+    end(printed, hidden, &mut out)
 }
 
 /// Returns the count of the rows that aren't shown, 0 if that isn't asked for.
@@ -49,6 +69,18 @@ fn print_sheet<W: Write>(
 
 /// Prints rows as they are read, as wide as the first ones.
 pub(crate) fn put_stream<T: Rows, W: Write>(
+    alloc: Global,
+    options: &Options<'_>,
+    rows: &mut T,
+    out: &mut W,
+) -> Result<(), ViewError> {
+    if !is_marked(&options.look) {
+        return put_rows(alloc, options, rows, out);
+    }
+    put_rows(alloc, options, rows, &mut Ruled::new(alloc, out, &[]))
+}
+
+fn put_rows<T: Rows, W: Write>(
     alloc: Global,
     options: &Options<'_>,
     rows: &mut T,
