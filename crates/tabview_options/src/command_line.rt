@@ -21,7 +21,7 @@ Examples:
   tabview -w $COLUMNS cities.csv            as wide as the terminal, wrapped
   tabview -w 80 --cut cities.csv            at most 80 columns; cells end in …
   tabview --columns City,People cities.csv  two of the columns
-  tabview --tail 10 -n cities.csv           the last ten rows, with their numbers
+  tabview --tail 10 -n cities.csv           the last ten rows, numbered
   tabview shop.db -q 'SELECT * FROM t'      a query of an SQLite file
   curl .. | tabview -f json -x              one row below the other
   tail -f log.jsonl | tabview -f jsonl --stream 20
