@@ -1,0 +1,1 @@
+//! Files that change while they are read, and databases of other programs.
