@@ -457,7 +457,7 @@ fn queried(rt: &HostRuntime, tables: &[&str], words: &[&str]) -> Result<String, 
     let matches = command(alloc)?.try_get_matches_from(words)?;
     let options = Options::of(alloc, &matches, None)?;
     let mut out = Vec::new(alloc);
-    let shown = show_database(rt, &options, &mut connection, &mut out);
+    let shown = show_database(rt, &options, &mut connection, &[], &mut out);
     let mut text = String::from_utf8(out)?;
     if let Err(error) = shown {
         write!(text, "{error}")?;

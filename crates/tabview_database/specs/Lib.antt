@@ -1,3 +1,5 @@
 pub mod Held
 pub mod Header
+pub mod Inputs
+pub mod Obstacles
 pub mod Settled

@@ -16,18 +16,17 @@ pub record AreAlike (a b : Stamp) : Type 0 where
   pub header : a.header.items ≡ b.header.items
   pub log : a.log.items ≡ b.log.items
 
+-- a look that shows no write that isn't finished
+abbrev pub Rests : {T : Type 0} → (T → Stamp → T → Type 0) → Stamp → T → Type 0
+Rests {T} shows stamp to = ((from : T) × shows from stamp to) × (stamp.has_journal ≡ false)
+
 -- the image was read between two looks that show the same, and no write that isn't finished
-pub record Settles {T : Type 0} (shows : T → Stamp → T → Type 0) (gives : T → Image → T → Type 0) (from : T) (image : Image) (to : T) : Type 0 where
+pub record ReadsSettled {T : Type 0} (shows : T → Stamp → T → Type 0) (gives : T → Image → T → Type 0) (image : Image) (to : T) : Type 0 where
   pub before : Stamp
   pub after : Stamp
   pub first : T
   pub last : T
-  pub shown : shows from before first
+  pub shown : Rests shows before first
   pub read : gives first image last
   pub again : shows last after to
   pub alike : AreAlike before after
-  pub finished : before.has_journal ≡ false
-
--- the same at the last of several attempts
-abbrev pub ReadsSettled : {T : Type 0} → (T → Stamp → T → Type 0) → (T → Image → T → Type 0) → Image → T → Type 0
-ReadsSettled {T} shows gives image to = (from : T) × Settles shows gives from image to

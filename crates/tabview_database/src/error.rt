@@ -35,13 +35,13 @@ pub enum DatabaseError {
     Memory,
     /// The file can't be read.
     Input(io::Error),
-    /// The log beside the file, whose name ends in `-wal`, can't be read.
+    /// Its log, the file whose name ends in `-wal`, can't be read.
     Log(io::Error),
     /// It is a pipe or a device.
     NotFile,
     /// It changed each time that it was read.
     Written,
-    /// A rollback journal is beside it, of a write that goes on or was interrupted.
+    /// It has a rollback journal, of a write that goes on or was interrupted.
     Unfinished,
     /// The file doesn't begin as a database of SQLite does.
     NotDatabase,
@@ -78,7 +78,7 @@ impl fmt::Display for DatabaseError {
                 f.write_str("a database of SQLite can only be read from a file"),
             DatabaseError::Written => f.write_str("the database is being written"),
             DatabaseError::Unfinished => f.write_str(
-                "a write to the database isn't finished: a rollback journal is beside it",
+                "a write to the database isn't finished: it has a rollback journal",
             ),
             DatabaseError::NotDatabase => f.write_str("the file is no database of SQLite"),
             DatabaseError::Malformed => f.write_str(

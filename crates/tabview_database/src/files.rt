@@ -1,4 +1,6 @@
 //! The files at a path, which are opened for reading alone.
+ghost use Rattle.std.specs.Prelude.{IfOk};
+ghost use Rattle.tabview_database.specs.Inputs.{IsRestOf, IsStartOf};
 
 use crate::error::DatabaseError;
 use crate::settling::{Image, Source, Stamp};
@@ -11,6 +13,9 @@ use std::os::unix::fs::MetadataExt;
 const HEADER: u64 = 28;
 
 const LOG_HEADER: u64 = 32;
+
+/// The bytes that are allocated beyond a file, so that the read that finds its end needs no more.
+const SPARE: usize = 1024;
 
 /// The database at a path, with its log and its journal. Each is opened by `File::open`, for
 /// reading alone, and no lock is held.
@@ -137,16 +142,21 @@ fn read_beside(rt: &HostRuntime, path: &str) -> io::Result<Vec<u8>> {
     }
 }
 
-/// Returns at most so many bytes of an input.
-fn read_up_to<R: Read + Drop>(alloc: Global, input: R, count: u64) -> io::Result<Vec<u8>> {
+/// Returns the first bytes of an input, at most `count`.
+fn read_up_to<R: Read + Drop>(alloc: Global, input: R, count: u64) -> io::Result<Vec<u8>>
+    ensures { IfOk result (λ bytes. IsStartOf count (R.remaining input) bytes.items) }
+{
     let mut bytes = Vec::new(alloc);
     input.take(count).read_to_end(&mut bytes)?;
     Ok(bytes)
 }
 
-/// Returns the bytes of an input, which is likely to have so many.
-fn read_all<R: Read + Drop>(alloc: Global, mut input: R, len: u64) -> io::Result<Vec<u8>> {
-    let mut bytes = Vec::with_capacity(alloc, usize::try_from(len).unwrap_or(0))?;
+/// Returns the bytes of an input, which is likely to have `len`.
+fn read_all<R: Read + Drop>(alloc: Global, mut input: R, len: u64) -> io::Result<Vec<u8>>
+    ensures { IfOk result (λ bytes. IsRestOf (R.remaining input) bytes.items) }
+{
+    let len = usize::try_from(len).unwrap_or(0);
+    let mut bytes = Vec::with_capacity(alloc, len.saturating_add(SPARE))?;
     input.read_to_end(&mut bytes)?;
     Ok(bytes)
 }

@@ -1,11 +1,14 @@
 //! Reads files again that change while they are read.
 ghost use Rattle.std.specs.Prelude.{IfOk, IfSome, IsTrue};
-ghost use Rattle.tabview_database.specs.Settled.{AreAlike, IsFile, ReadsSettled, Settles};
+ghost use Rattle.tabview_database.specs.Settled.{AreAlike, IsFile, ReadsSettled, Rests};
 
 use crate::error::DatabaseError;
 
 /// How often files are read that change while they are.
 const ATTEMPTS: usize = 3;
+
+/// How often files are looked at while a write isn't finished: some hundredths of a second.
+const LOOKS: usize = 1000;
 
 /// What shows whether files were written between two looks at them.
 #[derive(Debug, Drop)]
@@ -22,7 +25,7 @@ pub struct Stamp {
     pub header: Vec<u8>,
     /// The header of its log, empty if there is none.
     pub log: Vec<u8>,
-    /// Whether a rollback journal is beside it, of a write that isn't finished.
+    /// Whether it has a rollback journal, of a write that isn't finished.
     pub has_journal: bool,
 }
 
@@ -71,8 +74,8 @@ pub trait Source {
         ensures { IfOk result (λ image. gives self.old image self.new) };
 }
 
-/// Reads files until they look the same after it as before, three times at most. A write that
-/// isn't finished counts as a change.
+/// Reads files until they look the same after it as before, three times at most. They aren't read
+/// while a write isn't finished.
 pub fn read_settled<T: Source>(files: &mut T) -> Result<Image, DatabaseError>
     ensures { IfOk result (λ image. ReadsSettled T.shows T.gives image files.new) }
 {
@@ -81,22 +84,32 @@ pub fn read_settled<T: Source>(files: &mut T) -> Result<Image, DatabaseError>
             return Ok(image);
         }
     }
-    if files.stamp()?.has_journal {
-        return Err(DatabaseError::Unfinished);
-    }
     Err(DatabaseError::Written)
 }
 
-/// Reads files, unless they change or a write isn't finished.
+/// Reads files, unless they change meanwhile.
 fn read_once<T: Source>(files: &mut T) -> Result<Option<Image>, DatabaseError>
     ensures { IfOk result (λ found. IfSome found
-        (λ image. Settles T.shows T.gives files.old image files.new)) }
+        (λ image. ReadsSettled T.shows T.gives image files.new)) }
 {
-    let before = files.stamp()?;
+    let before = stamp_of_rest(files)?;
     let image = files.read()?;
     let after = files.stamp()?;
-    if before.is_like(&after) && !before.has_journal {
+    if before.is_like(&after) {
         return Ok(Some(image));
     }
     Ok(None)
+}
+
+/// Looks at files until no write is unfinished. Fails if one stays so.
+fn stamp_of_rest<T: Source>(files: &mut T) -> Result<Stamp, DatabaseError>
+    ensures { IfOk result (λ stamp. Rests T.shows stamp files.new) }
+{
+    for _look in 0..LOOKS {
+        let stamp = files.stamp()?;
+        if !stamp.has_journal {
+            return Ok(stamp);
+        }
+    }
+    Err(DatabaseError::Unfinished)
 }

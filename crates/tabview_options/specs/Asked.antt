@@ -74,6 +74,7 @@ pub record AsksInput (matches : ArgMatches) (input : Input) : Type 0 where
   pub format : option_map (λ s. s.now) input.format ≡ value_of matches (codes "from")
   pub delimiter : IsDelimiter (value_of matches (codes "delimiter")) input.delimiter
   pub query : option_map (λ s. s.now) input.query ≡ value_of matches (codes "query")
+  pub table : option_map (λ s. s.now) input.table ≡ value_of matches (codes "table")
   pub has_header : IsFlag matches (codes "no-header") (not input.has_header)
   pub fill : IsFlag matches (codes "fill") input.fill
   pub lossy : IsFlag matches (codes "lossy") input.lossy

@@ -22,7 +22,10 @@ Examples:
   tabview -w 80 --cut cities.csv            at most 80 columns; cells end in …
   tabview --columns City,People cities.csv  two of the columns
   tabview --tail 10 -n cities.csv           the last ten rows, numbered
-  tabview shop.db -q 'SELECT * FROM t'      a query of an SQLite file
+  tabview shop.db                           the tables of an SQLite file,
+                                            or its only one
+  tabview shop.db --table orders            one of its tables
+  tabview shop.db -q 'SELECT * FROM t'      a query of it
   curl .. | tabview -f json -x              one row below the other
   tail -f log.jsonl | tabview -f jsonl --stream 20
                                             each row when it is read, as wide as

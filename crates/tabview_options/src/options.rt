@@ -30,6 +30,8 @@ pub struct Input<'a> {
     pub format: Option<&'a str>,
     pub delimiter: Option<u8>,
     pub query: Option<&'a str>,
+    /// The name of a table of a database.
+    pub table: Option<&'a str>,
     pub has_header: bool,
     pub fill: bool,
     pub lossy: bool,
@@ -146,6 +148,7 @@ impl<'a> Input<'a> {
             format: matches.get_str("from"),
             delimiter,
             query: matches.get_str("query"),
+            table: matches.get_str("table"),
             has_header: !is_set(matches, "no-header"),
             fill: is_set(matches, "fill"),
             lossy: is_set(matches, "lossy"),

@@ -30,7 +30,7 @@ pub(crate) struct Described {
 }
 
 /// What is read, and how.
-pub(crate) static READING: [Described; 7] = [
+pub(crate) static READING: [Described; 8] = [
     Described {
         name: "from",
         letter: Some('f'),
@@ -54,8 +54,16 @@ pub(crate) static READING: [Described; 7] = [
         letter: Some('q'),
         takes: Takes::Text,
         value: "SQL",
-        help: "Query of an SQLite file [default: its only table]",
+        help: "Query of an SQLite file [default: its only table, or a list of its tables]",
         excludes: &[],
+    },
+    Described {
+        name: "table",
+        letter: None,
+        takes: Takes::Text,
+        value: "NAME",
+        help: "Table or view of an SQLite file",
+        excludes: &["query"],
     },
     Described {
         name: "no-header",

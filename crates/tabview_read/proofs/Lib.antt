@@ -7,3 +7,4 @@ pub mod Parts
 pub mod Selected
 pub mod ShownCells
 pub mod MarkedCells
+pub mod Quoting

@@ -10,3 +10,4 @@ pub mod Csv
 pub mod CsvText
 pub mod Delimiters
 pub mod MarkedCells
+pub mod Tables

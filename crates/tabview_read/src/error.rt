@@ -1,9 +1,11 @@
 //! Why an input can't be shown.
 
+use crate::query_fault::QueryFault;
 use csv::Position;
 use std::alloc::{AllocError, AllocFailed};
 use std::{error, fmt, io};
 use tabled_base::TableError;
+use tabview_database::{DatabaseError, Obstacle};
 
 /// A place in a text. Lines, and the characters of a line, are counted from 1.
 #[derive(Clone, Copy)]
@@ -154,12 +156,20 @@ pub enum ReadError {
     OpenQuote(u64),
     /// A JSON text is wrong.
     Json(Place, Fault),
+    /// A database can't be opened.
+    Database(DatabaseError),
+    /// A query is wrong.
+    Sql(Place, QueryFault),
+    /// A query has what isn't supported.
+    Unsupported,
     /// A query failed.
     Query(sqlite::Error),
     /// A database has no table.
     NoTable,
-    /// A database has several tables, which are listed.
-    Tables(String),
+    /// A database has no table of this name.
+    NoSuchTable(String),
+    /// A table can't be read, for this reason.
+    LeftOut(Obstacle, String),
     /// There is no such column.
     NoColumn(String),
 }
@@ -179,9 +189,13 @@ impl Drop for ReadError {
             } => {}
             ReadError::OpenQuote(_) => {}
             ReadError::Json(_, _) => {}
+            ReadError::Database(_) => {}
+            ReadError::Sql(_, _) => {}
+            ReadError::Unsupported => {}
             ReadError::Query(_) => {}
             ReadError::NoTable => {}
-            ReadError::Tables(_) => {}
+            ReadError::NoSuchTable(_) => {}
+            ReadError::LeftOut(_, _) => {}
             ReadError::NoColumn(_) => {}
         }
     }
@@ -210,9 +224,13 @@ impl fmt::Display for ReadError {
             }
             ReadError::OpenQuote(line) => write!(f, "line {line}: a quote isn't closed"),
             ReadError::Json(place, fault) => write!(f, "{place}: {fault}"),
+            ReadError::Database(error) => write!(f, "{error}"),
+            ReadError::Sql(place, fault) => write!(f, "query, {place}: {fault}"),
+            ReadError::Unsupported => f.write_str("the query isn't supported"),
             ReadError::Query(error) => write!(f, "{error}"),
             ReadError::NoTable => f.write_str("the database has no table"),
-            ReadError::Tables(names) => write!(f, "the database has several tables: {names}"),
+            ReadError::NoSuchTable(name) => write!(f, "no such table: {name}"),
+            ReadError::LeftOut(obstacle, name) => write!(f, "{name} isn't supported: {obstacle}"),
             ReadError::NoColumn(name) => write!(f, "there is no column {name}"),
         }
     }
@@ -258,6 +276,12 @@ impl From<io::Error> for ReadError {
 impl From<sqlite::Error> for ReadError {
     fn from(error: sqlite::Error) -> ReadError {
         ReadError::Query(error)
+    }
+}
+
+impl From<DatabaseError> for ReadError {
+    fn from(error: DatabaseError) -> ReadError {
+        ReadError::Database(error)
     }
 }
 

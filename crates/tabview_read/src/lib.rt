@@ -16,12 +16,15 @@
 //! - `markdown`: rows as those of a table of Markdown.
 //! - `nesting`: which token of JSON may follow others.
 //! - `place`: places in a text.
+//! - `query_fault`: what is wrong with a query.
 //! - `row`: rows, and what they are read from.
 //! - `scan`: what the bytes of comma-separated values belong to.
 //! - `selector`: selects the rows that are shown.
 //! - `sheet`: the lines that are shown.
+//! - `sql_tokens`: the tokens of SQL.
 //! - `sqlite_rows`: the rows of a query.
 //! - `stream`: rows that are shown as they are read.
+//! - `tables`: the tables of a database.
 //! - `value_scan`: where a value of JSON ends.
 //! - `values`: how JSON values become rows.
 //! - `watched`: comma-separated values that are watched as they are read.
@@ -43,12 +46,15 @@ mod keys;
 mod markdown;
 mod nesting;
 mod place;
+mod query_fault;
 mod row;
 mod scan;
 mod selector;
 mod sheet;
+mod sql_tokens;
 mod sqlite_rows;
 mod stream;
+mod tables;
 mod value_scan;
 mod values;
 mod watched;
@@ -66,7 +72,9 @@ pub use place::text_of;
 pub use row::{Row, Rows};
 pub use selector::read_sheet;
 pub use sheet::{Sheet, Wanted};
-pub use sqlite_rows::{SqliteRows, query_of};
+pub use query_fault::QueryFault;
+pub use sqlite_rows::SqliteRows;
 pub use stream::Stream;
+pub use tables::{Overview, TableList, overview_of, query_of_table};
 pub use value_scan::is_sequence;
 pub use values::JsonOptions;

@@ -1,16 +1,19 @@
 //! The rows of a query of a database.
+ghost use Rattle.csv.specs.Records.{fields_of};
+ghost use Rattle.sqlite_sql.specs.Spelling.{spelled};
+ghost use Rattle.std.specs.Prelude.{◌≡◌, ◌++◌, ◌∷◌, [], OnOk};
+ghost use Rattle.std.specs.Str.Lossy.{utf8_lossy};
 
 use crate::error::ReadError;
+use crate::query_fault::query_error;
 use crate::row::{Row, Rows};
 use csv::StringRecord;
 use sqlite::types::ValueRef;
 use sqlite::{Alter, Connection, Statement};
+use sqlite_sql::spelling::of_float;
 use std::alloc::{AllocError, Global};
 use std::str::from_utf8;
-
-/// The tables of a database.
-const TABLES: &str =
-    "SELECT name FROM sqlite_schema WHERE type = 'table' AND name NOT LIKE 'sqlite_%'";
+use tabview_database::LeftOut;
 
 /// The rows of a query.
 pub struct SqliteRows<'a, S: Alter> {
@@ -33,15 +36,18 @@ impl<S: Alter> Drop for SqliteRows<'_, S> {
 }
 
 impl<'a, S: Alter> SqliteRows<'a, S> {
-    /// Begins a query.
+    /// Begins a query. The objects that were left out of the schema have no rows.
     pub fn new(
         alloc: Global,
         connection: &'a mut Connection<S>,
+        left_out: &[LeftOut],
         query: &str,
         lossy: bool,
     ) -> Result<SqliteRows<'a, S>, ReadError> {
-        let statement = connection.prepare(query)?;
-        SqliteRows::of_statement(alloc, connection, &statement, lossy)
+        match connection.prepare(query) {
+            Ok(statement) => SqliteRows::of_statement(alloc, connection, &statement, lossy),
+            Err(error) => Err(query_error(alloc, connection, left_out, query, error)),
+        }
     }
 
     fn of_statement(
@@ -111,11 +117,20 @@ fn put_value(
     match value {
         ValueRef::Null => row.push_null()?,
         ValueRef::Int(number) => row.push_text(&format!(in alloc; "{number}")?)?,
-        ValueRef::Real(number) => row.push_text(&format!(in alloc; "{number}")?)?,
+        ValueRef::Real(number) => put_float(alloc, row, number)?,
         ValueRef::Blob(bytes) => row.push_text(&hex(alloc, bytes)?)?,
         ValueRef::Text(bytes) => return put_text(alloc, row, bytes, lossy),
     }
     Ok(true)
+}
+
+/// Adds the cell of a number as SQLite writes it, such as `3.0` and `1.0e+100`.
+fn put_float(alloc: Global, row: &mut Row, number: f64) -> Result<(), AllocError>
+    ensures cells { OnOk result (fields_of row.new.cells
+        ≡ fields_of row.old.cells ++ utf8_lossy (spelled number) ∷ []) }
+    ensures nulls { OnOk result (row.new.nulls.items ≡ row.old.nulls.items) }
+{
+    row.push_text(&String::from_utf8_lossy(alloc, of_float(number).as_slice())?)
 }
 
 /// Adds the cell of a text, unless it is invalid UTF-8 that isn't shown as U+FFFD.
@@ -135,68 +150,4 @@ fn hex(alloc: Global, bytes: &[u8]) -> Result<String, AllocError> {
     }
     text.push('\'')?;
     Ok(text)
-}
-
-/// Returns a query of the only table of a database. Fails if there is none, or if there are
-/// several: the error lists them.
-pub fn query_of<S: Alter>(
-    alloc: Global,
-    connection: &mut Connection<S>,
-) -> Result<String, ReadError> {
-    let tables = tables_of(alloc, connection)?;
-    match tables.as_slice() {
-        [] => Err(ReadError::NoTable),
-        [table] => Ok(select(alloc, table)?),
-        _ => Err(ReadError::Tables(listed(alloc, &tables)?)),
-    }
-}
-
-fn tables_of<S: Alter>(
-    alloc: Global,
-    connection: &mut Connection<S>,
-) -> Result<Vec<String>, ReadError> {
-    let mut rows = SqliteRows::new(alloc, connection, TABLES, true)?;
-    let mut tables = Vec::new(alloc);
-    put_first_cells(alloc, &mut rows, &mut tables)?;
-    Ok(tables)
-}
-
-/// Adds the first cell of each row.
-fn put_first_cells<S: Alter>(
-    alloc: Global,
-    rows: &mut SqliteRows<'_, S>,
-    cells: &mut Vec<String>,
-) -> Result<(), ReadError> {
-    let mut row = Row::new(alloc);
-    for _row in 0..u64::MAX {
-        if !rows.read(&mut row)? {
-            break;
-        }
-        cells.push(String::from_str(alloc, row.cells.get(0).unwrap_or(""))?)?;
-    }
-    Ok(())
-}
-
-/// Returns a query of a table.
-fn select(alloc: Global, table: &str) -> Result<String, AllocError> {
-    let mut query = String::from_str(alloc, "SELECT * FROM \"")?;
-    for c in table.chars() {
-        if c == '"' {
-            query.push('"')?;
-        }
-        query.push(c)?;
-    }
-    query.push('"')?;
-    Ok(query)
-}
-
-fn listed(alloc: Global, tables: &[String]) -> Result<String, AllocError> {
-    let mut list = String::new(alloc);
-    for table in tables {
-        if !list.is_empty() {
-            list.push_str(", ")?;
-        }
-        list.push_str(table)?;
-    }
-    Ok(list)
 }

@@ -3,6 +3,7 @@
 use std::alloc::AllocError;
 use std::{error, fmt, io};
 use tabled_base::TableError;
+use tabview_database::DatabaseError;
 use tabview_read::ReadError;
 
 /// Why a table isn't shown, or not to its end.
@@ -16,8 +17,8 @@ pub enum ViewError {
     Output(io::Error),
     /// A database was given at standard input.
     Database,
-    /// There is a query, but no database.
-    NoDatabase,
+    /// There is an option for databases, but no database.
+    NoDatabase(&'static str),
 }
 
 /// Drops an error in one call, so that callers need no proof for each kind.
@@ -28,7 +29,7 @@ impl Drop for ViewError {
             ViewError::Table(_) => {}
             ViewError::Output(_) => {}
             ViewError::Database => {}
-            ViewError::NoDatabase => {}
+            ViewError::NoDatabase(_) => {}
         }
     }
 }
@@ -40,7 +41,7 @@ impl fmt::Display for ViewError {
             ViewError::Table(error) => write!(f, "{error}"),
             ViewError::Output(error) => write!(f, "the output can't be written: {error}"),
             ViewError::Database => f.write_str("a database of SQLite can only be read from a file"),
-            ViewError::NoDatabase => f.write_str("--query needs a database of SQLite"),
+            ViewError::NoDatabase(option) => write!(f, "{option} needs a database of SQLite"),
         }
     }
 }
@@ -50,6 +51,12 @@ impl error::Error for ViewError {}
 impl From<ReadError> for ViewError {
     fn from(error: ReadError) -> ViewError {
         ViewError::Read(error)
+    }
+}
+
+impl From<DatabaseError> for ViewError {
+    fn from(error: DatabaseError) -> ViewError {
+        ViewError::Read(ReadError::Database(error))
     }
 }
 

@@ -3,19 +3,19 @@
 use crate::asked::{
     csv_options, format_of, is_marked, json_options, rows_ahead, wanted, wants_head,
 };
+use crate::database::show_database_at;
 use crate::error::ViewError;
 use crate::hint::{HINT, Measured, wants_hint};
 use crate::layout::layout_of;
 use crate::progress::Progress;
 use crate::view::{put_sheet, put_stream};
 use json::Scratch;
-use sqlite::{Alter, Connection};
 use std::fs::File;
 use std::io::{self, BufRead, BufReader, BufWriter, IsTerminal, Read, Write};
-use tabview_options::Options;
+use tabview_options::{Input, Options};
 use tabview_read::{
-    CsvRows, Format, JsonLines, JsonRows, MarkdownRows, ReadError, Rows, Sheet, SqliteRows, Wanted,
-    delimiter_of, is_sequence, query_of, read_sheet, text_of,
+    CsvRows, Format, JsonLines, JsonRows, MarkdownRows, ReadError, Rows, Sheet, Wanted,
+    delimiter_of, is_sequence, read_sheet, text_of,
 };
 
 /// The bytes that are written at once.
@@ -87,18 +87,6 @@ fn show_file<W: Write>(
     show_database_at(rt, options, path, out)
 }
 
-fn show_database_at<W: Write>(
-    rt: &HostRuntime,
-    options: &Options<'_>,
-    path: &str,
-    out: &mut W,
-) -> Result<(), ViewError> {
-    match Connection::open(rt, path) {
-        Ok(mut connection) => show_database(rt, options, &mut connection, out),
-        Err(error) => Err(ViewError::Read(ReadError::Query(error))),
-    }
-}
-
 /// Shows an input, unless it is a database of SQLite. Returns whether it is none.
 ///
 /// Errors: as of `show`.
@@ -117,8 +105,8 @@ pub fn show_input<R: Read + Drop, W: Write>(
     if format == Format::Sqlite {
         return Ok(false);
     }
-    if options.input.query.is_some() {
-        return Err(ViewError::NoDatabase);
+    if let Some(option) = option_for_databases(&options.input) {
+        return Err(ViewError::NoDatabase(option));
     }
     if format == Format::Csv {
         let delimiter = delimiter_of(&head, head.len() < HEAD);
@@ -127,6 +115,14 @@ pub fn show_input<R: Read + Drop, W: Write>(
         show_text(rt, options, format, head.as_slice().chain(input), out)?;
     }
     Ok(true)
+}
+
+/// Returns the option that only databases have, if there is one.
+fn option_for_databases(input: &Input<'_>) -> Option<&'static str> {
+    if input.query.is_some() {
+        return Some("--query");
+    }
+    input.table.and(Some("--table"))
 }
 
 /// Reads the first bytes of an input, or of a stream those of its first line.
@@ -233,37 +229,8 @@ fn show_values<B: BufRead + Drop, W: Write>(
     show_rows(rt, options, &mut rows, out)
 }
 
-/// Shows a query of a database, or its only table.
-///
-/// Errors: as of `show`.
-pub fn show_database<S: Alter, W: Write>(
-    rt: &HostRuntime,
-    options: &Options<'_>,
-    connection: &mut Connection<S>,
-    out: &mut W,
-) -> Result<(), ViewError> {
-    match options.input.query {
-        Some(query) => show_query(rt, options, connection, query, out),
-        None => {
-            let query = query_of(rt.alloc(), connection)?;
-            show_query(rt, options, connection, &query, out)
-        }
-    }
-}
-
-fn show_query<S: Alter, W: Write>(
-    rt: &HostRuntime,
-    options: &Options<'_>,
-    connection: &mut Connection<S>,
-    query: &str,
-    out: &mut W,
-) -> Result<(), ViewError> {
-    let mut rows = SqliteRows::new(rt.alloc(), connection, query, options.input.lossy)?;
-    show_rows(rt, options, &mut rows, out)
-}
-
 /// Shows rows, as those of Markdown if a table of it is printed.
-fn show_rows<T: Rows, W: Write>(
+pub(crate) fn show_rows<T: Rows, W: Write>(
     rt: &HostRuntime,
     options: &Options<'_>,
     rows: &mut T,

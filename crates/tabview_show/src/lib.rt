@@ -1,6 +1,7 @@
 //! Shows the rows of an input as a table.
 //!
 //! - `asked`: what is asked for, in the words of the crates below.
+//! - `database`: a database of SQLite.
 //! - `ending`: the end of a table, and readers that went away.
 //! - `error`: why nothing is shown.
 //! - `hint`: a hint for tables that are too wide for a terminal.
@@ -12,6 +13,7 @@
 #![tactic(auto)]
 
 mod asked;
+mod database;
 mod ending;
 mod error;
 mod hint;
@@ -21,5 +23,6 @@ mod progress;
 mod ruled;
 mod view;
 
+pub use database::show_database;
 pub use error::ViewError;
-pub use input::{show, show_database, show_input};
+pub use input::{show, show_input};
