@@ -262,7 +262,7 @@ static INPUTS: [Run; 16] = [
     },
 ];
 
-static FAULTS: [Run; 16] = [
+static FAULTS: [Run; 17] = [
     Run {
         words: &["tabview", "--columns", "Town"],
         input: CITIES,
@@ -287,6 +287,11 @@ static FAULTS: [Run; 16] = [
         words: &["tabview", "-q", "x"],
         input: "a\n",
         shown: "--query needs a database of SQLite",
+    },
+    Run {
+        words: &["tabview", "--table", "x"],
+        input: "a\n",
+        shown: "--table needs a database of SQLite",
     },
     Run {
         words: &["tabview"],
@@ -482,12 +487,100 @@ fn databases_are_queried(rt: HostRuntime) -> Result<(), Fail> {
     Ok(())
 }
 
+const LAND: &str = "CREATE TABLE land (name TEXT);
+    CREATE VIEW large AS SELECT name FROM city WHERE people > 1000";
+
 #[test]
-fn a_database_has_one_table(rt: HostRuntime) -> Result<(), Fail> {
+fn tables_are_listed_and_chosen(rt: HostRuntime) -> Result<(), Fail> {
     let text = queried(&rt, &[], &["tabview"])?;
     check(text, "the database has no table")?;
-    let text = queried(&rt, &[CITY, "CREATE TABLE land (name TEXT)"], &["tabview"])?;
-    check(text, "the database has several tables: city, land")?;
+    let words = ["tabview", "-s", "markdown"];
+    check(
+        queried(&rt, &["CREATE TABLE land (name TEXT)"], &words)?,
+        "| name |\n|------|\n",
+    )?;
+    check(
+        queried(&rt, &[CITY, LAND], &words)?,
+        "| table | columns            | rows |\n\
+         |-------|--------------------|------|\n\
+         | city  | name, people, mark |    2 |\n\
+         | land  | name               |    0 |\n\
+         | large | name               |    1 |\n",
+    )?;
+    let words = ["tabview", "-s", "markdown", "--table", "Large"];
+    check(
+        queried(&rt, &[CITY, LAND], &words)?,
+        "| name  |\n|-------|\n| Vaduz |\n",
+    )?;
+    Ok(())
+}
+
+/// Numbers as SQLite spells them.
+#[test]
+fn numbers_of_a_database(rt: HostRuntime) -> Result<(), Fail> {
+    let numbers = "CREATE TABLE n (x REAL);
+        INSERT INTO n VALUES (3), (1e100), (1e-7), (-0.0), (105.4), (NULL)";
+    check(
+        queried(&rt, &[numbers], &["tabview", "-s", "markdown"])?,
+        "|        x |\n\
+         |----------|\n\
+         |      3.0 |\n\
+         | 1.0e+100 |\n\
+         |  1.0e-07 |\n\
+         |      0.0 |\n\
+         |    105.4 |\n\
+         |     NULL |\n",
+    )?;
+    Ok(())
+}
+
+/// Options of a query or a table, and what is wrong with them.
+static QUERY_FAULTS: [(&[&str], &str); 9] = [
+    (
+        &["tabview", "-q", "SELECT * FROM nope"],
+        "query, line 1, column 15: no such table: nope",
+    ),
+    (
+        &["tabview", "-q", "SELECT 1\n FROM city, [no\u{1b}[1mpe]"],
+        "query, line 2, column 13: no such table: no␛[1mpe",
+    ),
+    // a table that the query defines, and one that it doesn't
+    (
+        &[
+            "tabview",
+            "-q",
+            "WITH own AS (SELECT 1) SELECT * FROM own, nope AS it",
+        ],
+        "query, line 1, column 43: no such table: nope",
+    ),
+    (
+        &["tabview", "-q", "SELECT name frm city"],
+        "query, line 1, column 17: near \"city\": syntax error",
+    ),
+    (
+        &["tabview", "-q", "SELECT *\nFROM"],
+        "query, line 2, column 5: incomplete input",
+    ),
+    (
+        &["tabview", "-q", "ALTER TABLE city RENAME TO town"],
+        "query, line 1, column 1: near \"ALTER\": this SQL isn't supported",
+    ),
+    (
+        &["tabview", "-q", "SELECT * FROM sqlite_schema, city"],
+        "query, line 1, column 15: sqlite_schema can't be read with another table",
+    ),
+    (&["tabview", "--table", "no\u{7}pe"], "no such table: no␇pe"),
+    (
+        &["tabview", "-q", "DELETE FROM city"],
+        "the statement returns no rows",
+    ),
+];
+
+#[test]
+fn faults_of_queries_are_named(rt: HostRuntime) -> Result<(), Fail> {
+    for (words, fault) in &QUERY_FAULTS {
+        check(queried(&rt, &[CITY], words)?, fault)?;
+    }
     Ok(())
 }
 

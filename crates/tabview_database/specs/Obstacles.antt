@@ -1,4 +1,4 @@
--- What stands in the way of reading a schema.
+-- The objects of a schema that can't be read.
 use Rattle.std.specs.Prelude.{Bool, true, false}
 use Rattle.tabview_database.specs.declared.schema.Obstacle.{Obstacle}
 use Rattle.tabview_database.specs.declared.schema.Obstacle.TheVariants.{VirtualTable, View, Table, Index, Trigger}
