@@ -74,8 +74,9 @@ impl fmt::Display for DatabaseError {
             DatabaseError::Memory => f.write_str("out of memory"),
             DatabaseError::Input(error) => write!(f, "{error}"),
             DatabaseError::Log(error) => write!(f, "its -wal file can't be read: {error}"),
-            DatabaseError::NotFile =>
-                f.write_str("a database of SQLite can only be read from a file"),
+            DatabaseError::NotFile => f.write_str(
+                "a database of SQLite can only be read from a file",
+            ),
             DatabaseError::Written => f.write_str("the database is being written"),
             DatabaseError::Unfinished => f.write_str(
                 "a write to the database isn't finished: it has a rollback journal",

@@ -194,7 +194,10 @@ fn what_cannot_be_read_is_left_out(rt: HostRuntime) -> Result<(), Fail> {
     let files = listed(alloc, files, &[VIRTUAL, TRIGGER])?;
     let mut database = open(alloc, image_of(alloc, &files)?)?;
     assert_eq!(rt; number(&mut database, "SELECT a FROM t")?, 42);
-    assert_eq!(rt; number(&mut database, "SELECT count(*) FROM sqlite_schema")?, 1);
+    assert_eq!(rt;
+        number(&mut database, "SELECT count(*) FROM sqlite_schema")?,
+        1
+    );
     match database.left_out.as_slice() {
         [first, second] => {
             assert_eq!(rt; first.obstacle, Obstacle::VirtualTable);

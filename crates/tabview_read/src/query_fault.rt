@@ -61,8 +61,9 @@ pub(crate) fn query_error<S: Alter>(
 ) -> ReadError {
     let found = match error {
         Error::SqlInputError(CompileError::Parse(error)) => parse_error(alloc, sql, error),
-        Error::SqlInputError(CompileError::NoSuchTable) =>
-            table_error(alloc, connection, left_out, sql),
+        Error::SqlInputError(CompileError::NoSuchTable) => table_error(
+            alloc, connection, left_out, sql,
+        ),
         Error::SqlInputError(CompileError::Unsupported | CompileError::NeedsView(_)) =>
             unsupported_error(alloc, connection, sql),
         _ => Ok(None),

@@ -246,14 +246,20 @@ pub fn query_of_table<S: Alter>(
     connection: &mut Connection<S>,
     left_out: &[LeftOut],
     name: &str,
-) -> Result<String, ReadError> {
+) -> Result<String, ReadError>
+    ensures { IfOk result (λ query.
+        string_bytes query ≡ codes "SELECT * FROM " ++ in_quotes name.now) }
+{
     let query = select_all(alloc, name)?;
     match connection.prepare(&query) {
         Ok(_) => Ok(query),
-        Err(Error::SqlInputError(CompileError::NoSuchTable)) =>
-            Err(no_table(alloc, left_out, name)?),
-        Err(Error::SqlInputError(CompileError::Unsupported)) =>
-            Err(ReadError::LeftOut(Obstacle::Table, visible(alloc, name.as_bytes())?)),
+        Err(Error::SqlInputError(CompileError::NoSuchTable)) => Err(no_table(
+            alloc, left_out, name,
+        )?),
+        Err(Error::SqlInputError(CompileError::Unsupported)) => Err(ReadError::LeftOut(
+            Obstacle::Table,
+            visible(alloc, name.as_bytes())?,
+        )),
         Err(error) => Err(ReadError::Query(error)),
     }
 }

@@ -1,4 +1,5 @@
 //! Shows a database of SQLite.
+ghost use Rattle.std.specs.Prelude.{◌||◌, ◌≡◌, is_some};
 
 use crate::error::ViewError;
 use crate::input::show_rows;
@@ -36,7 +37,9 @@ fn show_image<W: Write>(
 }
 
 /// Whether the input says what is shown of a database.
-fn has_query(input: &Input<'_>) -> bool {
+fn has_query(input: &Input<'_>) -> bool
+    ensures { result ≡ (is_some input.now.query || is_some input.now.table) }
+{
     input.query.is_some() || input.table.is_some()
 }
 
@@ -83,8 +86,9 @@ fn asked<S: Alter>(
 ) -> Result<Overview, ReadError> {
     match (input.query, input.table) {
         (Some(query), _) => Ok(Overview::Query(String::from_str(alloc, query)?)),
-        (None, Some(table)) =>
-            Ok(Overview::Query(query_of_table(alloc, connection, left_out, table)?)),
+        (None, Some(table)) => Ok(Overview::Query(query_of_table(
+            alloc, connection, left_out, table,
+        )?)),
         (None, None) => overview_of(alloc, connection, left_out),
     }
 }

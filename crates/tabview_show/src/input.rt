@@ -1,4 +1,5 @@
 //! Reads an input by its format, and shows it.
+ghost use Rattle.std.specs.Prelude.{◌↔◌, ◌≡◌, None};
 
 use crate::asked::{
     csv_options, format_of, is_marked, json_options, rows_ahead, wanted, wants_head,
@@ -118,11 +119,14 @@ pub fn show_input<R: Read + Drop, W: Write>(
 }
 
 /// Returns the option that only databases have, if there is one.
-fn option_for_databases(input: &Input<'_>) -> Option<&'static str> {
-    if input.query.is_some() {
-        return Some("--query");
+fn option_for_databases(input: &Input<'_>) -> Option<&'static str>
+    ensures { (result ≡ None) ↔ ((input.now.query ≡ None) × (input.now.table ≡ None)) }
+{
+    match (input.query, input.table) {
+        (Some(_), _) => Some("--query"),
+        (None, Some(_)) => Some("--table"),
+        (None, None) => None,
     }
-    input.table.and(Some("--table"))
 }
 
 /// Reads the first bytes of an input, or of a stream those of its first line.
