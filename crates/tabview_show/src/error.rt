@@ -6,6 +6,13 @@ use tabled_base::TableError;
 use tabview_database::DatabaseError;
 use tabview_read::ReadError;
 
+/// An option for databases.
+#[derive(Clone, Copy, Debug, PartialEq, Eq)]
+pub enum DatabaseOption {
+    Query,
+    Table,
+}
+
 /// Why a table isn't shown, or not to its end.
 #[derive(Debug)]
 pub enum ViewError {
@@ -18,7 +25,7 @@ pub enum ViewError {
     /// A database was given at standard input.
     Database,
     /// There is an option for databases, but no database.
-    NoDatabase(&'static str),
+    NoDatabase(DatabaseOption),
 }
 
 /// Drops an error in one call, so that callers need no proof for each kind.
@@ -41,7 +48,12 @@ impl fmt::Display for ViewError {
             ViewError::Table(error) => write!(f, "{error}"),
             ViewError::Output(error) => write!(f, "the output can't be written: {error}"),
             ViewError::Database => f.write_str("a database of SQLite can only be read from a file"),
-            ViewError::NoDatabase(option) => write!(f, "{option} needs a database of SQLite"),
+            ViewError::NoDatabase(DatabaseOption::Query) => f.write_str(
+                "--query needs a database of SQLite",
+            ),
+            ViewError::NoDatabase(DatabaseOption::Table) => f.write_str(
+                "--table needs a database of SQLite",
+            ),
         }
     }
 }

@@ -5,7 +5,7 @@ use crate::asked::{
     csv_options, format_of, is_marked, json_options, rows_ahead, wanted, wants_head,
 };
 use crate::database::show_database_at;
-use crate::error::ViewError;
+use crate::error::{DatabaseOption, ViewError};
 use crate::hint::{HINT, Measured, wants_hint};
 use crate::layout::layout_of;
 use crate::progress::Progress;
@@ -119,12 +119,12 @@ pub fn show_input<R: Read + Drop, W: Write>(
 }
 
 /// Returns the option that only databases have, if there is one.
-fn option_for_databases(input: &Input<'_>) -> Option<&'static str>
+fn option_for_databases(input: &Input<'_>) -> Option<DatabaseOption>
     ensures { (result ≡ None) ↔ ((input.now.query ≡ None) × (input.now.table ≡ None)) }
 {
     match (input.query, input.table) {
-        (Some(_), _) => Some("--query"),
-        (None, Some(_)) => Some("--table"),
+        (Some(_), _) => Some(DatabaseOption::Query),
+        (None, Some(_)) => Some(DatabaseOption::Table),
         (None, None) => None,
     }
 }

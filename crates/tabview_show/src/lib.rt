@@ -24,5 +24,5 @@ mod ruled;
 mod view;
 
 pub use database::show_database;
-pub use error::ViewError;
+pub use error::{DatabaseOption, ViewError};
 pub use input::{show, show_input};
