@@ -502,7 +502,7 @@ fn tables_are_listed_and_chosen(rt: HostRuntime) -> Result<(), Fail> {
     check(
         queried(&rt, &[CITY, LAND], &words)?,
         "| table | columns            | rows |\n\
-         |-------|--------------------|------|\n\
+         |-------|--------------------|-----:|\n\
          | city  | name, people, mark |    2 |\n\
          | land  | name               |    0 |\n\
          | large | name               |    1 |\n",
@@ -523,7 +523,7 @@ fn numbers_of_a_database(rt: HostRuntime) -> Result<(), Fail> {
     check(
         queried(&rt, &[numbers], &["tabview", "-s", "markdown"])?,
         "|        x |\n\
-         |----------|\n\
+         |---------:|\n\
          |      3.0 |\n\
          | 1.0e+100 |\n\
          |  1.0e-07 |\n\

@@ -54,7 +54,8 @@ pub(crate) static READING: [Described; 8] = [
         letter: Some('q'),
         takes: Takes::Text,
         value: "SQL",
-        help: "Query of an SQLite file [default: its only table, or a list of its tables]",
+        help: "Query of an SQLite file{n}\
+            [default: its only table, or a list of them]",
         excludes: &[],
     },
     Described {
