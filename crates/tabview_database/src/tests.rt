@@ -56,7 +56,7 @@ fn reads_of(alloc: Global, changes: u64, has_journal: bool) -> (u64, &'static st
         looks: 0,
         reads: 0,
     };
-    let outcome = match read_settled(&mut files) {
+    let outcome = match &read_settled(&mut files) {
         Ok(_) => "read",
         Err(DatabaseError::Written) => "written",
         Err(DatabaseError::Unfinished) => "unfinished",
@@ -82,14 +82,14 @@ fn files_that_change_are_read_again(rt: HostRuntime) -> Result<(), Fail> {
 fn a_file_in_memory_is_written(rt: HostRuntime) -> Result<(), Fail> {
     let mut file = Held::new(Vec::from_slice(rt.alloc(), b"abc")?);
     file.write_at(4, b"de")?;
-    assert_eq!(rt; file.bytes(), b"abc\0de");
+    assert_eq!(rt; file.bytes(), b"abc\0de".as_slice());
     let mut two = [0; 2];
     file.read_at(3, &mut two)?;
     assert_eq!(rt; two, *b"\0d");
     assert!(rt; file.read_at(5, &mut two).is_err());
     file.set_len(2)?;
     assert_eq!(rt; file.len()?, 2);
-    assert_eq!(rt; file.bytes(), b"ab");
+    assert_eq!(rt; file.bytes(), b"ab".as_slice());
     Ok(())
 }
 
@@ -144,7 +144,7 @@ fn files_without_a_database(rt: HostRuntime) -> Result<(), Fail> {
                 assert!(rt; empty);
                 assert_eq!(rt; number(&mut database, "SELECT 42")?, 42);
             }
-            Err(error) => assert!(rt; !empty && matches!(error, DatabaseError::NotDatabase)),
+            Err(error) => assert!(rt; !empty && matches!(&error, DatabaseError::NotDatabase)),
         }
     }
     Ok(())
@@ -170,18 +170,20 @@ const VIRTUAL: &[u8] = b"\x06\x17\x0f\x0f\x08\x55tableffCREATE VIRTUAL TABLE f U
 const TRIGGER: &[u8] =
     b"\x06\x1b\x0f\x0f\x08\x79triggergtCREATE TRIGGER g AFTER INSERT ON t BEGIN SELECT 1; END";
 
-/// Adds rows to the schema of a database.
-fn listed(alloc: Global, files: Files<Held>, rows: &[&[u8]]) -> Result<Files<Held>, Fail> {
+/// Adds rows to the schema of a database, each with its number.
+fn listed(alloc: Global, files: Files<Held>, rows: &[(i64, &[u8])]) -> Result<Files<Held>, Fail> {
     let mut pool = match Pool::new(alloc, pager_over(alloc, files)?, false) {
         Ok(pool) => pool,
         Err(_) => return Err("out of memory".into()),
     };
     pool.recover(false)?;
     let mut scratch = Scratch::new(alloc);
-    let mut rowid = 10;
-    for row in rows {
-        rowid += 1;
-        table::insert(&mut pool, &mut scratch, 1, rowid, row)?;
+    for (rowid, row) in rows {
+        let row: &[u8] = row;
+        if row.len() > 1000 {
+            return Err("the row is too long".into());
+        }
+        table::insert(&mut pool, &mut scratch, 1, *rowid, row)?;
     }
     pool.commit()?;
     Ok(pool.close())
@@ -191,7 +193,7 @@ fn listed(alloc: Global, files: Files<Held>, rows: &[&[u8]]) -> Result<Files<Hel
 fn what_cannot_be_read_is_left_out(rt: HostRuntime) -> Result<(), Fail> {
     let alloc = rt.alloc();
     let files = made(alloc, "CREATE TABLE t (a); INSERT INTO t VALUES (42)")?;
-    let files = listed(alloc, files, &[VIRTUAL, TRIGGER])?;
+    let files = listed(alloc, files, &[(11, VIRTUAL), (12, TRIGGER)])?;
     let mut database = open(alloc, image_of(alloc, &files)?)?;
     assert_eq!(rt; number(&mut database, "SELECT a FROM t")?, 42);
     assert_eq!(rt;
