@@ -57,7 +57,7 @@ lines-split t (row ∷ rows) = refl
 -- a table with a column
 module _ (t : CompactSheet) (w : Window) (comes : List (List (List ℕ)) → Bool → Type 0) (old : Sent) (some : t.count ≡ 0 → ⊥)
     (rows : List (List (List ℕ))) (whole : Bool) (came : comes rows whole) where
-  -- the rows in the window are shown_rows, and those that it spans wanted
+  -- the rows in the window are shown, and those that it spans wanted
   all-shown : shown_rows t.count w rows ≡ in_window w rows
   all-shown = rw (has-columns t.count some) refl
 

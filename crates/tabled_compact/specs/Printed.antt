@@ -35,7 +35,7 @@ pub record IsPrinted (t : CompactSheet) (w : Window) (comes : List (List (List �
   pub printable : (shown_rows t.count w rows ≡ []) ⊎ IsPrintableCompact t
   pub sends : Sends old new (compact_text t (shown_rows t.count w rows))
 
--- an error before the first byte: the first row that is shown_rows was read, and the table can't be
+-- an error before the first byte: the first row that is shown was read, and the table can't be
 -- printed
 pub record FailsEarly (t : CompactSheet) (w : Window) (rows : List (List (List ℕ))) (old : Sent) (error : TableError) (new : Sent) : Type 0 where
   pub first : length rows ≡ w.skip + 1
@@ -75,7 +75,7 @@ pub record StopsPrinting (read : CompactRead) (old : Sent) (error : TableError) 
   pub stops : StopsInRow (λ some. rows_text read.sheet (shown_of read some)) read.rows old error new
       ⊎ StopsAtEnd read old error new
 
--- on `Err`: a row is shown_rows, and one of these holds
+-- on `Err`: a row is shown, and one of these holds
 pub record IsEnded (t : CompactSheet) (w : Window) (comes : List (List (List ℕ)) → Bool → Type 0) (old : Sent) (error : TableError) (new : Sent) : Type 0 where
   pub rows : List (List (List ℕ))
   pub whole : Bool
@@ -99,7 +99,7 @@ BuildsCompact t w comes old result new =
 -- ---- Of private steps: no public call promises this.
 
 -- the rows were read, all of them or as many as the window spans, and their lines were written; or
--- the sink failed in the last of them, which is shown_rows
+-- the sink failed in the last of them, which is shown
 pub record PutsRows {T : Type 0} (t : CompactSheet) (w : Window) (old : Sent) (result : Result T TableError)
     (new : Sent) (begun : Bool) (rows : List (List (List ℕ))) (whole : Bool) : Type 0 where
   pub taken : IfSome (spanned w.skip w.limit) (λ most. length rows ≤ most)

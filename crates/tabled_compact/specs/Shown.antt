@@ -1,4 +1,4 @@
--- Which rows of a source are shown_rows, and how many of them are read.
+-- Which rows of a source are shown, and how many of them are read.
 use Rattle.std.specs.Prelude.{◌≡◌, ◌==◌, ◌≤◌, ◌+◌, ◌-◌, ◌⊎◌, ℕ, zero, suc, Bool, false, true, if◌then◌else◌, List, [], ◌∷◌, drop, take}
 use Rattle.std.specs.Prelude.{length, map, Option, Some, None, IfSome}
 use Rattle.tabled_records.specs.Reading.{ReadsTo}
@@ -13,11 +13,11 @@ first_rows (Some limit) rows = take limit rows
 abbrev pub in_window : {A : Type 0} → Window → List A → List A
 in_window w rows = first_rows w.limit (drop w.skip rows)
 
--- the rows that are shown_rows: none if there is no column
+-- the rows that are shown: none if there is no column
 abbrev pub shown_rows : {A : Type 0} → ℕ → Window → List A → List A
 shown_rows columns w rows = if columns == 0 then [] else in_window w rows
 
--- no further row is shown_rows
+-- no further row is shown
 abbrev pub IsSpent : Window → Type 0
 IsSpent w = w.limit ≡ Some 0
 
@@ -26,7 +26,7 @@ abbrev pub has_rows : {A : Type 0} → List A → Bool
 has_rows [] = false
 has_rows (row ∷ rows) = true
 
--- how many rows a window spans, including those that are skipped; 0 if none may be shown_rows
+-- how many rows a window spans, including those that are skipped; 0 if none may be shown
 abbrev pub spanned : ℕ → Option ℕ → Option ℕ
 spanned skip None = None
 spanned skip (Some zero) = Some 0

@@ -1,4 +1,4 @@
--- What a table keeps and gains where it is overridden_sheet with a width and an alignment of its own.
+-- What a table keeps and gains where it is shown with a width and an alignment of its own.
 use Rattle.tabled_table.proofs.Names.{AlignmentHorizontal, AreAdditive, AreTexts, Bool, EachLineTakes, Err, Holds, IsAdditiveColumn}
 use Rattle.tabled_table.proofs.Names.{IsApartConfig, IsApartStyle, IsErrAnd, IsAdditiveConfig, IsAdditiveStyle, IsRectangular, IsSeparatorColumn}
 use Rattle.tabled_table.proofs.Names.{List, Memory, None, Ok, Option, Result, Sent, Sheet, Some, SpannedConfig, Table, TableError, ap}
@@ -178,7 +178,7 @@ prints_more b c t old new (Ok x) grown p = p
 prints_more b c t old new (Err e) grown p =
     (p.0, ⊎_elim (λ r. inl r) (λ h. ⊎_elim (λ m. inr (inl (grown m.0, m.1, m.2))) (λ s. inr (inr s)) h) p.1)
 
--- where nothing is to be changed, the table is overridden_sheet as it is
+-- where nothing is to be changed, the table is shown as it is
 shown_unchanged : (table : Table) (width : Option ℕ) (align : Option AlignmentHorizontal) (fill : ℕ)
     → (is_some align || nat_lt 0 (missing_columns table width)) ≡ false → overridden_sheet table width align fill ≡ sheet table
 shown_unchanged table width None fill e =

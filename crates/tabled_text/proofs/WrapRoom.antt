@@ -140,7 +140,7 @@ good-made = record {
   space = (and_from (is_additive 32) true plain_space.0 refl, (let e = plain_space.1 in omega (arith, sum_by-cons char_columns 32 [])));
 }
 
--- ---- a unit that is unit_or_filler stays in the line
+-- ---- a unit that is shown stays in the line
 shown-wide : (n used : ℕ) (p : TextUnit) (rest : List ℕ) → Good p → used + needed n p ≤ n
     → (stays n (min (used + p.width) n) rest ≡ true) → stays n used (unit_or_filler n used p ++ rest) ≡ true
 shown-wide n used p rest g fits s =

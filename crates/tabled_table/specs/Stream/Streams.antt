@@ -67,8 +67,8 @@ abbrev pub rows_ahead : StreamRead → List (List (List ℕ))
 rows_ahead stream = sniffed stream.settings stream.rows
 
 -- the number of columns of a stream
-abbrev pub columns_of : StreamRead → ℕ
-columns_of stream = column_count stream.settings (rows_ahead stream)
+abbrev pub stream_columns : StreamRead → ℕ
+stream_columns stream = column_count stream.settings (rows_ahead stream)
 
 -- the sheet of the first rows that are shown; `rest` are those after them
 pub record IsBegun (stream : StreamRead) (shown rest : List (List (List ℕ))) (t : Sheet) : Type 0 where
@@ -76,7 +76,7 @@ pub record IsBegun (stream : StreamRead) (shown rest : List (List (List ℕ))) (
   pub parts : limited stream.settings.rows stream.rows ≡ shown ++ rest
   pub streamed : IsStreamed stream.settings stream.config (rows_ahead stream) shown t
   pub heights : (index : ℕ) → index < length shown → slice_index t.heights index < 2 ^ 64
-  pub columns : 0 < columns_of stream
+  pub columns : 0 < stream_columns stream
   pub width : stream_total stream.settings stream.config (rows_ahead stream) < 2 ^ 64
 
 -- the first of the following rows is too tall: its height exceeds the greatest `usize`
@@ -94,7 +94,7 @@ pub record StopsAtRow (stream : StreamRead) (old : Sent) (error : TableError) (n
   pub taken : length stream.rows ≤ max (ahead stream.settings) (length shown + 1)
   pub cause : ((error ≡ Range) × IsTooHighFirst stream.settings stream.config (rows_ahead stream) (length shown) rest)
       ⊎ ((error ≡ Memory) × (0 < length rest))
-  pub sends : Sends old new (text_above sheet (columns_of stream) (length shown))
+  pub sends : Sends old new (text_above sheet (stream_columns stream) (length shown))
 
 -- the sink failed in the top margin, or in the last of some rows or its horizontal line; the lines
 -- above that row are written; no row after it was read, except those that are read ahead and the
@@ -105,14 +105,14 @@ pub record StopsInRows (stream : StreamRead) (old : Sent) (error : TableError) (
   pub sheet : Sheet
   pub begun : IsBegun stream shown rest sheet
   pub taken : length stream.rows ≤ max (ahead stream.settings) (max 1 (length shown))
-  pub stops : StopsBelow (text_before sheet (columns_of stream) (length shown)) old error new (text_above sheet (columns_of stream) (length shown))
+  pub stops : StopsBelow (text_before sheet (stream_columns stream) (length shown)) old error new (text_above sheet (stream_columns stream) (length shown))
 
 -- the sink failed below the last row
 pub record StopsAtEnd (stream : StreamRead) (old : Sent) (error : TableError) (new : Sent) : Type 0 where
   pub enough : AreEnough stream.settings stream.rows stream.whole
   pub sheet : Sheet
   pub streamed : IsWholeStream stream.settings stream.config stream.rows sheet
-  pub stops : StopsBelow (text_above sheet (columns_of stream) (length (limited stream.settings.rows stream.rows))) old error new (table_text sheet)
+  pub stops : StopsBelow (text_above sheet (stream_columns stream) (length (limited stream.settings.rows stream.rows))) old error new (table_text sheet)
 
 -- an error before the first byte: the total width is out of range, or an allocation failed, which
 -- happens only if a row was read
