@@ -4,7 +4,8 @@ use Rattle.tabled.proofs.Names.{HasFewestBreaks, HasLeastGreatestWidth, HasLonge
 use Rattle.tabled.proofs.Names.{IsFilledIn, IsLeastBy, IsReadyOf, IsNarrowedTo, IsOutOfRange, IsPlannedOf, IsRectangular, List, MatchBool}
 use Rattle.tabled.proofs.Names.{MatchBool-at_false, MatchBool-at_true, Narrows, None, Option, Order, OrderShrinks, Plan, Row, Sheet}
 use Rattle.tabled.proofs.Names.{Shortened, Shrinks, Some, SpannedConfig, StaysWithin-none, TruncatesAsPromised, Wrapped, WrapsAsPromised}
-use Rattle.tabled.proofs.Names.{[], ap, arith, cases_Bool, columns, cond, effective, effective_estimated, effective_sizes, estimated}
+use Rattle.tabled.proofs.Names.{[], ap, arith, cases_Bool, columns, cond, content_width, effective, effective_estimated}
+use Rattle.tabled.proofs.Names.{effective_sizes, estimated}
 use Rattle.tabled.proofs.Names.{estimated_heights, estimated_widths, false, filled_width, for_content_size, heights_length, heights_of}
 use Rattle.tabled.proofs.Names.{if_wider, inl, is_empty, le-leb, length, nat_le, passes_too_high, passes_too_wide, refl, picture_lines}
 use Rattle.tabled.proofs.Names.{subst, sym, take, text_columns, total_width, true, truncating, unwrap_or, widths_length, widths_of}
@@ -13,7 +14,8 @@ use Rattle.std.proofs.Math.Seq.{take-length}
 use Rattle.tabled_base.specs.declared.position.Entity.{Entity}
 use Rattle.tabled_set.specs.Minimums.{emptied, minimums}
 use Rattle.tabled_set.specs.Narrowed.{IsNarrowed, NarrowingOutOfRange}
-use Rattle.tabled_set.specs.Priorities.{TakesFrom, TakesGreatest}
+use Rattle.tabled_set.specs.Priorities.{TakesFrom, TakesGreatest, shrinking_to}
+use Rattle.tabled_set.specs.SizedTable.{sized_table}
 use Rattle.tabled_set.proofs.Emptied.{emptied-cell, emptied-columns, emptied-rows, minimums-length}
 use Rattle.tabled_set.proofs.ExactTotals.{new_widths}
 use Rattle.tabled_size.specs.Entries.{clears_heights, clears_widths, unless_cleared}
@@ -55,7 +57,8 @@ filled_stands false xs count e = whole_list xs count e
 -- ---- what an option leaves
 module _ (s : OrderPriority) (begins : s.round.kept ≡ 0) (change : ℕ → List ℕ → List ℕ → Type 0) (n : ℕ)
     (cells new : Cells) (config : SpannedConfig) (none left last : CompleteDimension) (hint : Option Entity) (no_widths : widths_of none ≡ None) (no_heights : heights_of none ≡ None)
-    (hinted : clears_widths hint ≡ false) (narrows : Narrows Shrinks s change n cells config none new left) (cleared : AreCleared hint left last) where
+    (hinted : clears_widths hint ≡ false) (narrows : Narrows (shrinking_to Shrinks s n) change (sized_table cells config none) new left)
+    (cleared : AreCleared hint left last) where
   before_is : effective cells config none ≡ estimated cells config
   before_is = effective_estimated cells config none no_widths no_heights
 
@@ -84,7 +87,7 @@ module _ (s : OrderPriority) (begins : s.round.kept ≡ 0) (change : ℕ → Lis
       ap (λ c. effective c config last) e
       ∙ ap (λ w. sized_by cells config w (effective_sizes (heights_of last) high (length cells))) widths ∙ ap (λ h. sized_by cells config wide h) heights
 
-  narrowed_to : IsNarrowed Shrinks s change n (effective cells config none) new left
+  narrowed_to : IsNarrowed (shrinking_to Shrinks s n) change (effective cells config none) new left
       → IsNarrowedTo (OrderShrinks s.order) change n (estimated cells config) (effective new config last)
   narrowed_to h =
       let t = effective cells config none in
@@ -102,7 +105,9 @@ module _ (s : OrderPriority) (begins : s.round.kept ≡ 0) (change : ℕ → Lis
       record {
         config = refl;
         widths = in_order s begins h.shrunk.last _ mins by _ (subst (λ w. Shrinks s (estimated cells config).widths mins by w h.shrunk.last) (sym stored) shrunk);
-        cells = subst (λ w. AreChanged (λ row column. true) (for_content_size change (estimated cells config) w) cells new) (sym stored) h.changed;
+        cells =
+            subst (λ w. AreChanged (λ row column. true) (for_content_size change (content_width (estimated cells config) w)) cells new)
+            (sym stored) h.changed;
         heights = ap (λ o. effective_sizes o (estimated_heights new config) (length new))
             (cleared.heights ∙ ap (unless_cleared (clears_heights hint)) h.cleared ∙ cleared_none (clears_heights hint));
       }
@@ -117,7 +122,7 @@ module _ (s : OrderPriority) (begins : s.round.kept ≡ 0) (change : ℕ → Lis
   Filled = (new ≡ cells) × IsFilledIn none cells config left
 
   abbrev Narrowed : Type 0
-  Narrowed = IsNarrowed Shrinks s change n (effective cells config none) new left
+  Narrowed = IsNarrowed (shrinking_to Shrinks s n) change (effective cells config none) new left
 
   empty_fits : is_empty cells ≡ true → MatchBool (nat_le (total_width (estimated cells config)) n) Same Smaller
   empty_fits e =
@@ -215,7 +220,8 @@ module _ (s : OrderPriority) (begins : s.round.kept ≡ 0) (n : ℕ) (cells new 
     holds = fitted_holds (OrderShrinks s.order) change n cells config t fits exact;
   }
 
-  pub wrapped : (words : Bool) → Narrows Shrinks s (wrapping words) n cells config none new left → AreCleared (Some (Row 0)) left last
+  pub wrapped : (words : Bool) → Narrows (shrinking_to Shrinks s n) (wrapping words) (sized_table cells config none) new left
+      → AreCleared (Some (Row 0)) left last
       → WrapsAsPromised Shrinks s words n (effective cells config none) t → IsReadyOf (Wrapped n words s.order) whole t
   wrapped words narrows cleared promise =
       let change = wrapping words in
@@ -226,7 +232,8 @@ module _ (s : OrderPriority) (begins : s.round.kept ≡ 0) (n : ℕ) (cells new 
       (λ h. least_by s.order s refl whole t (λ greatest. p.least greatest (whole_wider n cells config h)))
       (λ h. p.best (takes_all s) (whole_wider n cells config h)) tt tt
 
-  pub truncated : Narrows Shrinks s (if_wider (truncating [] Cut false)) n cells config none new left → AreCleared None left last
+  pub truncated : Narrows (shrinking_to Shrinks s n) (if_wider (truncating [] Cut false)) (sized_table cells config none) new left
+      → AreCleared None left last
       → TruncatesAsPromised Shrinks s [] Cut false n (effective cells config none) t → IsReadyOf (Shortened n s.order) whole t
   truncated narrows cleared promise =
       let change = if_wider (truncating [] Cut false) in

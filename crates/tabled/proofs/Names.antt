@@ -45,9 +45,9 @@ pub use Rattle.tabled_records.specs.TextRows.{tab_separated, most_cells, row_lin
 unfoldable pub use Rattle.tabled_records.specs.TextRows.{text_rows}
 pub use Rattle.tabled_set.proofs.ExactTotals.{changed_empty}
 pub use Rattle.tabled_set.specs.BestNarrowing.{inner_width}
-pub use Rattle.tabled_set.specs.CellChanges.{AreChanged, if_wider, truncating, wrapping}
+pub use Rattle.tabled_set.specs.CellChanges.{AreChanged, for_content_size, if_wider, truncating, wrapping}
 pub use Rattle.tabled_set.specs.ExactTotal.{HasExactTotal}
-pub use Rattle.tabled_set.specs.Narrowed.{Narrows, for_content_size}
+pub use Rattle.tabled_set.specs.Narrowed.{Narrows, content_width}
 pub use Rattle.tabled_set.specs.Promised.{TruncatesAsPromised, WrapsAsPromised}
 pub use Rattle.tabled_set.specs.declared.truncate.SuffixLimit.TheVariants.{Cut}
 pub use Rattle.tabled_size.proofs.Totalling.{heights_length, widths_length}

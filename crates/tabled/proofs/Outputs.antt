@@ -4,7 +4,8 @@ use Rattle.tabled.proofs.Names.{FitsInto, Halts, IfSome, IsBegunOn, IsBestPlanne
 use Rattle.tabled.proofs.Names.{IsPlanned, IsRectangular, IsRendered, IsUtf8, List, MatchBool-at_false, MatchBool-at_true, MatchResult}
 use Rattle.tabled.proofs.Names.{Memory, Ok, Option, OrderShrinks, Plan, PutsOutput, Range, Result, Sent, Sheet, Shortened, SpellsPlan}
 use Rattle.tabled.proofs.Names.{Streamed, TableError, Wrapped, Writer, Writes, [], ap, append_assoc, Table, arith, block_sent, cases_Bool}
-use Rattle.tabled.proofs.Names.{tab_separated, changed_empty, cond, false, for_content_size, if_wider, inl, inner_width, inr, is_empty, length}
+use Rattle.tabled.proofs.Names.{tab_separated, changed_empty, cond, content_width, false, for_content_size}
+use Rattle.tabled.proofs.Names.{if_wider, inl, inner_width, inr, is_empty, length}
 use Rattle.tabled.proofs.Names.{lengthened, lines_of, map, most_cells, nat_le, nat_tests, new_config, new_sheet, picture, refl, row_lines}
 use Rattle.tabled.proofs.Names.{sent_since, picture_lines, subst, sym, table_text, text_rows, total_width, true, truncating, with_feed}
 use Rattle.tabled.proofs.Names.{without_last_feed, wrapping, ℕ, ⊎_elim, ◌++◌, ◌<◌, ◌==◌, ◌∙◌, ◌∷◌, ◌≡◌, ◌≤◌, ◌⊎◌}
@@ -85,7 +86,7 @@ rows_fitted shrinks change n cells t h =
     ⊎_elim (λ y. rows_new cells t (MatchBool-at_true (t ≡ old) small y h))
     (λ no.
     let s : small = MatchBool-at_false (t ≡ old) small no h in
-    rows_changed (for_content_size change old t.widths) cells t s.cells s.config)
+    rows_changed (for_content_size change (content_width old t.widths)) cells t s.cells s.config)
     (cases_Bool (nat_le (total_width old) n))
 
 planned_rows : (plan : Plan) (cells : Cells) (t : Sheet) → IsPlanned plan cells t → HasRows cells t

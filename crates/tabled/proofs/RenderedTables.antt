@@ -3,7 +3,8 @@ use Rattle.tabled.proofs.Names.{AreChanged, AreTexts, Bool, BreaksOff, Buffered,
 use Rattle.tabled.proofs.Names.{IsBestOf, IsBestPlanned, IsCause, IsErrAnd, IsInside, IsReadyOf, IsNarrowedTo, IsPlanned, IsPlannedOf}
 use Rattle.tabled.proofs.Names.{IsRectangular, IsRendered, IsRenderedOf, List, MatchBool-at_false, MatchBool-at_true, Memory, Narrow, Ok}
 use Rattle.tabled.proofs.Names.{Plan, Prints, Range, Result, Sent, Sheet, ShortHeights, ShortWidths, SpannedConfig, StaysWithin-none}
-use Rattle.tabled.proofs.Names.{TableError, Writer, [], ap, arith, cases_Bool, changed_empty, columns, estimated, false, for_content_size}
+use Rattle.tabled.proofs.Names.{TableError, Writer, [], ap, arith, cases_Bool, changed_empty, columns, content_width, estimated, false}
+use Rattle.tabled.proofs.Names.{for_content_size}
 use Rattle.tabled.proofs.Names.{holds_estimated, inl, inr, is_empty, length, nat_le, new_sheet, picture, refl, picture_lines, apart_columns}
 use Rattle.tabled.proofs.Names.{sized_estimated, subst, sym, total_width, true, ℕ, ⊎_elim, ◌<◌, ◌==◌, ◌∙◌, ◌≡◌, ◌⊎◌}
 use Rattle.std.specs.Prelude.{IfErr}
@@ -58,7 +59,8 @@ module _ (shrinks : List ℕ → List ℕ → ℕ → List ℕ → Type 0) (chan
   pub fitted_empty : is_empty t.cells ≡ is_empty cells
   fitted_empty =
       either (λ (u : Sheet). is_empty u.cells ≡ is_empty cells) refl
-      (λ s e. changed_empty (λ row column. true) (for_content_size change (estimated cells config) t.widths) cells t.cells s.cells)
+      (λ s e. changed_empty (λ row column. true) (for_content_size change (content_width (estimated cells config) t.widths))
+      cells t.cells s.cells)
 
   -- each line takes the total width, where texts are kept apart
   pub fitted_lines : IsRectangular cells → AreTexts cells → KeepsApart config → EachLineTakes (total_width t) (picture t)

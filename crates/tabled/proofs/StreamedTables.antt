@@ -9,7 +9,7 @@ use Rattle.tabled.proofs.Names.{◌≤◌}
 use Rattle.std.proofs.Common.{All, Bor, option_map}
 use Rattle.std.proofs.lemmas.List.{ext_get_or}
 use Rattle.tabled_priority.specs.Permitted.{at}
-use Rattle.tabled_set.specs.CellChanges.{leaves}
+use Rattle.tabled_set.specs.CellChanges.{for_content_size, if_taken}
 use Rattle.tabled_set.specs.Minimums.{side_padding}
 use Rattle.tabled_set.specs.declared.resize.CellFilter.TheVariants.{Every}
 use Rattle.tabled_set.proofs.ChangingCells.{AreChanged-as, IsInside-before, at-chosen, columns-changed}
@@ -26,7 +26,7 @@ use Rattle.tabled.proofs.RenderedTables.{changed_rectangular, no_place}
 
 -- a text that is truncated without a suffix is cut
 pub cut-changed : (widths : List ℕ) (config : SpannedConfig) {old new : Cells}
-    → AreChanged (covers Global) (leaves Every (truncating [] Cut false)
+    → AreChanged (covers Global) (for_content_size (if_taken Every (truncating [] Cut false))
     (λ row column. Some (at widths column - side_padding config row column))) old new
     → AreChanged (λ row column. true) (cut_to widths config) old new
 cut-changed widths config {old} {new} h =

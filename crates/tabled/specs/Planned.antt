@@ -1,11 +1,11 @@
 -- The table that a plan makes of the cells of a text.
 use Rattle.std.specs.Prelude.{◌≡◌, ℕ, ◌-◌, true, false, List, [], MatchBool, nat_le}
-use Rattle.tabled_set.specs.CellChanges.{AreChanged, if_wider, truncating, wrapping}
+use Rattle.tabled_set.specs.CellChanges.{AreChanged, for_content_size, if_wider, truncating, wrapping}
 use Rattle.tabled_set.specs.declared.truncate.SuffixLimit.TheVariants.{Cut}
 use Rattle.tabled_config.specs.declared.spanned.SpannedConfig.{SpannedConfig}
 use Rattle.tabled_priority.specs.Permitted.{at}
 use Rattle.tabled_set.specs.Minimums.{minimums, side_padding}
-use Rattle.tabled_set.specs.Narrowed.{for_content_size}
+use Rattle.tabled_set.specs.Narrowed.{content_width}
 use Rattle.tabled_size.specs.Estimates.{estimated_heights}
 use Rattle.tabled_size.specs.Sheet.{Sheet}
 use Rattle.tabled_size.specs.Totals.{total_width}
@@ -30,7 +30,7 @@ OrderShrinks order old mins by new =
 pub record IsNarrowedTo (shrinks : List ℕ → List ℕ → ℕ → List ℕ → Type 0) (change : ℕ → List ℕ → List ℕ → Type 0) (n : ℕ) (old new : Sheet) : Type 0 where
   pub config : new.config ≡ old.config
   pub widths : shrinks old.widths (minimums old.cells old.config) (total_width old - n) new.widths
-  pub cells : AreChanged (λ row column. true) (for_content_size change old new.widths) old.cells new.cells
+  pub cells : AreChanged (λ row column. true) (for_content_size change (content_width old new.widths)) old.cells new.cells
   pub heights : new.heights ≡ estimated_heights new.cells new.config
 
 -- a table of at most n columns doesn't change

@@ -1,12 +1,12 @@
 -- Cells that are changed one after another.
 use Rattle.tabled_set.proofs.Names.{AreChanged, AreChangedBefore, Bool, ByColumn, ByRow, Err, IfErr, IsInside, List, MatchBool}
-use Rattle.tabled_set.proofs.Names.{MatchBool-at_true, Memory, Ok, Result, TableError, WalkOrder, [], ap, arith, cases_Bool, cell_at}
+use Rattle.tabled_set.proofs.Names.{MatchBool-at_true, Memory, Ok, Range, Result, TableError, WalkOrder, [], ap, arith, cases_Bool, cell_at}
 use Rattle.tabled_set.proofs.Names.{columns, covers, false, inr, length, nat_lt, on_line, precedes, refl, slice_index_or, subst, sym, true}
-use Rattle.tabled_set.proofs.Names.{ℕ, ⊎_elim, ◌&&◌, ◌+◌, ◌<◌, ◌==◌, ◌||◌, ◌∙◌, ◌∷◌, ◌≡◌, ◌≤◌}
+use Rattle.tabled_set.proofs.Names.{ℕ, ⊎_elim, ◌&&◌, ◌+◌, ◌<◌, ◌==◌, ◌||◌, ◌∙◌, ◌∷◌, ◌≡◌, ◌≤◌, ◌⊎◌}
 use Rattle.std.proofs.lemmas.Bool.{and_parts, eqb-true, MatchBool-at_false}
 use Rattle.tabled_set.specs.Common.{Cell}
 use Rattle.std.proofs.Common.{OnErr}
-use Rattle.tabled_set.specs.CellChanges.{StopsChanging, line_of, place_of, is_within, lines_in, places_in}
+use Rattle.tabled_set.specs.CellChanges.{line_of, place_of, is_within, lines_in, places_in}
 use Rattle.std.specs.declared.ops.Range.{Range as Band}
 
 pub match-true : {b : Bool} (P Q : Type 0) → b ≡ true → P → MatchBool b P Q
@@ -240,6 +240,7 @@ module _ (order : WalkOrder) (band : Band ℕ) {wants : ℕ → ℕ → List ℕ
 -- with `Memory` the cells before some cell are changed
 pub stops-before : {T : Type 0} (order : WalkOrder) (chosen : ℕ → ℕ → Bool) (needs : ℕ → ℕ → List ℕ → Type 0)
     (change : ℕ → ℕ → List ℕ → List ℕ → Type 0) (old new : List (List (List ℕ))) (r : Result T TableError) → OnErr r (AreChangedBefore order chosen needs change old new)
-    → IfErr r (λ e. e ≡ Memory) → IfErr r (λ e. StopsChanging order chosen needs change e old new)
+    → IfErr r (λ e. e ≡ Memory)
+    → IfErr r (λ e. ((e ≡ Range) × (new ≡ old)) ⊎ ((e ≡ Memory) × AreChangedBefore order chosen needs change old new))
 stops-before order chosen needs change old new (Ok x) h only = tt
 stops-before order chosen needs change old new (Err e) h only = inr (only, h)

@@ -28,8 +28,9 @@ use Rattle.tabled_set.specs.BestNarrowing.{HasLeastWidth, IsBestCut, inner_width
 use Rattle.tabled_set.specs.CellChanges.{word_wrapping, wrapping}
 use Rattle.tabled_set.specs.Promised.{IsWiderThan, TruncatesAsPromised, WordWrapsAsPromised, WrapsAsPromised}
 use Rattle.tabled_set.proofs.TruncatedTexts.{longest_lines, longest_truncated, StaysWithin-truncated, fits-if_wider}
-use Rattle.tabled_set.specs.Narrowed.{IsNarrowed}
-use Rattle.tabled_set.specs.Priorities.{TakesFrom, TakesGreatest}
+use Rattle.tabled_set.specs.Narrowed.{IsNarrowed, content_width}
+use Rattle.tabled_set.specs.Priorities.{TakesFrom, TakesGreatest, shrinking_to}
+use Rattle.tabled_set.specs.SizedTable.{sized_table}
 
 -- a text that is changed for a content size fits in it
 abbrev pub CharsFit : (ℕ → List ℕ → List ℕ → Type 0) → Type 0
@@ -66,7 +67,9 @@ full_wider t n wider = ⊎_elim
 -- ---- narrowed tables
 -- a table that is wider is narrowed
 pub IsNarrowed-wider : {P : Type 0} (shrinks : Shrinks P) (s : P) (change : ℕ → List ℕ → List ℕ → Type 0) (n : ℕ) (cells : List (List (List ℕ))) (config : SpannedConfig) (sizes : CompleteDimension)
-    (cells' : List (List (List ℕ))) (sizes' : CompleteDimension) → n < total_width (effective cells config sizes) → Narrows shrinks s change n cells config sizes cells' sizes' → IsNarrowed shrinks s change n (effective cells config sizes) cells' sizes'
+    (cells' : List (List (List ℕ))) (sizes' : CompleteDimension) → n < total_width (effective cells config sizes)
+    → Narrows (shrinking_to shrinks s n) change (sized_table cells config sizes) cells' sizes'
+    → IsNarrowed (shrinking_to shrinks s n) change (effective cells config sizes) cells' sizes'
 IsNarrowed-wider shrinks s change n cells config sizes cells' sizes' wider h =
     let t = effective cells config sizes in
     at-last (is_empty cells) (nat_le (total_width t) n) _ _ h (full_wider t n wider) (lt-leb (total_width t) n wider)
@@ -74,7 +77,8 @@ IsNarrowed-wider shrinks s change n cells config sizes cells' sizes' wider h =
 module _ {P : Type 0} (shrinks : Shrinks P) (s : P) (change : ℕ → List ℕ → List ℕ → Type 0) (n : ℕ)
     (cells : List (List (List ℕ))) (config : SpannedConfig) (sizes : CompleteDimension) (new : List (List (List ℕ))) (stored last : CompleteDimension)
     (takes : TakesFrom shrinks s) (estimates : (effective cells config sizes).widths ≡ estimated_widths cells config)
-    (h : IsNarrowed shrinks s change n (effective cells config sizes) new stored) (widths_stay : widths_of last ≡ widths_of stored) where
+    (h : IsNarrowed (shrinking_to shrinks s n) change (effective cells config sizes) new stored)
+    (widths_stay : widths_of last ≡ widths_of stored) where
   long : length (effective cells config sizes).widths ≡ columns cells
   long = ap length estimates ∙ widths_length cells config
 
@@ -190,7 +194,8 @@ module _ {P : Type 0} (shrinks : Shrinks P) (s : P) (change : ℕ → List ℕ �
     new_total : total_width (effective new config last) ≡ sum h.widths + frame_width config (columns cells)
     new_total =
         let t = effective new config last in
-        let empty = changed_empty (λ row column. true) (for_content_size change (effective cells config sizes) h.widths) cells new h.changed in
+        let each = for_content_size change (content_width (effective cells config sizes) h.widths) in
+        let empty = changed_empty (λ row column. true) each cells new h.changed in
         full_total t (empty ∙ full) (le_of_eq (ap length new_widths ∙ width_each ∙ sym new_columns))
         ∙ ap (λ ws. sum ws + frame_width config (columns new)) new_widths
         ∙ ap (λ k. sum h.widths + frame_width config k) new_columns
@@ -218,9 +223,11 @@ cleared_none false = refl
 
 module _ {P : Type 0} (shrinks : Shrinks P) (s : P) (change : ℕ → List ℕ → List ℕ → Type 0) (n : ℕ)
     (cells : List (List (List ℕ))) (config : SpannedConfig) (sizes : CompleteDimension) (new : List (List (List ℕ))) (stored last : CompleteDimension)
-    (hint : Option Entity) (hinted : clears_widths hint ≡ false) (narrows : Narrows shrinks s change n cells config sizes new stored) (cleared : AreCleared hint stored last)
+    (hint : Option Entity) (hinted : clears_widths hint ≡ false)
+    (narrows : Narrows (shrinking_to shrinks s n) change (sized_table cells config sizes) new stored)
+    (cleared : AreCleared hint stored last)
     (takes : TakesFrom shrinks s) (wide : IsWiderThan n (effective cells config sizes)) where
-  narrowed : IsNarrowed shrinks s change n (effective cells config sizes) new stored
+  narrowed : IsNarrowed (shrinking_to shrinks s n) change (effective cells config sizes) new stored
   narrowed = IsNarrowed-wider shrinks s change n cells config sizes new stored wide.wider narrows
 
   widths_stay : widths_of last ≡ widths_of stored
@@ -246,7 +253,8 @@ module _ {P : Type 0} (shrinks : Shrinks P) (s : P) (n : ℕ)
   takes_of : TakesGreatest shrinks s → TakesFrom shrinks s
   takes_of greatest end old mins list by h = let (right, shrunk) = greatest end old mins list by h in shrunk.takes
 
-  pub wraps : (words : Bool) → Narrows shrinks s (wrapping words) n cells config sizes new stored → AreCleared (Some (Row 0)) stored last
+  pub wraps : (words : Bool) → Narrows (shrinking_to shrinks s n) (wrapping words) (sized_table cells config sizes) new stored
+      → AreCleared (Some (Row 0)) stored last
       → WrapsAsPromised shrinks s words n (effective cells config sizes) (effective new config last)
   wraps words narrows cleared =
       let change = wrapping words in
@@ -266,7 +274,8 @@ module _ {P : Type 0} (shrinks : Shrinks P) (s : P) (n : ℕ)
             least_of shrinks s change n cells config sizes new stored last (Some (Row 0)) refl narrows cleared (takes_of greatest) wide greatest;
       }
 
-  pub word_wraps : Narrows shrinks s word_wrapping n cells config sizes new stored → AreCleared (Some (Row 0)) stored last
+  pub word_wraps : Narrows (shrinking_to shrinks s n) word_wrapping (sized_table cells config sizes) new stored
+      → AreCleared (Some (Row 0)) stored last
       → WordWrapsAsPromised shrinks s n (effective cells config sizes) (effective new config last)
   word_wraps narrows cleared =
       let change = word_wrapping in
@@ -287,7 +296,9 @@ module _ {P : Type 0} (shrinks : Shrinks P) (s : P) (n : ℕ)
       }
 
   module _ (suffix : List ℕ) (limit : SuffixLimit) (multiline : Bool)
-      (narrows : Narrows shrinks s (if_wider (truncating suffix limit multiline)) n cells config sizes new stored) (cleared : AreCleared None stored last) where
+      (narrows : Narrows (shrinking_to shrinks s n) (if_wider (truncating suffix limit multiline))
+      (sized_table cells config sizes) new stored)
+      (cleared : AreCleared None stored last) where
     -- a cell that was wider than its content size is truncated
     truncated_of : TakesFrom shrinks s → suffix ≡ [] → IsWiderThan n (effective cells config sizes) → (row column : ℕ) → IsInside cells row column
         → inner_width (effective new config last) row column < text_columns (cell_at cells row column)

@@ -15,7 +15,7 @@ pub use Rattle.std.specs.Cow.{cow_str_bytes}
 pub use Rattle.std.specs.List.{AllZip, join_with_byte, range_with_len}
 pub use Rattle.std.specs.Str.{IsUtf8}
 pub use Rattle.tabled_set.specs.CellChanges.{AreChanged, AreChangedBefore, ByColumn, ByRow, NeedNoMemory, WalkOrder, if_sized, if_wider}
-pub use Rattle.tabled_set.specs.CellChanges.{leaves, needs, on_line, precedes, truncating}
+pub use Rattle.tabled_set.specs.CellChanges.{for_content_size, if_taken, needs, on_line, precedes, truncating}
 pub use Rattle.tabled_set.specs.Common.{AreCleared, CompleteDimension, FitsIn, IsAdditive, IsFilledIn, IsInside, IsRectangular, IsSized}
 pub use Rattle.tabled_set.specs.Common.{IsTakenFrom, Memory, Range, Sheet, SpannedConfig, TableError, at, cell_at, columns, covers}
 pub use Rattle.tabled_set.specs.Common.{effective, effective_sizes, estimated, estimated_heights, estimated_widths, heights_of, is_empty}
@@ -25,7 +25,7 @@ pub use Rattle.tabled_set.specs.Extremes.{picked}
 pub use Rattle.tabled_set.specs.HeightFrame.{frame_height}
 pub use Rattle.tabled_set.specs.Increased.{IsGrownBy}
 pub use Rattle.tabled_set.specs.Minimums.{emptied, minimums, side_columns, side_padding}
-pub use Rattle.tabled_set.specs.Narrowed.{NarrowingOutOfRange, Narrows, for_content_size, permitted_width}
+pub use Rattle.tabled_set.specs.Narrowed.{NarrowingOutOfRange, Narrows, permitted_width}
 pub use Rattle.tabled_set.specs.Priorities.{Shrinks}
 pub use Rattle.tabled_set.specs.TextLines.{filled_line}
 pub use Rattle.tabled_set.specs.Truncated.{HasEndedLines, IsAdditiveLimit, IsCutAt, IsEnded, IsTruncated, SuffixLimit, suffix_columns}

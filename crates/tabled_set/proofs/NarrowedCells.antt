@@ -5,6 +5,8 @@ use Rattle.tabled_set.proofs.Names.{nat_lt, nat_tests, side_padding}
 use Rattle.tabled_set.specs.CellChanges.{wrapping}
 use Rattle.tabled_set.specs.Common.{IsCut}
 use Rattle.tabled_set.specs.Narrowed.{AreShrunk, column_width, content_of, less_padding}
+use Rattle.tabled_set.specs.Priorities.{shrinking_to}
+use Rattle.tabled_set.specs.SizedTable.{sized_table}
 use Rattle.tabled_set.specs.declared.narrowing.ColumnWidths.{ColumnWidths}
 use Rattle.tabled_set.proofs.Names.{refl, slice_index_or, subst, sym, take, text_columns, true, truncating, ℕ, ⊎_elim, ◌<◌, ◌∙◌, ◌≡◌, ◌≤◌}
 use Rattle.std.proofs.Common.{drop, is_some, ◌-◌}
@@ -99,8 +101,8 @@ unpadded found row column h =
 
 pub shrunk-unpadded : {P : Type 0} (shrinks : Shrinks P) (priority : P) (n : ℕ) (cells : List (List (List ℕ))) (config : SpannedConfig)
     (old new : CompleteDimension) (found : ColumnWidths) → is_some (shared found.config.now.padding) ≡ true
-    → AreShrunk shrinks priority n cells config old (content_of found) new
-    → AreShrunk shrinks priority n cells config old (column_width found.content.items) new
+    → AreShrunk (shrinking_to shrinks priority n) (sized_table cells config old) (content_of found) new
+    → AreShrunk (shrinking_to shrinks priority n) (sized_table cells config old) (column_width found.content.items) new
 shrunk-unpadded shrinks priority n cells config old new found padded h = record {
   some = h.some;
   wider = h.wider;

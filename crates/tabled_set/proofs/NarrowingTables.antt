@@ -10,11 +10,13 @@ use Rattle.tabled_set.proofs.Names.{◌&&◌, ◌+◌, ◌-◌, ◌<◌, ◌^◌
 use Rattle.std.proofs.Common.{IsOk, IsTrue, unwrap_or, is_some, IfNone, OnErr, IfSome}
 use Rattle.std.proofs.lemmas.List.{get_or-take}
 use Rattle.tabled_set.specs.Common.{FitsMinimums, IsTooWide}
-use Rattle.tabled_set.specs.CellChanges.{NeedsMemoryIn, if_taken, CellFilter}
+use Rattle.tabled_set.specs.CellChanges.{NeedsMemoryIn, needs, if_taken, CellFilter}
 use Rattle.tabled_set.specs.Increased.{StopsFilling}
+use Rattle.tabled_set.specs.Priorities.{Shrinking, shrinking_to}
+use Rattle.tabled_set.specs.SizedTable.{SizedTable, sized_table}
 use Rattle.tabled_set.specs.declared.narrowing.ColumnWidths.{ColumnWidths}
 use Rattle.tabled_set.specs.Narrowed.{AreShrunk, content_of, FitsAlready, HasWidths, StopsBeforeNarrowing, StopsNarrowing, WiderOutOfRange, is_permitted}
-use Rattle.tabled_set.specs.Narrowed.{needs_for_content_size, IsFound, MustNarrow, content_width, less_padding}
+use Rattle.tabled_set.specs.Narrowed.{IsFound, MustNarrow, content_width, less_padding}
 use Rattle.tabled_config.specs.Settings.{style_at}
 use Rattle.tabled_entity.specs.Changes.{shared}
 use Rattle.tabled_config.specs.declared.sides.Indent.{Indent}
@@ -35,14 +37,17 @@ permitted-content_size t widths mins column e = ⊎_elim
 
 -- cells that are changed for these content sizes are changed for those of their columns
 module _ (t : Sheet) (widths : List ℕ) {sizes : ℕ → ℕ → Option ℕ} (sized : (row column : ℕ) → sizes row column ≡ content_width t widths row column) where
-  sized-made : (change : ℕ → List ℕ → List ℕ → Type 0) {chosen : ℕ → ℕ → Bool} {old new : List (List (List ℕ))} → AreChanged chosen (λ row column. if_sized change (sizes row column)) old new → AreChanged chosen (for_content_size change t widths) old new
+  sized-made : (change : ℕ → List ℕ → List ℕ → Type 0) {chosen : ℕ → ℕ → Bool} {old new : List (List (List ℕ))}
+      → AreChanged chosen (for_content_size change sizes) old new
+      → AreChanged chosen (for_content_size change (content_width t widths)) old new
   sized-made change {chosen} {old} {new} h =
       AreChanged-as h (λ r c inside taken made. subst (λ (o : Option ℕ). if_sized change o (cell_at old r c) (cell_at new r c)) (sized r c) made)
 
   -- so where the changes stopped
   sized-before : (cell_filter : CellFilter) (in_place : ℕ → List ℕ → Type 0) (makes : ℕ → List ℕ → List ℕ → Type 0) {order : WalkOrder} {chosen : ℕ → ℕ → Bool} {old new : List (List (List ℕ))}
-      → AreChangedBefore order chosen (λ row column. NeedsMemoryIn cell_filter in_place (sizes row column)) (λ row column. if_sized (if_taken cell_filter makes) (sizes row column)) old new
-      → AreChangedBefore order chosen (needs_for_content_size cell_filter in_place t widths) (for_content_size (if_taken cell_filter makes) t widths) old new
+      → AreChangedBefore order chosen (needs cell_filter in_place sizes) (for_content_size (if_taken cell_filter makes) sizes) old new
+      → AreChangedBefore order chosen (needs cell_filter in_place (content_width t widths))
+      (for_content_size (if_taken cell_filter makes) (content_width t widths)) old new
   sized-before cell_filter in_place makes {order} {chosen} {old} {new} h = record {
     row = h.row;
     column = h.column;
@@ -128,17 +133,23 @@ minimums-fit cells config sizes widths mins w m =
 -- ---- what narrowing leaves
 
 module _ {P : Type 0} (shrinks : Shrinks P) (priority : P) (n : ℕ) (cells : List (List (List ℕ))) (config : SpannedConfig) (old : CompleteDimension) where
-  found-old : (mid : CompleteDimension) (found : ColumnWidths) → HasWidths shrinks priority n cells config old mid found
-      → IsFound shrinks priority n (effective cells config old) found
-  found-old mid found h = subst (λ t. IsFound shrinks priority n t found) (effective-filled cells config old mid h.filled) h.found
+  abbrev how : Shrinking P
+  how = shrinking_to shrinks priority n
 
-  pub must-narrow : (mid : CompleteDimension) (found : ColumnWidths) → HasWidths shrinks priority n cells config old mid found
+  abbrev table : SizedTable
+  table = sized_table cells config old
+
+  found-old : (mid : CompleteDimension) (found : ColumnWidths) → HasWidths how table mid found
+      → IsFound how (effective cells config old) found
+  found-old mid found h = subst (λ t. IsFound how t found) (effective-filled cells config old mid h.filled) h.found
+
+  pub must-narrow : (mid : CompleteDimension) (found : ColumnWidths) → HasWidths how table mid found
       → MustNarrow n cells config old
   must-narrow mid found h = record { some = h.some; wider = (found-old mid found h).wider }
 
   -- the widths that were found are stored
-  pub are-shrunk : (mid new : CompleteDimension) (found : ColumnWidths) → HasWidths shrinks priority n cells config old mid found
-      → widths_of new ≡ Some found.widths.items → heights_of new ≡ None → AreShrunk shrinks priority n cells config old (content_of found) new
+  pub are-shrunk : (mid new : CompleteDimension) (found : ColumnWidths) → HasWidths how table mid found
+      → widths_of new ≡ Some found.widths.items → heights_of new ≡ None → AreShrunk how table (content_of found) new
   are-shrunk mid new found h stored cleared =
       let is = found-old mid found h in
       record {
@@ -153,8 +164,8 @@ module _ {P : Type 0} (shrinks : Shrinks P) (priority : P) (n : ℕ) (cells : Li
 
   -- and the cells are changed for their content widths
   pub narrows-shrunk : (change : ℕ → List ℕ → List ℕ → Type 0) (cells' : List (List (List ℕ))) (content : ℕ → ℕ → Option ℕ) (new : CompleteDimension)
-      → AreShrunk shrinks priority n cells config old content new → AreChanged (λ r c. true) (λ row column. if_sized change (content row column)) cells cells'
-      → Narrows shrinks priority change n cells config old cells' new
+      → AreShrunk how table content new → AreChanged (λ r c. true) (for_content_size change content) cells cells'
+      → Narrows how change table cells' new
   narrows-shrunk change cells' content new h changed =
       let t = effective cells config old in
       let above : nat_le (total_width t) n ≡ false = let lt : n < total_width t = h.wider in grind (arith, nat_tests) in
@@ -168,10 +179,10 @@ module _ {P : Type 0} (shrinks : Shrinks P) (priority : P) (n : ℕ) (cells : Li
 
   -- an allocation failed at a cell
   pub stops-some : (change : ℕ → List ℕ → List ℕ → Type 0) (cell_filter : CellFilter) (in_place : ℕ → List ℕ → Type 0) (cells' : List (List (List ℕ)))
-      (error : TableError) (mid : CompleteDimension) (found : ColumnWidths) → error ≡ Memory → HasWidths shrinks priority n cells config old mid found
-      → AreChangedBefore ByColumn (λ r c. true) (λ row column. NeedsMemoryIn cell_filter in_place (content_of found row column))
-      (λ row column. if_sized (if_taken cell_filter change) (content_of found row column)) cells cells'
-      → StopsNarrowing shrinks priority cell_filter in_place change n error cells config old cells' mid
+      (error : TableError) (mid : CompleteDimension) (found : ColumnWidths) → error ≡ Memory → HasWidths how table mid found
+      → AreChangedBefore ByColumn (λ r c. true) (needs cell_filter in_place (content_of found))
+      (for_content_size (if_taken cell_filter change) (content_of found)) cells cells'
+      → StopsNarrowing how (record { cell_filter = cell_filter; in_place = in_place; change = change }) error table cells' mid
   stops-some change cell_filter in_place cells' error mid found e h changed =
       let is = found-old mid found h in
       let before = sized-before (effective cells config old) found.widths.items is.sized cell_filter in_place change changed in
@@ -225,13 +236,13 @@ module _ (n k : ℕ) (cells : List (List (List ℕ))) (config : SpannedConfig) (
 
   -- those that are found
   pub has-widths : {P : Type 0} (shrinks : Shrinks P) (priority : P) (A : Type 0) (o : Option ColumnWidths)
-      → MatchOption o A (IsFound shrinks priority k (effective cells config mid))
-      → IfSome o (HasWidths shrinks priority n cells config old mid)
+      → MatchOption o A (IsFound (shrinking_to shrinks priority k) (effective cells config mid))
+      → IfSome o (HasWidths (shrinking_to shrinks priority n) (sized_table cells config old) mid)
   has-widths shrinks priority A None h = tt
   has-widths shrinks priority A (Some found) h = record {
     some = some;
     filled = filled;
-    found = subst (λ (m : ℕ). IsFound shrinks priority m (effective cells config mid) found) measured h;
+    found = subst (λ (m : ℕ). IsFound (shrinking_to shrinks priority m) (effective cells config mid) found) measured h;
   }
 
   -- an error of a table that is wider
@@ -245,14 +256,16 @@ module _ (n k : ℕ) (cells : List (List (List ℕ))) (config : SpannedConfig) (
 module _ {P : Type 0} (shrinks : Shrinks P) (priority : P) (change : ℕ → List ℕ → List ℕ → Type 0) (n : ℕ)
     (cells : List (List (List ℕ))) (config : SpannedConfig) (old mid : CompleteDimension) where
   -- a table that isn't wider is left so
-  pub narrows-fitting : FitsAlready n cells config old mid → Narrows shrinks priority change n cells config old cells mid
+  pub narrows-fitting : FitsAlready n cells config old mid → Narrows (shrinking_to shrinks priority n) change (sized_table cells config old) cells mid
   narrows-fitting h =
       match-map (is_empty cells) h (λ _ same. (refl, same))
       (λ _ left. match-true _ _ (le-leb (total_width (effective cells config old)) n left.0) (refl, left.1))
 
   -- an error before a cell has changed
   pub stops-early : (cell_filter : CellFilter) (in_place : ℕ → List ℕ → Type 0) (e : TableError) → StopsBeforeNarrowing n e cells config old mid
-      → (is_empty cells ≡ false) × StopsNarrowing shrinks priority cell_filter in_place change n e cells config old cells mid
+      → (is_empty cells ≡ false)
+      × StopsNarrowing (shrinking_to shrinks priority n) (record { cell_filter = cell_filter; in_place = in_place; change = change }) e
+      (sized_table cells config old) cells mid
   stops-early cell_filter in_place e h = (
     h.some,
     ⊎_elim (λ filling. inl (refl, filling)) (λ wide. inr (record { wider = wide.0; filled = wide.1; stopped = inl refl })) h.left,
@@ -260,7 +273,8 @@ module _ {P : Type 0} (shrinks : Shrinks P) (priority : P) (change : ℕ → Lis
 
 -- an error once the widths are found
 pub early-found : {P : Type 0} (shrinks : Shrinks P) (priority : P) (n : ℕ) (cells : List (List (List ℕ))) (config : SpannedConfig)
-    (old mid : CompleteDimension) (widths : ColumnWidths) (e : TableError) → HasWidths shrinks priority n cells config old mid widths
+    (old mid : CompleteDimension) (widths : ColumnWidths) (e : TableError)
+    → HasWidths (shrinking_to shrinks priority n) (sized_table cells config old) mid widths
     → StopsBeforeNarrowing n e cells config old mid
 early-found shrinks priority n cells config old mid widths e h =
     let wide = subst (λ t. n < total_width t) (effective-filled cells config old mid h.filled) h.found.wider in

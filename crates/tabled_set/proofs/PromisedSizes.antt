@@ -9,7 +9,8 @@ use Rattle.tabled_set.proofs.ChangingCells.{at-last, match-both, match-false, ma
 use Rattle.tabled_set.specs.Increased.{IncreasesWidth, IsWidened, IncreasesHeight, IsHeightened}
 use Rattle.tabled_set.proofs.NarrowingTables.{effective-filled, filled-size, effective-same}
 use Rattle.tabled_set.proofs.Totals.{short-widths, filled_height-frame, grown-sum, shrunk-total, some-lines, full_total}
-use Rattle.tabled_set.specs.Priorities.{Grows, AddsTo}
+use Rattle.tabled_set.specs.Priorities.{Grows, AddsTo, shrinking_to}
+use Rattle.tabled_set.specs.SizedTable.{sized_table}
 use Rattle.std.proofs.lemmas.List.{take_all}
 use Rattle.tabled_set.specs.Narrowed.{IsShrunkBy, IsLowered, LimitsHeight, for_height}
 use Rattle.tabled_set.proofs.ExactTotals.{changed_empty}
@@ -39,17 +40,20 @@ widths-fit cells config sizes n some lt fits =
 
 module _ (cells : List (List (List ℕ))) (config : SpannedConfig) (old mid : CompleteDimension) (some : is_empty cells ≡ false)
     (filled : IsFilledIn old cells config mid) {P : Type 0} (grows : Grows P) (priority : P) (n : ℕ) where
-  pub wide-already : n ≤ total_width (effective cells config mid) → IncreasesWidth grows priority n cells config old mid
+  pub wide-already : n ≤ total_width (effective cells config mid)
+      → IncreasesWidth grows priority n cells config old mid
   wide-already le =
       let t = effective cells config old in
       let e = ap total_width (effective-filled cells config old mid filled) in
       let within : nat_le n (total_width t) ≡ true = le-leb n (total_width t) (omega (arith, le, e)) in
       match-false (mid ≡ old) _ some
-      (match-true (IsFilledIn old cells config mid) (IsWidened grows priority n cells config old mid) within filled)
+      (match-true (IsFilledIn old cells config mid)
+      (IsWidened grows priority n cells config old mid) within filled)
 
   pub made-wider : total_width (effective cells config mid) < n → (new : CompleteDimension) (list : List ℕ)
       → IsGrownBy grows priority (effective cells config mid).widths (n - total_width (effective cells config mid)) list
-      → widths_of new ≡ Some list → heights_of new ≡ heights_of mid → IncreasesWidth grows priority n cells config old new
+      → widths_of new ≡ Some list → heights_of new ≡ heights_of mid
+      → IncreasesWidth grows priority n cells config old new
   made-wider lt new list grown is_new high =
       let t = effective cells config old in
       let e = effective-filled cells config old mid filled in
@@ -99,7 +103,7 @@ module _ {P : Type 0} (s : P) (n m total : ℕ) (cells : List (List (List ℕ)))
 
   pub lowered : (shrinks : Shrinks P) (cells' : List (List (List ℕ))) (kept : List ℕ) → m < total
       → IsShrunkBy shrinks s heights [] (total - m) list → kept ≡ list → AreChanged (λ row column. true) (for_height kept) cells cells'
-      → LimitsHeight shrinks s n cells config old cells' new
+      → LimitsHeight (shrinking_to shrinks s n) (sized_table cells config old) cells' new
   lowered shrinks cells' kept less shrunk e changed =
       let by : total - m ≡ total_height (estimated cells config) - n =
       ap (λ k. k - m) all ∙ ap (λ k. total_height (estimated cells config) - k) measured in
@@ -115,12 +119,14 @@ module _ {P : Type 0} (s : P) (n m total : ℕ) (cells : List (List (List ℕ)))
       })
 
 module _ {P : Type 0} (grows : Grows P) (s : P) (n : ℕ) (cells : List (List (List ℕ))) (config : SpannedConfig)
-    (old new left : CompleteDimension) (h : IncreasesHeight grows s n cells config old new) (cleared : AreCleared None new left) where
+    (old new left : CompleteDimension) (h : IncreasesHeight grows s n cells config old new)
+    (cleared : AreCleared None new left) where
   pub heightens : HeightensAsPromised grows s n cells config (effective cells config left)
   heightens = record {
     exact = λ adds some less.
         let total = total_height (estimated cells config) in
-        let is : IsHeightened grows s n cells config old new = at-last (is_empty cells) (nat_le n total) _ _ h some (lt-leb n total less) in
+        let is : IsHeightened grows s n cells config old new =
+        at-last (is_empty cells) (nat_le n total) _ _ h some (lt-leb n total less) in
         let before = estimated_heights cells config in
         let grown = adds is.grown.last before is.heights (n - total_height (estimated cells config)) is.grown.grown in
         let more = grown-sum before is.heights (n - total_height (estimated cells config)) (some-lines cells config some) grown in
@@ -133,12 +139,12 @@ module _ {P : Type 0} (grows : Grows P) (s : P) (n : ℕ) (cells : List (List (L
 
 module _ {P : Type 0} (shrinks : Shrinks P) (s : P) (n : ℕ) (cells : List (List (List ℕ))) (config : SpannedConfig)
     (old : CompleteDimension) (cells' : List (List (List ℕ))) (new left : CompleteDimension)
-    (h : LimitsHeight shrinks s n cells config old cells' new) (cleared : AreCleared None new left) where
+    (h : LimitsHeight (shrinking_to shrinks s n) (sized_table cells config old) cells' new) (cleared : AreCleared None new left) where
   pub limits : LimitsAsPromised shrinks s n cells config (effective cells' config left)
   limits = record {
     exact = λ takes some more.
         let total = total_height (estimated cells config) in
-        let is : IsLowered shrinks s n cells config old cells' new =
+        let is : IsLowered (shrinking_to shrinks s n) (sized_table cells config old) cells' new =
         at-last (is_empty cells) (nat_le total n) _ _ h some (lt-leb total n more) in
         let before = estimated_heights cells config in
         let frame = frame_height config (length cells) in
@@ -155,7 +161,8 @@ module _ {P : Type 0} (shrinks : Shrinks P) (s : P) (n : ℕ) (cells : List (Lis
 -- ---- widths
 
 module _ {P : Type 0} (grows : Grows P) (s : P) (n : ℕ) (cells : List (List (List ℕ))) (config : SpannedConfig)
-    (old new left : CompleteDimension) (h : IncreasesWidth grows s n cells config old new) (cleared : AreCleared None new left) where
+    (old new left : CompleteDimension) (h : IncreasesWidth grows s n cells config old new)
+    (cleared : AreCleared None new left) where
   abbrev pub before : Sheet
   before = effective cells config old
 

@@ -15,9 +15,9 @@ use Rattle.tabled_set.proofs.ChangingCells.{columns-first, match-true}
 -- ---- one text
 
 -- a text that has a content size and passes the filter becomes what is made of it
-pub leaves-made : (cell_filter : CellFilter) (makes : ℕ → List ℕ → List ℕ → Type 0) (size : Option ℕ) (n : ℕ) (before after : List ℕ)
+pub taken-made : (cell_filter : CellFilter) (makes : ℕ → List ℕ → List ℕ → Type 0) (size : Option ℕ) (n : ℕ) (before after : List ℕ)
     → size ≡ Some n → is_taken cell_filter n before ≡ true → makes n before after → if_sized (if_taken cell_filter makes) size before after
-leaves-made cell_filter makes size n before after sized taken h =
+taken-made cell_filter makes size n before after sized taken h =
     subst (λ (o : Option ℕ). if_sized (if_taken cell_filter makes) o before after) (sym sized)
     (match-true (makes n before after) (after ≡ before) taken h)
 

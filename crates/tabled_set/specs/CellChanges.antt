@@ -42,6 +42,13 @@ is_taken cell_filter content_size text = takes_size cell_filter content_size (te
 abbrev pub if_taken : CellFilter → (ℕ → List ℕ → List ℕ → Type 0) → ℕ → List ℕ → List ℕ → Type 0
 if_taken cell_filter change content_size before after = MatchBool (is_taken cell_filter content_size before) (change content_size before after) (after ≡ before)
 
+-- how texts are changed for content sizes: those that pass the filter, by a relation of the content
+-- size, the old and the new text, and some of them in place, without an allocation
+pub record TextChange : Type 1 where
+  pub cell_filter : CellFilter
+  pub in_place : ℕ → List ℕ → Type 0
+  pub change : ℕ → List ℕ → List ℕ → Type 0
+
 -- a text wider than its content size changes, another doesn't
 abbrev pub if_wider : (ℕ → List ℕ → List ℕ → Type 0) → ℕ → List ℕ → List ℕ → Type 0
 if_wider change content_size before after = MatchBool (nat_lt content_size (text_columns before)) (change content_size before after) (after ≡ before)
@@ -98,25 +105,24 @@ pub record AreChangedBefore (order : WalkOrder) (chosen : ℕ → ℕ → Bool) 
   pub wanting : needs row column (cell_at old row column)
   pub changed : AreChanged (λ r c. chosen r c && precedes order (line_of order row column) (place_of order row column) r c) change old new
 
--- what an error leaves: with `Range` no cell has changed, with `Memory` the cells before the one at
--- which it stopped have
-abbrev pub StopsChanging : WalkOrder → (ℕ → ℕ → Bool) → (ℕ → ℕ → List ℕ → Type 0) → (ℕ → ℕ → List ℕ → List ℕ → Type 0) → TableError
-    → List (List (List ℕ)) → List (List (List ℕ)) → Type 0
-StopsChanging order chosen needs change error old new =
-    ((error ≡ Range) × (new ≡ old)) ⊎ ((error ≡ Memory) × AreChangedBefore order chosen needs change old new)
-
 -- ---- the cells of an entity, all with one content size
 
 -- the entity's cells change, and no others
 abbrev pub ChangesEntity : (ℕ → List ℕ → List ℕ → Type 0) → ℕ → Entity → List (List (List ℕ)) → List (List (List ℕ)) → Type 0
 ChangesEntity change content_size entity old new = AreChanged (covers entity) (λ row column. change content_size) old new
 
--- what an error leaves if those of the entity's cells that pass a filter are changed row by row,
--- some of them in place
-abbrev pub StopsEntity : CellFilter → (ℕ → List ℕ → Type 0) → (ℕ → List ℕ → List ℕ → Type 0) → ℕ → Entity → TableError → List (List (List ℕ))
-    → List (List (List ℕ)) → Type 0
-StopsEntity cell_filter in_place change content_size entity error old new =
-    StopsChanging ByRow (covers entity) (λ row column. NeedsMemory cell_filter in_place content_size) (λ row column. if_taken cell_filter change content_size) error old new
+-- a change of the entity's cells, row by row, stopped at one that needs an allocation. Those before
+-- it have changed; it and all others haven't
+abbrev pub IsEntityChangedBefore : TextChange → ℕ → Entity → List (List (List ℕ)) → List (List (List ℕ)) → Type 0
+IsEntityChangedBefore by content_size entity old new =
+    AreChangedBefore ByRow (covers entity) (λ row column. NeedsMemory by.cell_filter by.in_place content_size)
+    (λ row column. if_taken by.cell_filter by.change content_size) old new
+
+-- what an error leaves: with `Range` no cell has changed, with `Memory` the entity's cells before
+-- the one at which it stopped have
+abbrev pub StopsEntity : TextChange → ℕ → Entity → TableError → List (List (List ℕ)) → List (List (List ℕ)) → Type 0
+StopsEntity by content_size entity error old new =
+    ((error ≡ Range) × (new ≡ old)) ⊎ ((error ≡ Memory) × IsEntityChangedBefore by content_size entity old new)
 
 -- ---- a walk, line by line: lines are rows or columns, and a band is a range of them
 
@@ -137,9 +143,9 @@ places_in ByColumn cells = length cells
 abbrev pub on_line : WalkOrder → ℕ → Band ℕ → ℕ → ℕ → Bool
 on_line order line places row column = line_of order row column == line && is_within places (place_of order row column)
 
--- what a walk makes of a cell: one that has a content size and passes the filter is changed for it
-abbrev pub leaves : CellFilter → (ℕ → List ℕ → List ℕ → Type 0) → (ℕ → ℕ → Option ℕ) → ℕ → ℕ → List ℕ → List ℕ → Type 0
-leaves cell_filter change content_sizes row column before after = if_sized (if_taken cell_filter change) (content_sizes row column) before after
+-- a cell is changed for its content size; one without a content size isn't
+abbrev pub for_content_size : (ℕ → List ℕ → List ℕ → Type 0) → (ℕ → ℕ → Option ℕ) → ℕ → ℕ → List ℕ → List ℕ → Type 0
+for_content_size change content_sizes row column before after = if_sized change (content_sizes row column) before after
 
 -- a cell has a content size, and changing it needs an allocation
 abbrev pub needs : CellFilter → (ℕ → List ℕ → Type 0) → (ℕ → ℕ → Option ℕ) → ℕ → ℕ → List ℕ → Type 0

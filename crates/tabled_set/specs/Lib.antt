@@ -13,5 +13,6 @@ pub mod Priorities
 pub mod Promised
 pub mod PutBack
 pub mod Sides
+pub mod SizedTable
 pub mod TextLines
 pub mod Truncated

@@ -3,13 +3,14 @@ use Rattle.std.specs.Prelude.{◌≡◌, ◌⊎◌, ◌<◌, ◌≤◌, ◌^◌,
 use Rattle.std.specs.Prelude.{length, take, Bool, ◌&&◌, nat_lt, [], slice_index_or}
 use Rattle.tabled_set.specs.Common.{at, CompleteDimension, effective, HasNoEstimate, heights_of, is_empty, IsFilledIn, IsPermitted}
 use Rattle.tabled_set.specs.Common.{IsTooWide, Memory, Sheet, SpannedConfig, TableError, total_width, widths_of, estimated}
-use Rattle.tabled_set.specs.Common.{estimated_heights, total_height}
-use Rattle.tabled_set.specs.CellChanges.{AreChanged, AreChangedBefore, if_taken, if_sized, NeedsMemory, NeedsMemoryIn, ByColumn, CellFilter, never_in_place, ByRow}
-use Rattle.tabled_set.specs.CellChanges.{Higher}
+use Rattle.tabled_set.specs.Common.{total_height}
+use Rattle.tabled_set.specs.CellChanges.{AreChanged, AreChangedBefore, for_content_size, if_taken, NeedsMemory, needs, ByColumn}
+use Rattle.tabled_set.specs.CellChanges.{Higher, never_in_place, ByRow, TextChange}
 use Rattle.tabled_set.specs.Increased.{StopsFilling}
 use Rattle.tabled_set.specs.Minimums.{emptied, minimums, own_padding, side_padding}
 use Rattle.tabled_set.specs.declared.narrowing.ColumnWidths.{ColumnWidths}
-use Rattle.tabled_set.specs.Priorities.{Shrinks}
+use Rattle.tabled_set.specs.Priorities.{Shrinking, Shrinks}
+use Rattle.tabled_set.specs.SizedTable.{SizedTable, sheet_of}
 use Rattle.tabled_set.specs.TextLines.{limiting}
 
 -- a column has one of the widths, and it isn't below its minimum
@@ -37,68 +38,58 @@ pub record IsShrunkBy {P : Type 0} (shrinks : Shrinks P) (priority : P) (old min
   pub shrunk : shrinks priority old mins by new last
   pub permitted : IsPermitted old mins new
 
--- so the widths of a table, by the excess of its total over n and with the columns' minimums
-abbrev pub IsShrunkTo : {P : Type 0} → Shrinks P → P → ℕ → Sheet → List ℕ → Type 0
-IsShrunkTo shrinks priority n t widths =
-    IsShrunkBy shrinks priority t.widths (take (length t.widths) (minimums t.cells t.config)) (total_width t - n) widths
+-- so the widths of a table, by the excess over the total and with the columns' minimums
+abbrev pub IsShrunkTo : {P : Type 0} → Shrinking P → Sheet → List ℕ → Type 0
+IsShrunkTo how t widths =
+    IsShrunkBy how.shrinks how.priority t.widths (take (length t.widths) (minimums t.cells t.config)) (total_width t - how.total) widths
 
--- a cell of a column that isn't below its minimum is changed for its content width, another isn't
-abbrev pub for_content_size : (ℕ → List ℕ → List ℕ → Type 0) → Sheet → List ℕ → ℕ → ℕ → List ℕ → List ℕ → Type 0
-for_content_size change t widths row column before after = if_sized change (content_width t widths row column) before after
-
--- changing such a cell needs an allocation
-abbrev pub needs_for_content_size : CellFilter → (ℕ → List ℕ → Type 0) → Sheet → List ℕ → ℕ → ℕ → List ℕ → Type 0
-needs_for_content_size cell_filter in_place t widths row column text = NeedsMemoryIn cell_filter in_place (content_width t widths row column) text
-
--- a table wider than n is narrowed: its widths are shrunk and stored, its cells are changed for
--- their content widths, and its heights are cleared
-pub record IsNarrowed {P : Type 0} (shrinks : Shrinks P) (priority : P) (change : ℕ → List ℕ → List ℕ → Type 0)
-    (n : ℕ) (t : Sheet) (cells : List (List (List ℕ))) (sizes : CompleteDimension) : Type 0 where
+-- a table that is too wide is narrowed: its widths are shrunk and stored, its cells are changed for
+-- their content widths, if they have any, and its heights are cleared
+pub record IsNarrowed {P : Type 0} (how : Shrinking P) (change : ℕ → List ℕ → List ℕ → Type 0)
+    (t : Sheet) (cells : List (List (List ℕ))) (sizes : CompleteDimension) : Type 0 where
   pub widths : List ℕ
-  pub shrunk : IsShrunkTo shrinks priority n t widths
-  pub changed : AreChanged (λ row column. true) (for_content_size change t widths) t.cells cells
+  pub shrunk : IsShrunkTo how t widths
+  pub changed : AreChanged (λ row column. true) (for_content_size change (content_width t widths)) t.cells cells
   pub stored : widths_of sizes ≡ Some widths
   pub cleared : heights_of sizes ≡ None
 
--- what narrowing to n columns leaves: an empty table unchanged, one of at most n columns with its
--- sizes filled in, and a wider one narrowed
-abbrev pub Narrows : {P : Type 0} → Shrinks P → P → (ℕ → List ℕ → List ℕ → Type 0) → ℕ → List (List (List ℕ))
-    → SpannedConfig → CompleteDimension → List (List (List ℕ)) → CompleteDimension → Type 0
-Narrows shrinks priority change n cells config sizes cells' sizes' =
-    MatchBool (is_empty cells) ((cells' ≡ cells) × (sizes' ≡ sizes))
-    (MatchBool (nat_le (total_width (effective cells config sizes)) n) ((cells' ≡ cells) × IsFilledIn sizes cells config sizes')
-    (IsNarrowed shrinks priority change n (effective cells config sizes) cells' sizes'))
+-- what narrowing a table leaves of its cells and sizes: an empty table is unchanged, one that isn't
+-- wider than the total has its sizes filled in, and a wider one is narrowed
+abbrev pub Narrows : {P : Type 0} → Shrinking P → (ℕ → List ℕ → List ℕ → Type 0) → SizedTable → List (List (List ℕ))
+    → CompleteDimension → Type 0
+Narrows how change old cells sizes =
+    MatchBool (is_empty old.cells) ((cells ≡ old.cells) × (sizes ≡ old.sizes))
+    (MatchBool (nat_le (total_width (sheet_of old)) how.total) ((cells ≡ old.cells) × IsFilledIn old.sizes old.cells old.config sizes)
+    (IsNarrowed how change (sheet_of old) cells sizes))
 
 -- a table has to be narrowed to n columns: it has a cell, and is wider
 pub record MustNarrow (n : ℕ) (cells : List (List (List ℕ))) (config : SpannedConfig) (sizes : CompleteDimension) : Type 0 where
   pub some : is_empty cells ≡ false
   pub wider : n < total_width (effective cells config sizes)
 
--- an allocation failed at a cell of a table wider than n. The cells before it, column by column,
+-- an allocation failed at a cell of a table that is too wide. The cells before it, column by column,
 -- have changed; it and the others haven't
-pub record IsNarrowedBefore {P : Type 0} (shrinks : Shrinks P) (priority : P) (cell_filter : CellFilter)
-    (in_place : ℕ → List ℕ → Type 0) (change : ℕ → List ℕ → List ℕ → Type 0) (n : ℕ) (t : Sheet) (cells : List (List (List ℕ))) : Type 0 where
-  pub wider : n < total_width t
+pub record IsNarrowedBefore {P : Type 0} (how : Shrinking P) (by : TextChange) (t : Sheet) (cells : List (List (List ℕ))) : Type 0 where
+  pub wider : how.total < total_width t
   pub widths : List ℕ
-  pub shrunk : IsShrunkTo shrinks priority n t widths
-  pub changed : AreChangedBefore ByColumn (λ row column. true) (needs_for_content_size cell_filter in_place t widths) (for_content_size (if_taken cell_filter change) t widths) t.cells cells
+  pub shrunk : IsShrunkTo how t widths
+  pub changed : AreChangedBefore ByColumn (λ row column. true) (needs by.cell_filter by.in_place (content_width t widths))
+      (for_content_size (if_taken by.cell_filter by.change) (content_width t widths)) t.cells cells
 
--- an error after sizes were filled in: the table is wider than n. No cell has changed, or with
--- `Memory` those before the one at which it stopped have
-pub record StopsShrinking {P : Type 0} (shrinks : Shrinks P) (priority : P) (cell_filter : CellFilter)
-    (in_place : ℕ → List ℕ → Type 0) (change : ℕ → List ℕ → List ℕ → Type 0) (n : ℕ) (error : TableError) (cells : List (List (List ℕ)))
-    (config : SpannedConfig) (sizes : CompleteDimension) (cells' : List (List (List ℕ))) (sizes' : CompleteDimension) : Type 0 where
-  pub wider : n < total_width (effective cells config sizes)
-  pub filled : IsFilledIn sizes cells config sizes'
-  pub stopped : (cells' ≡ cells) ⊎ ((error ≡ Memory) × IsNarrowedBefore shrinks priority cell_filter in_place change n (effective cells config sizes) cells')
+-- an error after sizes were filled in: the table is too wide. No cell has changed, or with `Memory`
+-- those before the one at which it stopped have
+pub record StopsShrinking {P : Type 0} (how : Shrinking P) (by : TextChange) (error : TableError) (old : SizedTable)
+    (cells : List (List (List ℕ))) (sizes : CompleteDimension) : Type 0 where
+  pub wider : how.total < total_width (sheet_of old)
+  pub filled : IsFilledIn old.sizes old.cells old.config sizes
+  pub stopped : (cells ≡ old.cells) ⊎ ((error ≡ Memory) × IsNarrowedBefore how by (sheet_of old) cells)
 
--- what an error leaves: all unchanged while sizes are estimated, else what `StopsShrinking` says
-abbrev pub StopsNarrowing : {P : Type 0} → Shrinks P → P → CellFilter → (ℕ → List ℕ → Type 0)
-    → (ℕ → List ℕ → List ℕ → Type 0) → ℕ → TableError → List (List (List ℕ)) → SpannedConfig → CompleteDimension → List (List (List ℕ))
+-- what an error leaves of a table's cells and sizes: all unchanged while sizes are estimated, else
+-- what `StopsShrinking` says
+abbrev pub StopsNarrowing : {P : Type 0} → Shrinking P → TextChange → TableError → SizedTable → List (List (List ℕ))
     → CompleteDimension → Type 0
-StopsNarrowing shrinks priority cell_filter in_place change n error cells config sizes cells' sizes' =
-    ((cells' ≡ cells) × StopsFilling error sizes sizes')
-    ⊎ StopsShrinking shrinks priority cell_filter in_place change n error cells config sizes cells' sizes'
+StopsNarrowing how by error old cells sizes =
+    ((cells ≡ old.cells) × StopsFilling error old.sizes sizes) ⊎ StopsShrinking how by error old cells sizes
 
 -- the total overflows `usize`, or the side padding of a cell does in a table wider than n
 abbrev pub WiderOutOfRange : ℕ → List (List (List ℕ)) → SpannedConfig → CompleteDimension → Type 0
@@ -115,10 +106,10 @@ NarrowingOutOfRange measure_out_of_range n cells config sizes =
 abbrev pub content_of : ColumnWidths → ℕ → ℕ → Option ℕ
 content_of found row column = less_padding (slice_index_or found.content.items column None) (own_padding found.config.now row column)
 
--- the widths to which a table wider than n shrinks, with the content widths of its cells
-pub record IsFound {P : Type 0} (shrinks : Shrinks P) (priority : P) (n : ℕ) (t : Sheet) (found : ColumnWidths) : Type 0 where
-  pub wider : n < total_width t
-  pub shrunk : IsShrunkTo shrinks priority n t found.widths.items
+-- the widths to which a table that is too wide shrinks, with the content widths of its cells
+pub record IsFound {P : Type 0} (how : Shrinking P) (t : Sheet) (found : ColumnWidths) : Type 0 where
+  pub wider : how.total < total_width t
+  pub shrunk : IsShrunkTo how t found.widths.items
   pub sized : (row column : ℕ) → content_of found row column ≡ content_width t found.widths.items row column
 
 -- a table that isn't wider than n: it is empty and its sizes don't change, or they are filled in
@@ -126,28 +117,27 @@ abbrev pub FitsAlready : ℕ → List (List (List ℕ)) → SpannedConfig → Co
 FitsAlready n cells config sizes sizes' =
     MatchBool (is_empty cells) (sizes' ≡ sizes) ((total_width (effective cells config sizes) ≤ n) × IsFilledIn sizes cells config sizes')
 
--- a table that is wider than n: its sizes are filled in, and its columns shrink to these widths
-pub record HasWidths {P : Type 0} (shrinks : Shrinks P) (priority : P) (n : ℕ) (cells : List (List (List ℕ)))
-    (config : SpannedConfig) (sizes sizes' : CompleteDimension) (widths : ColumnWidths) : Type 0 where
-  pub some : is_empty cells ≡ false
-  pub filled : IsFilledIn sizes cells config sizes'
-  pub found : IsFound shrinks priority n (effective cells config sizes') widths
+-- a table that is too wide: its sizes are filled in, and its columns shrink to these widths
+pub record HasWidths {P : Type 0} (how : Shrinking P) (old : SizedTable) (sizes : CompleteDimension) (widths : ColumnWidths) : Type 0 where
+  pub some : is_empty old.cells ≡ false
+  pub filled : IsFilledIn old.sizes old.cells old.config sizes
+  pub found : IsFound how (effective old.cells old.config sizes) widths
 
 -- the content width of each cell by a list for the columns
 abbrev pub column_width : List (Option ℕ) → ℕ → ℕ → Option ℕ
 column_width widths row column = slice_index_or widths column None
 
--- the columns of a table wider than n shrink: the new widths are stored, and the heights are
+-- the columns of a table that is too wide shrink: the new widths are stored, and the heights are
 -- cleared. The cells have these content widths
-pub record AreShrunk {P : Type 0} (shrinks : Shrinks P) (priority : P) (n : ℕ) (cells : List (List (List ℕ)))
-    (config : SpannedConfig) (old : CompleteDimension) (content : ℕ → ℕ → Option ℕ) (new : CompleteDimension) : Type 0 where
-  pub some : is_empty cells ≡ false
-  pub wider : n < total_width (effective cells config old)
+pub record AreShrunk {P : Type 0} (how : Shrinking P) (old : SizedTable) (content : ℕ → ℕ → Option ℕ)
+    (sizes : CompleteDimension) : Type 0 where
+  pub some : is_empty old.cells ≡ false
+  pub wider : how.total < total_width (sheet_of old)
   pub widths : List ℕ
-  pub shrunk : IsShrunkTo shrinks priority n (effective cells config old) widths
-  pub sized : (row column : ℕ) → content row column ≡ content_width (effective cells config old) widths row column
-  pub stored : widths_of new ≡ Some widths
-  pub cleared : heights_of new ≡ None
+  pub shrunk : IsShrunkTo how (sheet_of old) widths
+  pub sized : (row column : ℕ) → content row column ≡ content_width (sheet_of old) widths row column
+  pub stored : widths_of sizes ≡ Some widths
+  pub cleared : heights_of sizes ≡ None
 
 -- what an error leaves while no cell has changed: the sizes unchanged while they are estimated, or
 -- filled in if the table is wider than n
@@ -167,37 +157,38 @@ for_height heights row column = if_taken Higher limiting (at heights row)
 abbrev pub needs_for_height : List ℕ → ℕ → ℕ → List ℕ → Type 0
 needs_for_height heights row column = NeedsMemory Higher never_in_place (at heights row)
 
--- a table of more than n lines in total: the estimated heights shrink by the excess, without
--- minimums, and are stored. Cells are limited to their rows' heights, and the widths don't change
-pub record IsLowered {P : Type 0} (shrinks : Shrinks P) (priority : P) (n : ℕ) (cells : List (List (List ℕ)))
-    (config : SpannedConfig) (old : CompleteDimension) (cells' : List (List (List ℕ))) (new : CompleteDimension) : Type 0 where
+-- the heights to which the rows of a table with estimated sizes shrink, by the excess over the total
+-- and without minimums
+abbrev pub IsLoweredTo : {P : Type 0} → Shrinking P → Sheet → List ℕ → Type 0
+IsLoweredTo how t heights = IsShrunkBy how.shrinks how.priority t.heights [] (total_height t - how.total) heights
+
+-- a table that is too high: the estimated heights shrink and are stored. Cells are limited to their
+-- rows' heights, and the widths don't change
+pub record IsLowered {P : Type 0} (how : Shrinking P) (old : SizedTable) (cells : List (List (List ℕ)))
+    (sizes : CompleteDimension) : Type 0 where
   pub heights : List ℕ
-  pub shrunk : IsShrunkBy shrinks priority (estimated_heights cells config) [] (total_height (estimated cells config) - n) heights
-  pub changed : AreChanged (λ row column. true) (for_height heights) cells cells'
-  pub stored : heights_of new ≡ Some heights
-  pub widths : widths_of new ≡ widths_of old
+  pub shrunk : IsLoweredTo how (estimated old.cells old.config) heights
+  pub changed : AreChanged (λ row column. true) (for_height heights) old.cells cells
+  pub stored : heights_of sizes ≡ Some heights
+  pub widths : widths_of sizes ≡ widths_of old.sizes
 
--- what is left after a table was limited to n lines: unchanged if the table is empty or was low
--- enough, else lowered
-abbrev pub LimitsHeight : {P : Type 0} → Shrinks P → P → ℕ → List (List (List ℕ)) → SpannedConfig
-    → CompleteDimension → List (List (List ℕ)) → CompleteDimension → Type 0
-LimitsHeight shrinks priority n cells config old cells' new =
-    MatchBool (is_empty cells) ((cells' ≡ cells) × (new ≡ old))
-    (MatchBool (nat_le (total_height (estimated cells config)) n) ((cells' ≡ cells) × (new ≡ old))
-    (IsLowered shrinks priority n cells config old cells' new))
+-- what limiting the lines of a table leaves of its cells and sizes: unchanged if the table is empty
+-- or low enough, else lowered
+abbrev pub LimitsHeight : {P : Type 0} → Shrinking P → SizedTable → List (List (List ℕ)) → CompleteDimension → Type 0
+LimitsHeight how old cells sizes =
+    MatchBool (is_empty old.cells) ((cells ≡ old.cells) × (sizes ≡ old.sizes))
+    (MatchBool (nat_le (total_height (estimated old.cells old.config)) how.total) ((cells ≡ old.cells) × (sizes ≡ old.sizes))
+    (IsLowered how old cells sizes))
 
--- an allocation failed in a table of more than n lines, at a cell with more lines than its row's
--- height. The cells before it, row by row, are limited; it and the others are unchanged
-pub record IsLoweredBefore {P : Type 0} (shrinks : Shrinks P) (priority : P) (n : ℕ)
-    (cells : List (List (List ℕ))) (config : SpannedConfig) (cells' : List (List (List ℕ))) : Type 0 where
-  pub higher : n < total_height (estimated cells config)
+-- an allocation failed in a table that is too high, at a cell with more lines than its row's height.
+-- The cells before it, row by row, are limited; it and the others are unchanged
+pub record IsLoweredBefore {P : Type 0} (how : Shrinking P) (old : Sheet) (cells : List (List (List ℕ))) : Type 0 where
+  pub higher : how.total < total_height old
   pub heights : List ℕ
-  pub shrunk : IsShrunkBy shrinks priority (estimated_heights cells config) [] (total_height (estimated cells config) - n) heights
-  pub changed : AreChangedBefore ByRow (λ row column. true) (needs_for_height heights) (for_height heights) cells cells'
+  pub shrunk : IsLoweredTo how old heights
+  pub changed : AreChangedBefore ByRow (λ row column. true) (needs_for_height heights) (for_height heights) old.cells cells
 
--- what an error leaves of the cells: all unchanged, or with `Memory` those before the one at which
--- it stopped limited
-abbrev pub StopsLimiting : {P : Type 0} → Shrinks P → P → ℕ → TableError → List (List (List ℕ)) → SpannedConfig
-    → List (List (List ℕ)) → Type 0
-StopsLimiting shrinks priority n error cells config cells' =
-    (cells' ≡ cells) ⊎ ((error ≡ Memory) × IsLoweredBefore shrinks priority n cells config cells')
+-- what an error leaves of the cells of a table with estimated sizes: all unchanged, or with `Memory`
+-- those before the one at which it stopped limited
+abbrev pub StopsLimiting : {P : Type 0} → Shrinking P → TableError → Sheet → List (List (List ℕ)) → Type 0
+StopsLimiting how error old cells = (cells ≡ old.cells) ⊎ ((error ≡ Memory) × IsLoweredBefore how old cells)

@@ -13,6 +13,15 @@ Shrinks P = P → List ℕ → List ℕ → ℕ → List ℕ → P → Type 0
 abbrev pub Grows : Type 0 → Type 1
 Grows P = P → List ℕ → ℕ → List ℕ → P → Type 0
 
+-- how columns or rows shrink to a total: how priorities of a type shrink lists, and the priority
+pub record Shrinking (P : Type 0) : Type 1 where
+  pub shrinks : Shrinks P
+  pub priority : P
+  pub total : ℕ
+
+abbrev pub shrinking_to : {P : Type 0} → Shrinks P → P → ℕ → Shrinking P
+shrinking_to shrinks priority total = record { shrinks = shrinks; priority = priority; total = total }
+
 -- shrinking takes the whole amount, or as much as the minimums allow, as with the five priorities
 abbrev pub TakesFrom : {P : Type 0} → Shrinks P → P → Type 0
 TakesFrom {P} shrinks s = (last : P) (old mins new : List ℕ) (by : ℕ) → shrinks s old mins by new last → IsTakenFrom old mins by new

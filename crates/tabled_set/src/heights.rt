@@ -1,10 +1,12 @@
 //! The options `CellHeightIncrease`, `CellHeightLimit`, `TableHeightIncrease` and
 //! `TableHeightLimit`, which change the heights of cells and tables.
 ghost use Rattle.std.specs.Prelude.{◌≡◌, None, Some, false};
-ghost use Rattle.tabled_set.specs.Common.{at, effective, is_empty};
+ghost use Rattle.tabled_set.specs.Common.{at, effective, estimated, is_empty};
 ghost use Rattle.tabled_set.specs.Increased.{HeightOutOfRange, IncreasesHeight};
 ghost use Rattle.tabled_set.specs.Narrowed.{LimitsHeight, StopsLimiting};
+ghost use Rattle.tabled_set.specs.Priorities.{shrinking_to};
 ghost use Rattle.tabled_set.specs.Promised.{AfterClearing, HeightensAsPromised, LimitsAsPromised};
+ghost use Rattle.tabled_set.specs.SizedTable.{sized_table};
 ghost use Rattle.tabled_set.specs.TextLines.{lengthening, limiting};
 ghost use Rattle.tabled_set.specs.CellChanges.{Higher, Lower};
 
@@ -173,14 +175,13 @@ impl<W: Measurement<Height> + Drop, P: Peaker + Drop, R: RecordsMut> TableOption
     ColoredConfig,
     CompleteDimension,
 > for TableHeightLimit<W, P> {
-    ghost changes = { λ s r c d r' c' d'. LimitsHeight P.shrinks s.priority
-        (W.measures s.size (R.cells r) c.config) (R.cells r) c.config d (R.cells r') d'
-        × (c' ≡ c) };
+    ghost changes = { λ s r c d r' c' d'. let n = W.measures s.size (R.cells r) c.config in
+        LimitsHeight (shrinking_to P.shrinks s.priority n)
+        (sized_table (R.cells r) c.config d) (R.cells r') d' × (c' ≡ c) };
 
-    ghost fails = { λ s e r c d r' c' d'. (is_empty (R.cells r) ≡ false)
-        × StopsLimiting P.shrinks s.priority
-        (W.measures s.size (R.cells r) c.config) e (R.cells r) c.config (R.cells r')
-        × ((c' ≡ c) × (d' ≡ d)) };
+    ghost fails = { λ s e r c d r' c' d'. let n = W.measures s.size (R.cells r) c.config in
+        (is_empty (R.cells r) ≡ false) × StopsLimiting (shrinking_to P.shrinks s.priority n) e
+        (estimated (R.cells r) c.config) (R.cells r') × ((c' ≡ c) × (d' ≡ d)) };
 
     ghost out_of_range = { λ s r c d.
         HeightOutOfRange (W.out_of_range s.size (R.cells r) c.config) (R.cells r) c.config };

@@ -214,9 +214,12 @@ impl<W: Measurement<Width> + Drop, R: RecordsMut, D> TableOption<R, ColoredConfi
         (W.measures s.size (R.cells r) c.config) Global
         (R.cells r) (R.cells r') × ((c' ≡ c) × (d' ≡ d)) };
 
-    ghost fails = { λ s e r c d r' c' d'. StopsEntity NotAsWide never_in_place IsJustified
-        (W.measures s.size (R.cells r) c.config) Global e
-        (R.cells r) (R.cells r') × ((c' ≡ c) × (d' ≡ d)) };
+    ghost fails = { λ s e r c d r' c' d'. let n = W.measures s.size (R.cells r) c.config in
+        StopsEntity (record {
+          cell_filter = NotAsWide;
+          in_place = never_in_place;
+          change = IsJustified;
+        }) n Global e (R.cells r) (R.cells r') × ((c' ≡ c) × (d' ≡ d)) };
 
     ghost out_of_range = { λ s r c d. W.out_of_range s.size (R.cells r) c.config };
 

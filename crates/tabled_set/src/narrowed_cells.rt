@@ -7,6 +7,8 @@ ghost use Rattle.tabled_set.specs.CellChanges.{if_taken, if_wider, truncating, w
 ghost use Rattle.tabled_set.specs.Common.{IsRectangular, Memory, Range};
 ghost use Rattle.tabled_set.specs.Narrowed.{MustNarrow, NarrowingOutOfRange, Narrows, StopsBeforeNarrowing};
 ghost use Rattle.tabled_set.specs.NarrowedCells.{cells_of_or};
+ghost use Rattle.tabled_set.specs.Priorities.{shrinking_to};
+ghost use Rattle.tabled_set.specs.SizedTable.{sized_table};
 
 use crate::measurement::{Measurement, Width};
 use crate::narrowing::wanted_widths;
@@ -53,10 +55,11 @@ pub(crate) fn narrowed_records<
     sizes: &mut CompleteDimension,
 ) -> Result<Option<JoinedRecords>, TableError>
     ensures rectangular { IsRectangular (R.cells records.now) }
-    ensures ok { IfOk result (λ changed. Narrows P.shrinks option.priority
+    ensures ok { let n = W.measures option.size (R.cells records.now) config.now in
+        IfOk result (λ changed. Narrows (shrinking_to P.shrinks option.priority n)
         (if_taken cell_filter (T.makes option.transform))
-        (W.measures option.size (R.cells records.now) config.now) (R.cells records.now)
-        config.now sizes.old (unwrap_or changed (R.cells records.now)) sizes.new) }
+        (sized_table (R.cells records.now) config.now sizes.old)
+        (unwrap_or changed (R.cells records.now)) sizes.new) }
     ensures wider { IfOk result (λ changed. OnSome changed (MustNarrow
         (W.measures option.size (R.cells records.now) config.now)
         (R.cells records.now) config.now sizes.old)) }
@@ -93,10 +96,9 @@ pub(crate) fn wrapped_rows<'r, 't, W: Measurement<Width> + Drop, P: Peaker + Dro
 ) -> Result<Option<NarrowedRows<'r, 't>>, TableError>
     requires { is_some (shared config.now.padding) ≡ true }
     ensures rectangular { IsRectangular rows.now }
-    ensures ok { IfOk result (λ changed. Narrows P.shrinks option.priority
-        (wrapping option.transform.keep_words)
-        (W.measures option.size rows.now config.now) rows.now
-        config.now sizes.old (cells_of_or changed rows.now) sizes.new) }
+    ensures ok { let n = W.measures option.size rows.now config.now in IfOk result (λ changed.
+        Narrows (shrinking_to P.shrinks option.priority n) (wrapping option.transform.keep_words)
+        (sized_table rows.now config.now sizes.old) (cells_of_or changed rows.now) sizes.new) }
     ensures wider { IfOk result (λ changed. OnSome changed (MustNarrow
         (W.measures option.size rows.now config.now) rows.now config.now sizes.old)) }
     ensures err { IfErr result (λ e. StopsBeforeNarrowing (W.measures option.size rows.now config.now) e
@@ -127,10 +129,10 @@ pub(crate) fn cut_rows<'r, 't, W: Measurement<Width> + Drop, P: Peaker + Drop>(
 ) -> Result<Option<NarrowedRows<'r, 't>>, TableError>
     requires { is_some (shared config.now.padding) ≡ true }
     ensures rectangular { IsRectangular rows.now }
-    ensures ok { IfOk result (λ changed. Narrows P.shrinks option.entry.priority
+    ensures ok { let n = W.measures option.entry.size rows.now config.now in
+        IfOk result (λ changed. Narrows (shrinking_to P.shrinks option.entry.priority n)
         (if_wider (truncating [] option.entry.transform.limit false))
-        (W.measures option.entry.size rows.now config.now) rows.now
-        config.now sizes.old (cells_of_or changed rows.now) sizes.new) }
+        (sized_table rows.now config.now sizes.old) (cells_of_or changed rows.now) sizes.new) }
     ensures wider { IfOk result (λ changed. OnSome changed (MustNarrow
         (W.measures option.entry.size rows.now config.now) rows.now config.now sizes.old)) }
     ensures err { IfErr result (λ e. StopsBeforeNarrowing

@@ -9,6 +9,8 @@ ghost use Rattle.tabled_set.specs.Narrowed.{content_of, permitted_width, WiderOu
 ghost use Rattle.tabled_set.specs.Narrowed.{NarrowingOutOfRange, Narrows, StopsNarrowing, IsFound};
 ghost use Rattle.tabled_set.specs.Narrowed.{FitsAlready, HasWidths, StopsBeforeNarrowing};
 ghost use Rattle.tabled_set.specs.Minimums.{emptied, side_columns};
+ghost use Rattle.tabled_set.specs.Priorities.{shrinking_to};
+ghost use Rattle.tabled_set.specs.SizedTable.{sized_table};
 
 use crate::measurement::{Measurement, Width};
 use crate::resize::{CellFilter, Change, ContentSizes, Resize, TextTransform};
@@ -33,7 +35,7 @@ fn narrowed_widths<'a, P: Peaker + Drop, R: ExactRecords>(
     requires stored { is_some (widths_of sizes.now) ≡ true }
     ensures ok { let t = effective (R.cells records.now) config.now sizes.now in
         IfOk result (λ answer. MatchOption answer (total_width t ≤ n)
-        (IsFound P.shrinks priority n t)) }
+        (IsFound (shrinking_to P.shrinks priority n) t)) }
     ensures settings { IfOk result (λ answer.
         IfSome answer (λ found. found.config.now ≡ config.now)) }
     ensures wider { OnErr result
@@ -127,9 +129,9 @@ pub(crate) fn wanted_widths<'a, W: Measurement<Width>, P: Peaker + Drop, R: Peek
     ensures none { IfOk result (λ answer. IfNone answer
         (FitsAlready (W.measures size.now (R.cells records.now) config.now)
         (R.cells records.now) config.now sizes.old sizes.new)) }
-    ensures some { IfOk result (λ answer. IfSome answer (HasWidths P.shrinks priority
-        (W.measures size.now (R.cells records.now) config.now)
-        (R.cells records.now) config.now sizes.old sizes.new)) }
+    ensures some { let n = W.measures size.now (R.cells records.now) config.now in
+        IfOk result (λ answer. IfSome answer (HasWidths (shrinking_to P.shrinks priority n)
+        (sized_table (R.cells records.now) config.now sizes.old) sizes.new)) }
     ensures settings { IfOk result (λ answer.
         IfSome answer (λ found. found.config.now ≡ config.now)) }
     ensures err { IfErr result (λ e. StopsBeforeNarrowing
@@ -163,15 +165,19 @@ pub(crate) fn narrow_table<
     sizes: &mut CompleteDimension,
 ) -> Result<(), TableError>
     ensures rectangular { IsRectangular (R.cells records.old) }
-    ensures ok { OnOk result (Narrows P.shrinks option.priority
+    ensures ok { let n = W.measures option.size (R.cells records.old) config.now in
+        OnOk result (Narrows (shrinking_to P.shrinks option.priority n)
         (if_taken cell_filter (T.makes option.transform))
-        (W.measures option.size (R.cells records.old) config.now)
-        (R.cells records.old) config.now sizes.old (R.cells records.new) sizes.new) }
-    ensures err { IfErr result (λ e. (is_empty (R.cells records.old) ≡ false)
-        × StopsNarrowing P.shrinks option.priority
-        cell_filter (T.shortens option.transform) (T.makes option.transform)
-        (W.measures option.size (R.cells records.old) config.now) e
-        (R.cells records.old) config.now sizes.old (R.cells records.new) sizes.new) }
+        (sized_table (R.cells records.old) config.now sizes.old)
+        (R.cells records.new) sizes.new) }
+    ensures err { let n = W.measures option.size (R.cells records.old) config.now in
+        IfErr result (λ e. (is_empty (R.cells records.old) ≡ false)
+        × StopsNarrowing (shrinking_to P.shrinks option.priority n) (record {
+          cell_filter = cell_filter;
+          in_place = T.shortens option.transform;
+          change = T.makes option.transform;
+        }) e (sized_table (R.cells records.old) config.now sizes.old)
+        (R.cells records.new) sizes.new) }
     ensures only { IfErr result (λ e. (e ≡ Memory) ⊎ ((e ≡ Range)
         × NarrowingOutOfRange (W.out_of_range option.size (R.cells records.old) config.now)
         (W.measures option.size (R.cells records.old) config.now)

@@ -7,7 +7,8 @@ ghost use Rattle.tabled_set.specs.Common.{Cell, cell_at, covers, IsInside, lines
 ghost use Rattle.tabled_set.specs.Common.{text_columns};
 ghost use Rattle.tabled_base.specs.ShortOr.{FitsBehind};
 ghost use Rattle.tabled_set.specs.CellChanges.{takes_size, AreChanged, CellFilter};
-ghost use Rattle.tabled_set.specs.CellChanges.{leaves, needs, ChangesEntity, StopsEntity, if_taken};
+ghost use Rattle.tabled_set.specs.CellChanges.{for_content_size, needs, ChangesEntity, StopsEntity};
+ghost use Rattle.tabled_set.specs.CellChanges.{if_taken};
 ghost use Rattle.tabled_set.specs.Truncated.{ended_text};
 
 use crate::measurement::Measurement;
@@ -67,9 +68,12 @@ impl<T: TextTransform, W: Measurement<T::Direction>, P, R: RecordsMut> CellOptio
     ghost changes = { λ s r c e r' c'. ChangesEntity (if_taken T.cell_filter (T.makes s.transform))
         (W.measures s.size (R.cells r) c.config) e (R.cells r) (R.cells r') × (c' ≡ c) };
 
-    ghost fails = { λ s f r c e r' c'.
-        StopsEntity T.cell_filter (T.shortens s.transform) (T.makes s.transform)
-        (W.measures s.size (R.cells r) c.config) e f (R.cells r) (R.cells r') × (c' ≡ c) };
+    ghost fails = { λ s f r c e r' c'. let n = W.measures s.size (R.cells r) c.config in
+        StopsEntity (record {
+          cell_filter = T.cell_filter;
+          in_place = T.shortens s.transform;
+          change = T.makes s.transform;
+        }) n e f (R.cells r) (R.cells r') × (c' ≡ c) };
 
     ghost out_of_range = { λ s r c e. W.out_of_range s.size (R.cells r) c.config };
 
@@ -247,7 +251,7 @@ impl<'a, T: TextTransform, M: ContentSizes> Change<'a, T, M> {
     ) -> Result<(), TableError>
         requires { IsInside (R.cells records.old) at.row at.column }
         ensures ok { let by = self.now in OnOk result (AreChanged (covers (Cell at.row at.column))
-            (leaves by.cell_filter (T.makes by.transform.now)
+            (for_content_size (if_taken by.cell_filter (T.makes by.transform.now))
             (M.content_size_at by.content_sizes.now))
             (R.cells records.old) (R.cells records.new)) }
         ensures err { OnErr result (R.cells records.new ≡ R.cells records.old) }

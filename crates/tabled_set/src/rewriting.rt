@@ -1,7 +1,8 @@
 //! Writes records anew, row by row, with some of their cells changed.
 ghost use Rattle.std.specs.Prelude.{◌≡◌, ◌++◌, ◌<◌, [], IfErr, IfOk, OnOk, length, true};
 ghost use Rattle.tabled_set.specs.Common.{IsInside, Memory, cell_at};
-ghost use Rattle.tabled_set.specs.CellChanges.{AddsRow, AddsText, AreChanged, leaves};
+ghost use Rattle.tabled_set.specs.CellChanges.{AddsRow, AddsText, AreChanged, for_content_size};
+ghost use Rattle.tabled_set.specs.CellChanges.{if_taken};
 
 use crate::resize::{Change, ContentSizes, TextTransform};
 use std::alloc::Global;
@@ -44,7 +45,7 @@ impl<'a, T: TextTransform, M: ContentSizes> Change<'a, T, M> {
     ) -> Result<(), TableError>
         requires { IsInside (R.cells records.now) at.row at.column }
         ensures ok { let by = self.now in OnOk result (AddsText
-            (leaves by.cell_filter (T.makes by.transform.now)
+            (for_content_size (if_taken by.cell_filter (T.makes by.transform.now))
             (M.content_size_at by.content_sizes.now) at.row at.column
             (cell_at (R.cells records.now) at.row at.column)) writer.old writer.new) }
         ensures only { IfErr result (λ e. e ≡ Memory) }
@@ -79,7 +80,7 @@ impl<'a, T: TextTransform, M: ContentSizes> Change<'a, T, M> {
         requires row_in { row < length (R.cells records.now) }
         requires empty { writer.old.begun ≡ [] }
         ensures ok { let by = self.now in OnOk result (AddsRow
-            (leaves by.cell_filter (T.makes by.transform.now)
+            (for_content_size (if_taken by.cell_filter (T.makes by.transform.now))
             (M.content_size_at by.content_sizes.now)) (R.cells records.now) row
             writer.old writer.new) }
         ensures only { IfErr result (λ e. e ≡ Memory) }
@@ -99,7 +100,8 @@ pub fn changed_records<T: TextTransform, M: ContentSizes, R: PeekableRecords>(
     records: &R,
 ) -> Result<JoinedRecords, TableError>
     ensures ok { let it = by.now in IfOk result (λ changed. AreChanged (λ row column. true)
-        (leaves it.cell_filter (T.makes it.transform.now) (M.content_size_at it.content_sizes.now))
+        (for_content_size (if_taken it.cell_filter (T.makes it.transform.now))
+        (M.content_size_at it.content_sizes.now))
         (R.cells records.now) changed) }
     ensures only { IfErr result (λ e. e ≡ Memory) }
 {

@@ -10,7 +10,9 @@ ghost use Rattle.tabled_set.specs.Narrowed.{StopsNarrowing};
 ghost use Rattle.tabled_set.specs.Truncated.{AddsEnded, Cut, HasEndedLines, NeedsNewSuffix, IsTruncated};
 ghost use Rattle.tabled_set.specs.Truncated.{IsUsed, suffix_columns, truncating_in_place};
 ghost use Rattle.tabled_set.specs.NarrowedCells.{cells_of_or};
+ghost use Rattle.tabled_set.specs.Priorities.{shrinking_to};
 ghost use Rattle.tabled_set.specs.Promised.{AfterClearing, TruncatesAsPromised};
+ghost use Rattle.tabled_set.specs.SizedTable.{sized_table};
 
 use crate::measurement::{Measurement, Width};
 use crate::narrowed_cells::{NarrowedRows, cut_rows, narrowed_records};
@@ -282,11 +284,11 @@ impl<'a, W: Measurement<Width> + Drop, P: Peaker + Drop> Truncate<'a, W, P> {
         cfg: &SpannedConfig,
         dims: &mut CompleteDimension,
     ) -> Result<Option<NarrowedRows<'r, 't>>, TableError>
-        ensures ok { let by = self.entry.transform in IfOk result (λ changed.
-            Narrows P.shrinks self.entry.priority
+        ensures ok { let by = self.entry.transform in
+            let n = W.measures self.entry.size rows.now cfg.now in
+            IfOk result (λ changed. Narrows (shrinking_to P.shrinks self.entry.priority n)
             (if_wider (truncating by.suffix.now by.limit by.multiline))
-            (W.measures self.entry.size rows.now cfg.now) rows.now cfg.now dims.old
-            (cells_of_or changed rows.now) dims.new) }
+            (sized_table rows.now cfg.now dims.old) (cells_of_or changed rows.now) dims.new) }
         ensures wider { IfOk result (λ changed. OnSome changed (MustNarrow
             (W.measures self.entry.size rows.now cfg.now) rows.now cfg.now dims.old)) }
         ensures promised { let by = self.entry.transform in
@@ -342,16 +344,19 @@ impl<'a, W: Measurement<Width> + Drop, P: Peaker + Drop, R: RecordsMut> TableOpt
     CompleteDimension,
 > for Truncate<'a, W, P> {
     ghost changes = { λ s r c d r' c' d'. let by = s.transform in
-        Narrows P.shrinks s.priority (if_wider (truncating by.suffix.now by.limit by.multiline))
-        (W.measures s.size (R.cells r) c.config) (R.cells r) c.config d (R.cells r') d'
-        × (c' ≡ c) };
+        let n = W.measures s.size (R.cells r) c.config in
+        Narrows (shrinking_to P.shrinks s.priority n)
+        (if_wider (truncating by.suffix.now by.limit by.multiline))
+        (sized_table (R.cells r) c.config d) (R.cells r') d' × (c' ≡ c) };
 
-    ghost fails = { λ s e r c d r' c' d'. let by = s.transform in (is_empty (R.cells r) ≡ false)
-        × StopsNarrowing P.shrinks s.priority
-        Wider (truncating_in_place by.suffix.now by.limit by.multiline)
-        (truncating by.suffix.now by.limit by.multiline)
-        (W.measures s.size (R.cells r) c.config) e (R.cells r) c.config d (R.cells r') d'
-        × (c' ≡ c) };
+    ghost fails = { λ s e r c d r' c' d'. let by = s.transform in
+        let n = W.measures s.size (R.cells r) c.config in
+        (is_empty (R.cells r) ≡ false) × StopsNarrowing (shrinking_to P.shrinks s.priority n)
+        (record {
+          cell_filter = Wider;
+          in_place = truncating_in_place by.suffix.now by.limit by.multiline;
+          change = truncating by.suffix.now by.limit by.multiline;
+        }) e (sized_table (R.cells r) c.config d) (R.cells r') d' × (c' ≡ c) };
 
     ghost out_of_range = { λ s r c d.
         NarrowingOutOfRange (W.out_of_range s.size (R.cells r) c.config)

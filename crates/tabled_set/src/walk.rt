@@ -3,8 +3,8 @@ ghost use Rattle.std.specs.Prelude.{◌≡◌, ◌≤◌, ◌<◌, ◌==◌, ◌
 ghost use Rattle.std.specs.Prelude.{true};
 ghost use Rattle.tabled_set.specs.Common.{columns, covers, IsInside, Memory};
 ghost use Rattle.tabled_set.specs.CellChanges.{line_of, place_of, AreChanged, AreChangedBefore};
-ghost use Rattle.tabled_set.specs.CellChanges.{ByRow, is_within, leaves, lines_in, NeedNoMemory};
-ghost use Rattle.tabled_set.specs.CellChanges.{needs, on_line, places_in};
+ghost use Rattle.tabled_set.specs.CellChanges.{ByRow, for_content_size, if_taken, is_within};
+ghost use Rattle.tabled_set.specs.CellChanges.{lines_in, NeedNoMemory, needs, on_line, places_in};
 
 use crate::resize::{Change, ContentSizes, TextTransform};
 use std::ops::Range;
@@ -75,13 +75,15 @@ fn change_line<T: TextTransform, M: ContentSizes, R: RecordsMut>(
     requires line_in { line < lines_in order (R.cells records.old) }
     requires places_in { band.now.end ≤ places_in order (R.cells records.old) }
     ensures ok { let it = by.now in OnOk result (AreChanged (on_line order line band.now)
-        (leaves it.cell_filter (T.makes it.transform.now) (M.content_size_at it.content_sizes.now))
+        (for_content_size (if_taken it.cell_filter (T.makes it.transform.now))
+        (M.content_size_at it.content_sizes.now))
         (R.cells records.old) (R.cells records.new)) }
     ensures err { let it = by.now in
         OnErr result (AreChangedBefore order (on_line order line band.now)
         (needs it.cell_filter (T.shortens it.transform.now)
         (M.content_size_at it.content_sizes.now))
-        (leaves it.cell_filter (T.makes it.transform.now) (M.content_size_at it.content_sizes.now))
+        (for_content_size (if_taken it.cell_filter (T.makes it.transform.now))
+        (M.content_size_at it.content_sizes.now))
         (R.cells records.old) (R.cells records.new)) }
     ensures only { IfErr result (λ e. e ≡ Memory) }
 {
@@ -152,12 +154,14 @@ pub(crate) fn change_cells<T: TextTransform, M: ContentSizes, R: RecordsMut>(
     entity: Entity,
 ) -> Result<(), TableError>
     ensures ok { let it = by.now in OnOk result (AreChanged (covers entity)
-        (leaves it.cell_filter (T.makes it.transform.now) (M.content_size_at it.content_sizes.now))
+        (for_content_size (if_taken it.cell_filter (T.makes it.transform.now))
+        (M.content_size_at it.content_sizes.now))
         (R.cells records.old) (R.cells records.new)) }
     ensures err { let it = by.now in OnErr result (AreChangedBefore order (covers entity)
         (needs it.cell_filter (T.shortens it.transform.now)
         (M.content_size_at it.content_sizes.now))
-        (leaves it.cell_filter (T.makes it.transform.now) (M.content_size_at it.content_sizes.now))
+        (for_content_size (if_taken it.cell_filter (T.makes it.transform.now))
+        (M.content_size_at it.content_sizes.now))
         (R.cells records.old) (R.cells records.new)) }
     ensures only { IfErr result (λ e. e ≡ Memory) }
 {

@@ -4,7 +4,9 @@ ghost use Rattle.tabled_set.specs.Common.{effective, is_empty, Memory, Range, Ro
 ghost use Rattle.tabled_set.specs.CellChanges.{never_in_place, word_wrapping, Every, Wider};
 ghost use Rattle.tabled_set.specs.Narrowed.{MustNarrow, Narrows, NarrowingOutOfRange, StopsBeforeNarrowing};
 ghost use Rattle.tabled_set.specs.Narrowed.{StopsNarrowing};
+ghost use Rattle.tabled_set.specs.Priorities.{shrinking_to};
 ghost use Rattle.tabled_set.specs.Promised.{AfterClearing, WordWrapsAsPromised};
+ghost use Rattle.tabled_set.specs.SizedTable.{sized_table};
 
 use crate::measurement::{Measurement, Width};
 use crate::narrowed_cells::narrowed_records;
@@ -95,9 +97,10 @@ impl<W: Measurement<Width> + Drop, P: Peaker + Drop> WordWrap<W, P> {
         cfg: &SpannedConfig,
         dims: &mut CompleteDimension,
     ) -> Result<Option<JoinedRecords>, TableError>
-        ensures ok { IfOk result (λ changed. Narrows P.shrinks self.priority word_wrapping
-            (W.measures self.size (R.cells records.now) cfg.now) (R.cells records.now)
-            cfg.now dims.old (unwrap_or changed (R.cells records.now)) dims.new) }
+        ensures ok { let n = W.measures self.size (R.cells records.now) cfg.now in
+            IfOk result (λ changed. Narrows (shrinking_to P.shrinks self.priority n) word_wrapping
+            (sized_table (R.cells records.now) cfg.now dims.old)
+            (unwrap_or changed (R.cells records.now)) dims.new) }
         ensures wider { IfOk result (λ changed. OnSome changed (MustNarrow
             (W.measures self.size (R.cells records.now) cfg.now)
             (R.cells records.now) cfg.now dims.old)) }
@@ -130,14 +133,14 @@ impl<W: Measurement<Width> + Drop, P: Peaker + Drop, R: RecordsMut> TableOption<
     ColoredConfig,
     CompleteDimension,
 > for WordWrap<W, P> {
-    ghost changes = { λ s r c d r' c' d'. Narrows P.shrinks s.priority word_wrapping
-        (W.measures s.size (R.cells r) c.config) (R.cells r) c.config d (R.cells r') d'
-        × (c' ≡ c) };
+    ghost changes = { λ s r c d r' c' d'. let n = W.measures s.size (R.cells r) c.config in
+        Narrows (shrinking_to P.shrinks s.priority n) word_wrapping
+        (sized_table (R.cells r) c.config d) (R.cells r') d' × (c' ≡ c) };
 
-    ghost fails = { λ s e r c d r' c' d'. (is_empty (R.cells r) ≡ false)
-        × StopsNarrowing P.shrinks s.priority Every never_in_place word_wrapping
-        (W.measures s.size (R.cells r) c.config) e (R.cells r) c.config d (R.cells r') d'
-        × (c' ≡ c) };
+    ghost fails = { λ s e r c d r' c' d'. let n = W.measures s.size (R.cells r) c.config in
+        (is_empty (R.cells r) ≡ false) × StopsNarrowing (shrinking_to P.shrinks s.priority n)
+        (record { cell_filter = Every; in_place = never_in_place; change = word_wrapping }) e
+        (sized_table (R.cells r) c.config d) (R.cells r') d' × (c' ≡ c) };
 
     ghost out_of_range = { λ s r c d.
         NarrowingOutOfRange (W.out_of_range s.size (R.cells r) c.config)

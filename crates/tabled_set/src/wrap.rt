@@ -6,7 +6,9 @@ ghost use Rattle.tabled_set.specs.CellChanges.{never_in_place, wrapping, Every, 
 ghost use Rattle.tabled_set.specs.Narrowed.{MustNarrow, Narrows, NarrowingOutOfRange, StopsBeforeNarrowing};
 ghost use Rattle.tabled_set.specs.Narrowed.{StopsNarrowing};
 ghost use Rattle.tabled_set.specs.NarrowedCells.{cells_of_or};
+ghost use Rattle.tabled_set.specs.Priorities.{shrinking_to};
 ghost use Rattle.tabled_set.specs.Promised.{AfterClearing, WrapsAsPromised};
+ghost use Rattle.tabled_set.specs.SizedTable.{sized_table};
 ghost use Rattle.tabled_text.specs.Breaking.{EachUnitFits, HasFewestLines, IsLeastBreaking};
 ghost use Rattle.tabled_text.specs.Wrapping.{IsWrapped};
 
@@ -92,10 +94,11 @@ impl<W: Measurement<Width> + Drop, P: Peaker + Drop> Wrap<W, P> {
         cfg: &SpannedConfig,
         dims: &mut CompleteDimension,
     ) -> Result<Option<JoinedRecords>, TableError>
-        ensures ok { IfOk result (λ changed. Narrows P.shrinks self.priority
+        ensures ok { let n = W.measures self.size (R.cells records.now) cfg.now in
+            IfOk result (λ changed. Narrows (shrinking_to P.shrinks self.priority n)
             (wrapping self.transform.keep_words)
-            (W.measures self.size (R.cells records.now) cfg.now) (R.cells records.now)
-            cfg.now dims.old (unwrap_or changed (R.cells records.now)) dims.new) }
+            (sized_table (R.cells records.now) cfg.now dims.old)
+            (unwrap_or changed (R.cells records.now)) dims.new) }
         ensures wider { IfOk result (λ changed. OnSome changed (MustNarrow
             (W.measures self.size (R.cells records.now) cfg.now)
             (R.cells records.now) cfg.now dims.old)) }
@@ -124,10 +127,10 @@ impl<W: Measurement<Width> + Drop, P: Peaker + Drop> Wrap<W, P> {
         cfg: &SpannedConfig,
         dims: &mut CompleteDimension,
     ) -> Result<Option<NarrowedRows<'r, 't>>, TableError>
-        ensures ok { IfOk result (λ changed. Narrows P.shrinks self.priority
+        ensures ok { let n = W.measures self.size rows.now cfg.now in
+            IfOk result (λ changed. Narrows (shrinking_to P.shrinks self.priority n)
             (wrapping self.transform.keep_words)
-            (W.measures self.size rows.now cfg.now) rows.now
-            cfg.now dims.old (cells_of_or changed rows.now) dims.new) }
+            (sized_table rows.now cfg.now dims.old) (cells_of_or changed rows.now) dims.new) }
         ensures wider { IfOk result (λ changed. OnSome changed (MustNarrow
             (W.measures self.size rows.now cfg.now) rows.now cfg.now dims.old)) }
         ensures promised { let t = effective rows.now cfg.now dims.old in
@@ -187,16 +190,17 @@ impl<W: Measurement<Width> + Drop, P: Peaker + Drop, R: RecordsMut> TableOption<
     ColoredConfig,
     CompleteDimension,
 > for Wrap<W, P> {
-    ghost changes = { λ s r c d r' c' d'.
-        Narrows P.shrinks s.priority (wrapping s.transform.keep_words)
-        (W.measures s.size (R.cells r) c.config) (R.cells r) c.config d (R.cells r') d'
-        × (c' ≡ c) };
+    ghost changes = { λ s r c d r' c' d'. let n = W.measures s.size (R.cells r) c.config in
+        Narrows (shrinking_to P.shrinks s.priority n) (wrapping s.transform.keep_words)
+        (sized_table (R.cells r) c.config d) (R.cells r') d' × (c' ≡ c) };
 
-    ghost fails = { λ s e r c d r' c' d'. (is_empty (R.cells r) ≡ false)
-        × StopsNarrowing P.shrinks s.priority
-        Every never_in_place (wrapping s.transform.keep_words)
-        (W.measures s.size (R.cells r) c.config) e (R.cells r) c.config d (R.cells r') d'
-        × (c' ≡ c) };
+    ghost fails = { λ s e r c d r' c' d'. let n = W.measures s.size (R.cells r) c.config in
+        (is_empty (R.cells r) ≡ false) × StopsNarrowing (shrinking_to P.shrinks s.priority n)
+        (record {
+          cell_filter = Every;
+          in_place = never_in_place;
+          change = wrapping s.transform.keep_words;
+        }) e (sized_table (R.cells r) c.config d) (R.cells r') d' × (c' ≡ c) };
 
     ghost out_of_range = { λ s r c d.
         NarrowingOutOfRange (W.out_of_range s.size (R.cells r) c.config)

@@ -17,6 +17,8 @@ use Rattle.tabled_set.proofs.ExactTotals.{IsNarrowed-wider, changed_empty}
 use Rattle.tabled_set.proofs.Totals.{full_total}
 use Rattle.tabled_set.specs.CellChanges.{word_wrapping}
 use Rattle.tabled_set.specs.Narrowed.{IsNarrowed}
+use Rattle.tabled_set.specs.Priorities.{shrinking_to}
+use Rattle.tabled_set.specs.SizedTable.{sized_table}
 use Rattle.tabled_size.specs.Holds.{Holds}
 use Rattle.tabled_size.specs.TextCells.{AreTexts}
 use Rattle.tabled_size.specs.Totals.{total_height}
@@ -172,7 +174,7 @@ module _ {P : Type 0} (shrinks : Shrinks P) (s : P) (laid : List Column) (header
     (gives : (old mins : List ℕ) (by : ℕ) (new : List ℕ) (t : P) → shrinks s old mins by new t → GivesToFloors (floors_of laid header (estimated cells config)) old mins by new)
     (wider : n < total_width (estimated cells config))
     (enough : total_width (estimated cells config) - n ≤ spare_total (estimated_widths cells config) (floors_of laid header (estimated cells config)))
-    (h : IsNarrowed shrinks s word_wrapping n (estimated cells config) new stored) where
+    (h : IsNarrowed (shrinking_to shrinks s n) word_wrapping (estimated cells config) new stored) where
   whole : take (length (estimated_widths cells config)) (minimums cells config) ≡ minimums cells config
   whole = whole_list (minimums cells config) (length (estimated_widths cells config)) (minimums-length cells config ∙ sym (widths_length cells config))
 
@@ -213,13 +215,14 @@ pub narrows-fitted : {P : Type 0} (shrinks : Shrinks P) (s : P) (laid : List Col
     → n < total_width (estimated cells config)
     → total_width (estimated cells config) - n ≤ spare_total (estimated_widths cells config) (floors_of laid header (estimated cells config))
     → widths_of sizes ≡ Some (estimated_widths cells config) → heights_of sizes ≡ Some (estimated_heights cells config)
-    → Narrows shrinks s word_wrapping n cells config sizes new stored → IsFitted laid header Wrap n (estimated cells config) (effective new config stored)
+    → Narrows (shrinking_to shrinks s n) word_wrapping (sized_table cells config sizes) new stored
+    → IsFitted laid header Wrap n (estimated cells config) (effective new config stored)
 narrows-fitted shrinks s laid header n cells config sizes new stored gives wider enough w h narrows =
     let same = effective-stored cells config sizes w h in
     let wide = subst (λ (u : Sheet). n < total_width u) (sym same) wider in
     let k = IsNarrowed-wider shrinks s word_wrapping n cells config sizes new stored wide narrows in
     fitted-wrapped shrinks s laid header n cells config new stored gives wider enough
-    (subst (λ (u : Sheet). IsNarrowed shrinks s word_wrapping n u new stored) same k)
+    (subst (λ (u : Sheet). IsNarrowed (shrinking_to shrinks s n) word_wrapping u new stored) same k)
 
 -- how the priority of a fitted table shrinks its columns
 abbrev pub gives-to : Shrinks AboveFloors

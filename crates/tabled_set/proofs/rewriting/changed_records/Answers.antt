@@ -1,4 +1,4 @@
-use Rattle.tabled_set.proofs.Names.{AreChanged, arith, leaves, subst, sym, true}
+use Rattle.tabled_set.proofs.Names.{AreChanged, arith, for_content_size, if_taken, subst, sym, true}
 use Rattle.tabled_set.proofs.RewrittenRecords.{rows-changed, rows-more, rows-none}
 use Rattle.tabled_set.proofs.rewriting.changed_records.Goals as goal
 
@@ -12,6 +12,7 @@ pub returns-clause-ok : goal.returns-clause-ok
 returns-clause-ok g c =
     let by = c.args.by.now in
     let cells = g.R.ExactRecords.cells c.args.records.now in
-    let change = leaves by.cell_filter (g.T.TextTransform.makes by.transform.now) (g.M.ContentSizes.content_size_at by.content_sizes.now) in
+    let made = if_taken by.cell_filter (g.T.TextTransform.makes by.transform.now) in
+    let change = for_content_size made (g.M.ContentSizes.content_size_at by.content_sizes.now) in
     subst (AreChanged (λ row column. true) change cells) (sym c.finish.ensures)
     (rows-changed change cells c.rows.row c.rows.writer (omega arith) c.rows.invariant c.count_columns-columns.ensures.rectangular)

@@ -1,5 +1,5 @@
 use Rattle.tabled_set.proofs.Names.{AreChangedBefore, Bool, List, NeedNoMemory, WalkOrder, arith, covers, err_from_is_err_and, inl, inr}
-use Rattle.tabled_set.proofs.Names.{leaves, needs, subst, ℕ, ◌≡◌, ◌⊎◌}
+use Rattle.tabled_set.proofs.Names.{for_content_size, if_taken, needs, subst, ℕ, ◌≡◌, ◌⊎◌}
 use Rattle.tabled_set.proofs.ChangingCells.{AreChanged-both, all_of, stops-later}
 use Rattle.tabled_set.specs.CellChanges.{line_of, place_of}
 use Rattle.tabled_set.proofs.walk.change_cells.Goals as goal
@@ -17,7 +17,8 @@ returns-in_err-change_line-clause-err g c =
     let sizes = g.M.ContentSizes.content_size_at by.content_sizes.now in
     let p = err_from_is_err_and c.from_residual.result c.from_residual.ensures.1 in
     rw p.1
-    (in_order (needs by.cell_filter (g.T.TextTransform.shortens by.transform.now) sizes) (leaves by.cell_filter (g.T.TextTransform.makes by.transform.now) sizes) (covers c.args.entity)
+    (in_order (needs by.cell_filter (g.T.TextTransform.shortens by.transform.now) sizes)
+    (for_content_size (if_taken by.cell_filter (g.T.TextTransform.makes by.transform.now)) sizes) (covers c.args.entity)
     c.order_for-walked.result c.args.order (g.R.ExactRecords.cells c.args.records.now) _ c.order_for-walked.ensures
     (stops-later c.order_for-walked.result bands.1 (covers c.args.entity) bands.0 c.lines.line c.lines_of_entity.ensures.cells (omega arith) (omega arith) c.lines.invariant c.in_err-change_line.ensures.err))
 

@@ -2,6 +2,8 @@ use Rattle.std.proofs.Common.{inl, arith, rules, subst, sym, unwrap_or, 鈼屸垯鈼
 use Rattle.std.proofs.lemmas.Grind.{common_steps}
 use Rattle.tabled_set.specs.CellChanges.{word_wrapping}
 use Rattle.tabled_set.specs.Narrowed.{Narrows}
+use Rattle.tabled_set.specs.Priorities.{shrinking_to}
+use Rattle.tabled_set.specs.SizedTable.{sized_table}
 use Rattle.tabled_priority.specs.Permitted.{spare_total}
 use Rattle.tabled_size.specs.Effective.{effective}
 use Rattle.tabled_size.specs.Estimates.{estimated_widths}
@@ -36,7 +38,8 @@ returns-in-Wrap-clause-ok c =
     subst (位 (by : Narrowing). IsFitted fit.columns.now fit.has_header by fit.width t (effective (unwrap_or changed cells) config after)) (sym c.in-Wrap.is)
     (narrows-fitted gives-to o.priority fit.columns.now fit.has_header fit.width cells config before (unwrap_or changed cells) after
     (位 old mins by new u h. subst (位 fs. GivesToFloors fs old mins by new) known h.0) c.requires.wider room c.requires.widths c.requires.heights
-    (subst (位 k. Narrows gives-to o.priority word_wrapping k cells config before (unwrap_or changed cells) after) size narrows)))
+    (subst (位 k. Narrows (shrinking_to gives-to o.priority k) word_wrapping (sized_table cells config before) (unwrap_or changed cells) after)
+    size narrows)))
     c.narrowed.ensures.ok
 
 pub returns-in-Wrap-clause-only : goal.returns-in-Wrap-clause-only

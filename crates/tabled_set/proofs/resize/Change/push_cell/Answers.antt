@@ -1,7 +1,7 @@
 use Rattle.tabled_set.proofs.Names.{ap, cell_at, subst, sym, true, ◌++◌, ◌∙◌, ◌≡◌}
 use Rattle.tabled_set.specs.CellChanges.{is_taken}
 use Rattle.tabled_set.specs.Truncated.{ended_text}
-use Rattle.tabled_set.proofs.RewrittenRecords.{adds-as, leaves-made}
+use Rattle.tabled_set.proofs.RewrittenRecords.{adds-as, taken-made}
 use Rattle.tabled_set.proofs.resize.Change.push_cell.Goals as goal
 
 pub returns-clause-ok : goal.returns-clause-ok
@@ -18,5 +18,5 @@ returns-clause-ok g c =
     let made = subst (λ t. makes n t (ended_text kept text)) c.get_measured-columns.ensures.text c.in-Some-beginning.ensures.made in
     adds-as c.push_ended.result _ _ _ _ c.push_ended.ensures.ok
     (λ after is.
-    leaves-made by.cell_filter makes _ n cell after (sym c.content_size.ensures ∙ c.in-Some.is) taken
+    taken-made by.cell_filter makes _ n cell after (sym c.content_size.ensures ∙ c.in-Some.is) taken
     (subst (makes n cell) (sym (is ∙ ap (λ l. l ++ ending) c.split_at.ensures.front)) made))
