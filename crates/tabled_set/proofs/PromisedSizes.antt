@@ -9,7 +9,7 @@ use Rattle.tabled_set.proofs.ChangingCells.{at-last, match-both, match-false, ma
 use Rattle.tabled_set.specs.Increased.{IncreasesWidth, IsWidened, IncreasesHeight, IsHeightened}
 use Rattle.tabled_set.proofs.NarrowingTables.{effective-filled, filled-size, effective-same}
 use Rattle.tabled_set.proofs.Totals.{short-widths, filled_height-frame, grown-sum, shrunk-total, some-lines, full_total}
-use Rattle.tabled_set.specs.Priorities.{Grows, AddsTo, shrinking_to}
+use Rattle.tabled_set.specs.Priorities.{Grows, AddsTo, growing_to, shrinking_to}
 use Rattle.tabled_set.specs.SizedTable.{sized_table}
 use Rattle.std.proofs.lemmas.List.{take_all}
 use Rattle.tabled_set.specs.Narrowed.{IsShrunkBy, IsLowered, LimitsHeight, for_height}
@@ -41,19 +41,19 @@ widths-fit cells config sizes n some lt fits =
 module _ (cells : List (List (List ℕ))) (config : SpannedConfig) (old mid : CompleteDimension) (some : is_empty cells ≡ false)
     (filled : IsFilledIn old cells config mid) {P : Type 0} (grows : Grows P) (priority : P) (n : ℕ) where
   pub wide-already : n ≤ total_width (effective cells config mid)
-      → IncreasesWidth grows priority n cells config old mid
+      → IncreasesWidth (growing_to grows priority n) (sized_table cells config old) mid
   wide-already le =
       let t = effective cells config old in
       let e = ap total_width (effective-filled cells config old mid filled) in
       let within : nat_le n (total_width t) ≡ true = le-leb n (total_width t) (omega (arith, le, e)) in
       match-false (mid ≡ old) _ some
       (match-true (IsFilledIn old cells config mid)
-      (IsWidened grows priority n cells config old mid) within filled)
+      (IsWidened (growing_to grows priority n) (sized_table cells config old) mid) within filled)
 
   pub made-wider : total_width (effective cells config mid) < n → (new : CompleteDimension) (list : List ℕ)
       → IsGrownBy grows priority (effective cells config mid).widths (n - total_width (effective cells config mid)) list
       → widths_of new ≡ Some list → heights_of new ≡ heights_of mid
-      → IncreasesWidth grows priority n cells config old new
+      → IncreasesWidth (growing_to grows priority n) (sized_table cells config old) new
   made-wider lt new list grown is_new high =
       let t = effective cells config old in
       let e = effective-filled cells config old mid filled in
@@ -88,7 +88,7 @@ module _ {P : Type 0} (s : P) (n m total : ℕ) (cells : List (List (List ℕ)))
   all = whole ∙ ap (λ c. total_height (estimated cells c)) same
 
   pub heightened : (grows : Grows P) → total < m → IsGrownBy grows s heights (m - total) list
-      → IncreasesHeight grows s n cells config old new
+      → IncreasesHeight (growing_to grows s n) (sized_table cells config old) new
   heightened grows less grown =
       let by : m - total ≡ n - total_height (estimated cells config) = ap (λ k. k - total) measured ∙ ap (λ k. n - k) all in
       let above = lt-leb n (total_height (estimated cells config)) (omega (arith, all, measured, less)) in
@@ -119,13 +119,13 @@ module _ {P : Type 0} (s : P) (n m total : ℕ) (cells : List (List (List ℕ)))
       })
 
 module _ {P : Type 0} (grows : Grows P) (s : P) (n : ℕ) (cells : List (List (List ℕ))) (config : SpannedConfig)
-    (old new left : CompleteDimension) (h : IncreasesHeight grows s n cells config old new)
+    (old new left : CompleteDimension) (h : IncreasesHeight (growing_to grows s n) (sized_table cells config old) new)
     (cleared : AreCleared None new left) where
   pub heightens : HeightensAsPromised grows s n cells config (effective cells config left)
   heightens = record {
     exact = λ adds some less.
         let total = total_height (estimated cells config) in
-        let is : IsHeightened grows s n cells config old new =
+        let is : IsHeightened (growing_to grows s n) (sized_table cells config old) new =
         at-last (is_empty cells) (nat_le n total) _ _ h some (lt-leb n total less) in
         let before = estimated_heights cells config in
         let grown = adds is.grown.last before is.heights (n - total_height (estimated cells config)) is.grown.grown in
@@ -161,7 +161,7 @@ module _ {P : Type 0} (shrinks : Shrinks P) (s : P) (n : ℕ) (cells : List (Lis
 -- ---- widths
 
 module _ {P : Type 0} (grows : Grows P) (s : P) (n : ℕ) (cells : List (List (List ℕ))) (config : SpannedConfig)
-    (old new left : CompleteDimension) (h : IncreasesWidth grows s n cells config old new)
+    (old new left : CompleteDimension) (h : IncreasesWidth (growing_to grows s n) (sized_table cells config old) new)
     (cleared : AreCleared None new left) where
   abbrev pub before : Sheet
   before = effective cells config old
@@ -170,7 +170,7 @@ module _ {P : Type 0} (grows : Grows P) (s : P) (n : ℕ) (cells : List (List (L
   after = effective cells config left
 
   abbrev pub widened : Type 0
-  widened = IsWidened grows s n cells config old new
+  widened = IsWidened (growing_to grows s n) (sized_table cells config old) new
 
   -- the widths that grew are those that stand
   grown-widths : (is : widened) → after.widths ≡ is.widths

@@ -4,7 +4,8 @@ use Rattle.tabled_set.specs.Common.{CompleteDimension, effective, estimated, est
 use Rattle.tabled_set.specs.Common.{is_stored, IsFilledIn, IsTooHigh, Memory, SpannedConfig, TableError, total_height, total_width}
 use Rattle.tabled_set.specs.Common.{widths_of}
 use Rattle.tabled_priority.specs.Grown.{IsNoneSmaller}
-use Rattle.tabled_set.specs.Priorities.{Grows}
+use Rattle.tabled_set.specs.Priorities.{Growing, Grows}
+use Rattle.tabled_set.specs.SizedTable.{SizedTable, sheet_of}
 
 -- such an error leaves the sizes unchanged. It is `Memory` only if widths or heights aren't stored
 pub record StopsFilling (error : TableError) (old new : CompleteDimension) : Type 0 where
@@ -19,23 +20,21 @@ pub record IsGrownBy {P : Type 0} (grows : Grows P) (priority : P) (old : List �
 
 -- ---- the width
 
--- a table of fewer than n columns in total: the effective widths grow by the difference and are
--- stored, and so are the effective heights
-pub record IsWidened {P : Type 0} (grows : Grows P) (priority : P) (n : ℕ) (cells : List (List (List ℕ)))
-    (config : SpannedConfig) (old new : CompleteDimension) : Type 0 where
+-- a table that is too narrow: the effective widths grow to the total and are stored, and so are the
+-- effective heights
+pub record IsWidened {P : Type 0} (how : Growing P) (old : SizedTable) (sizes : CompleteDimension) : Type 0 where
   pub widths : List ℕ
-  pub grown : IsGrownBy grows priority (effective cells config old).widths (n - total_width (effective cells config old)) widths
-  pub stored : widths_of new ≡ Some widths
-  pub heights : heights_of new ≡ Some (unwrap_or (heights_of old) (estimated_heights cells config))
+  pub grown : IsGrownBy how.grows how.priority (sheet_of old).widths (how.total - total_width (sheet_of old)) widths
+  pub stored : widths_of sizes ≡ Some widths
+  pub heights : heights_of sizes ≡ Some (unwrap_or (heights_of old.sizes) (estimated_heights old.cells old.config))
 
--- the sizes after a table was widened to at least n columns: unchanged if the table is empty,
+-- the sizes after a table was widened to at least the total: unchanged if the table is empty,
 -- filled in if it was wide enough, else widened
-abbrev pub IncreasesWidth : {P : Type 0} → Grows P → P → ℕ → List (List (List ℕ)) → SpannedConfig → CompleteDimension
-    → CompleteDimension → Type 0
-IncreasesWidth grows priority n cells config old new =
-    MatchBool (is_empty cells) (new ≡ old)
-    (MatchBool (nat_le n (total_width (effective cells config old))) (IsFilledIn old cells config new)
-    (IsWidened grows priority n cells config old new))
+abbrev pub IncreasesWidth : {P : Type 0} → Growing P → SizedTable → CompleteDimension → Type 0
+IncreasesWidth how old sizes =
+    MatchBool (is_empty old.cells) (sizes ≡ old.sizes)
+    (MatchBool (nat_le how.total (total_width (sheet_of old))) (IsFilledIn old.sizes old.cells old.config sizes)
+    (IsWidened how old sizes))
 
 -- an error after sizes were filled in. It is `Memory` only if the table has fewer than n columns
 pub record StopsWidening (n : ℕ) (error : TableError) (cells : List (List (List ℕ))) (config : SpannedConfig)
@@ -54,23 +53,22 @@ WidthOutOfRange measure_out_of_range cells config sizes =
 
 -- ---- the height, for which stored heights don't count
 
--- a table of fewer than n lines in total: the estimated heights grow by the difference and are
--- stored, and the widths don't change
-pub record IsHeightened {P : Type 0} (grows : Grows P) (priority : P) (n : ℕ) (cells : List (List (List ℕ)))
-    (config : SpannedConfig) (old new : CompleteDimension) : Type 0 where
+-- a table that is too low: the estimated heights grow to the total and are stored, and the widths
+-- don't change
+pub record IsHeightened {P : Type 0} (how : Growing P) (old : SizedTable) (sizes : CompleteDimension) : Type 0 where
   pub heights : List ℕ
-  pub grown : IsGrownBy grows priority (estimated_heights cells config) (n - total_height (estimated cells config)) heights
-  pub stored : heights_of new ≡ Some heights
-  pub widths : widths_of new ≡ widths_of old
+  pub grown : IsGrownBy how.grows how.priority (estimated_heights old.cells old.config)
+      (how.total - total_height (estimated old.cells old.config)) heights
+  pub stored : heights_of sizes ≡ Some heights
+  pub widths : widths_of sizes ≡ widths_of old.sizes
 
--- the sizes after a table was grown to at least n lines: unchanged if the table is empty or was
+-- the sizes after a table was grown to at least the total: unchanged if the table is empty or was
 -- high enough, else heightened
-abbrev pub IncreasesHeight : {P : Type 0} → Grows P → P → ℕ → List (List (List ℕ)) → SpannedConfig → CompleteDimension
-    → CompleteDimension → Type 0
-IncreasesHeight grows priority n cells config old new =
-    MatchBool (is_empty cells) (new ≡ old)
-    (MatchBool (nat_le n (total_height (estimated cells config))) (new ≡ old)
-    (IsHeightened grows priority n cells config old new))
+abbrev pub IncreasesHeight : {P : Type 0} → Growing P → SizedTable → CompleteDimension → Type 0
+IncreasesHeight how old sizes =
+    MatchBool (is_empty old.cells) (sizes ≡ old.sizes)
+    (MatchBool (nat_le how.total (total_height (estimated old.cells old.config))) (sizes ≡ old.sizes)
+    (IsHeightened how old sizes))
 
 -- a sum overflows `usize`: in the measurement, in an estimate, or the total
 abbrev pub HeightOutOfRange : Type 0 → List (List (List ℕ)) → SpannedConfig → Type 0

@@ -22,6 +22,15 @@ pub record Shrinking (P : Type 0) : Type 1 where
 abbrev pub shrinking_to : {P : Type 0} → Shrinks P → P → ℕ → Shrinking P
 shrinking_to shrinks priority total = record { shrinks = shrinks; priority = priority; total = total }
 
+-- how they grow to a total
+pub record Growing (P : Type 0) : Type 1 where
+  pub grows : Grows P
+  pub priority : P
+  pub total : ℕ
+
+abbrev pub growing_to : {P : Type 0} → Grows P → P → ℕ → Growing P
+growing_to grows priority total = record { grows = grows; priority = priority; total = total }
+
 -- shrinking takes the whole amount, or as much as the minimums allow, as with the five priorities
 abbrev pub TakesFrom : {P : Type 0} → Shrinks P → P → Type 0
 TakesFrom {P} shrinks s = (last : P) (old mins new : List ℕ) (by : ℕ) → shrinks s old mins by new last → IsTakenFrom old mins by new

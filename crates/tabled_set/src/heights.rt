@@ -4,7 +4,7 @@ ghost use Rattle.std.specs.Prelude.{◌≡◌, None, Some, false};
 ghost use Rattle.tabled_set.specs.Common.{at, effective, estimated, is_empty};
 ghost use Rattle.tabled_set.specs.Increased.{HeightOutOfRange, IncreasesHeight};
 ghost use Rattle.tabled_set.specs.Narrowed.{LimitsHeight, StopsLimiting};
-ghost use Rattle.tabled_set.specs.Priorities.{shrinking_to};
+ghost use Rattle.tabled_set.specs.Priorities.{growing_to, shrinking_to};
 ghost use Rattle.tabled_set.specs.Promised.{AfterClearing, HeightensAsPromised, LimitsAsPromised};
 ghost use Rattle.tabled_set.specs.SizedTable.{sized_table};
 ghost use Rattle.tabled_set.specs.TextLines.{lengthening, limiting};
@@ -66,9 +66,9 @@ impl<W: Measurement<Height> + Drop, P: Peaker + Drop, R: PeekableRecords> TableO
     ColoredConfig,
     CompleteDimension,
 > for TableHeightIncrease<W, P> {
-    ghost changes = { λ s r c d r' c' d'. IncreasesHeight P.grows s.priority
-        (W.measures s.size (R.cells r) c.config) (R.cells r) c.config d d'
-        × ((r' ≡ r) × (c' ≡ c)) };
+    ghost changes = { λ s r c d r' c' d'. let n = W.measures s.size (R.cells r) c.config in
+        IncreasesHeight (growing_to P.grows s.priority n)
+        (sized_table (R.cells r) c.config d) d' × ((r' ≡ r) × (c' ≡ c)) };
 
     ghost fails = { λ s e r c d r' c' d'. (is_empty (R.cells r) ≡ false)
         × ((r' ≡ r) × ((c' ≡ c) × (d' ≡ d))) };

@@ -5,7 +5,9 @@ ghost use Rattle.tabled_set.specs.CellChanges.{ChangesEntity, Narrower, NotAsWid
 ghost use Rattle.tabled_set.specs.CellChanges.{if_taken, never_in_place};
 ghost use Rattle.tabled_set.specs.Common.{Global, Memory, Range, effective, is_empty};
 ghost use Rattle.tabled_set.specs.Increased.{IncreasesWidth, StopsIncreasing, WidthOutOfRange};
+ghost use Rattle.tabled_set.specs.Priorities.{growing_to};
 ghost use Rattle.tabled_set.specs.Promised.{AfterClearing, WidensAsPromised};
+ghost use Rattle.tabled_set.specs.SizedTable.{sized_table};
 ghost use Rattle.tabled_set.specs.TextLines.{IsJustified, filling};
 
 use crate::measurement::{Max, Measurement, Min, Width};
@@ -85,9 +87,9 @@ fn increase_width<W: Measurement<Width> + Drop, P: Peaker + Drop, R: PeekableRec
     config: &SpannedConfig,
     sizes: &mut CompleteDimension,
 ) -> Result<(), TableError>
-    ensures ok { OnOk result (IncreasesWidth P.grows option.priority
-        (W.measures option.size (R.cells records.now) config.now)
-        (R.cells records.now) config.now sizes.old sizes.new) }
+    ensures ok { let n = W.measures option.size (R.cells records.now) config.now in
+        OnOk result (IncreasesWidth (growing_to P.grows option.priority n)
+        (sized_table (R.cells records.now) config.now sizes.old) sizes.new) }
     ensures err { IfErr result (λ e. (is_empty (R.cells records.now) ≡ false)
         × StopsIncreasing (W.measures option.size (R.cells records.now) config.now) e
         (R.cells records.now) config.now sizes.old sizes.new) }
@@ -119,9 +121,9 @@ impl<W: Measurement<Width> + Drop, P: Peaker + Drop, R: PeekableRecords> TableOp
     ColoredConfig,
     CompleteDimension,
 > for MinWidth<W, P> {
-    ghost changes = { λ s r c d r' c' d'. IncreasesWidth P.grows s.priority
-        (W.measures s.size (R.cells r) c.config) (R.cells r) c.config d d'
-        × ((r' ≡ r) × (c' ≡ c)) };
+    ghost changes = { λ s r c d r' c' d'. let n = W.measures s.size (R.cells r) c.config in
+        IncreasesWidth (growing_to P.grows s.priority n)
+        (sized_table (R.cells r) c.config d) d' × ((r' ≡ r) × (c' ≡ c)) };
 
     ghost fails = { λ s e r c d r' c' d'. (is_empty (R.cells r) ≡ false)
         × StopsIncreasing (W.measures s.size (R.cells r) c.config) e (R.cells r) c.config d d'
