@@ -33,7 +33,7 @@ none-wanted n w h =
 
 -- no row is wanted
 pub prints-nothing : (t : CompactSheet) (w : Window) (comes : List (List (List ℕ)) → Bool → Type 0) (a : Sent) → comes [] false
-    → (t.count ≡ 0) ⊎ IsSpent w → IsPrinted t w comes a a
+    → (t.count ≡ 0) ⊎ IsSpent w → IsPrinted (record { sheet = t; window = w; comes = comes }) a a
 prints-nothing t w comes a came h =
     let none : shown_rows t.count w [] ≡ [] = either (t.count == 0) [] (in_window w []) (window-none w [] (omega arith)) in
     record {
@@ -72,7 +72,8 @@ module _ (t : CompactSheet) (w : Window) (comes : List (List (List ℕ)) → Boo
 
   -- the sink refused in the rows
   pub prints-stopped : {T U : Type 0} (r : Result T TableError) (e : TableError) (new : Sent) (b : Bool) → IsPrintableCompact t
-      → PutsRows {T = U} t w old (Err e) new b rows whole → IsErrAnd r (λ d. d ≡ e) → PrintsCompact t w comes old r new
+      → PutsRows {T = U} t w old (Err e) new b rows whole → IsErrAnd r (λ d. d ≡ e)
+      → PrintsCompact (record { sheet = t; window = w; comes = comes }) old r new
   prints-stopped (Ok x) e new b fine put i = absurd i
   prints-stopped (Err d) e new b fine put i =
       let P : Bool → TableError → Type 0 = λ none k. StopsInRow (λ rs. rows_text t (if none then [] else in_window w rs)) rows old k new in
@@ -90,7 +91,7 @@ module _ (t : CompactSheet) (w : Window) (comes : List (List (List ℕ)) → Boo
       → PutsRows {T = U} t w old (Ok x) mid m rows whole → WritesLines mid m r new n (if m then tail_lines t else [])
       → OnErr r (m ≡ true) → m ≡ has_rows (in_window w rows)
       → compact_lines t (in_window w rows) ≡ rows_lines t (in_window w rows) ++ (if m then tail_lines t else [])
-      → PrintsCompact t w comes old r new
+      → PrintsCompact (record { sheet = t; window = w; comes = comes }) old r new
   ended (Ok y) x mid m new n fine put ends failed any all = record {
     rows = rows;
     whole = whole;
@@ -121,7 +122,7 @@ module _ (t : CompactSheet) (w : Window) (comes : List (List (List ℕ)) → Boo
   -- the rows were put, and then what stands below them
   pub prints-ended : {T U : Type 0} (r : Result T TableError) (x : U) (mid : Sent) (m : Bool) (new : Sent) (n : Bool) → IsPrintableCompact t
       → PutsRows {T = U} t w old (Ok x) mid m rows whole → WritesLines mid m r new n (if m then tail_lines t else [])
-      → OnErr r (m ≡ true) → PrintsCompact t w comes old r new
+      → OnErr r (m ≡ true) → PrintsCompact (record { sheet = t; window = w; comes = comes }) old r new
   prints-ended r x mid m new n fine put ends failed =
       let any : m ≡ has_rows (in_window w rows) = put.lines.after ∙ begun-rows t (in_window w rows) in
       ended r x mid m new n fine put ends failed any
@@ -130,7 +131,7 @@ module _ (t : CompactSheet) (w : Window) (comes : List (List (List ℕ)) → Boo
   -- the table can't be printed
   pub prints-refused : {T : Type 0} (error : TableError) (r : Result T TableError)
       → MatchResult r (λ _. (length rows ≤ w.skip) × (whole ≡ true)) (λ e. (length rows ≡ w.skip + 1) × (e ≡ error))
-      → (IsSpent w → ⊥) → FailsToPrintCompact t error → PrintsCompact t w comes old r old
+      → (IsSpent w → ⊥) → FailsToPrintCompact t error → PrintsCompact (record { sheet = t; window = w; comes = comes }) old r old
   prints-refused error (Ok x) found still cause =
       let none = all-shown ∙ window-none w rows found.0 in
       let few = found.0 in

@@ -3,7 +3,8 @@ use Rattle.tabled_compact.proofs.Names.{Bool, CompactSheet, Err, List, Ok, Optio
 use Rattle.std.specs.Iterator.{Count}
 use Rattle.tabled_base.specs.RowsGiven.{RowsBegin, RowsEnd}
 use Rattle.tabled_records.specs.Reading.{MayGive, ReadsTo}
-use Rattle.tabled_compact.specs.Shown.{Came, Taken}
+use Rattle.tabled_compact.specs.Printed.{CompactSource}
+use Rattle.tabled_compact.specs.Shown.{Came, RowTaking, Taken}
 
 module _ {V S W T : Type 0} {rows_become : V → S → Type 0} {can_row : S → Type 0} {row_steps : S → Option W → S → Type 0} {rows_left : S → Count}
     {cells_become : W → T → Type 0} {can_cell : T → Type 0} {cells_left : T → Count} where
@@ -12,10 +13,10 @@ module _ {V S W T : Type 0} {rows_become : V → S → Type 0} {can_row : S → 
   may-give {rows} {it} h made = record { can = (h.all it made).0; ends = (h.all it made).1; each = h.each it made }
 
 -- what is printed of other rows
-prints-so : {T : Type 0} (t : CompactSheet) (w : Window) (comes comes' : List (List (List ℕ)) → Bool → Type 0) (old new : Sent) (r : Result T TableError)
-    → ((rows : List (List (List ℕ))) (whole : Bool) → comes rows whole → comes' rows whole) → PrintsCompact t w comes old r new
-    → PrintsCompact t w comes' old r new
-prints-so t w comes comes' old new (Ok x) so p = record {
+prints-so : {T : Type 0} (from : CompactSource) (comes' : List (List (List ℕ)) → Bool → Type 0) (old new : Sent) (r : Result T TableError)
+    → ((rows : List (List (List ℕ))) (whole : Bool) → from.comes rows whole → comes' rows whole) → PrintsCompact from old r new
+    → PrintsCompact (record { sheet = from.sheet; window = from.window; comes = comes' }) old r new
+prints-so from comes' old new (Ok x) so p = record {
   rows = p.rows;
   whole = p.whole;
   came = so p.rows p.whole p.came;
@@ -24,7 +25,7 @@ prints-so t w comes comes' old new (Ok x) so p = record {
   printable = p.printable;
   sends = p.sends;
 }
-prints-so t w comes comes' old new (Err e) so p = record {
+prints-so from comes' old new (Err e) so p = record {
   rows = p.rows;
   whole = p.whole;
   came = so p.rows p.whole p.came;
@@ -51,8 +52,13 @@ module _ {V S W T A : Type 0} {rows_become : V → S → Type 0} {row_steps : S 
 
   -- what is printed of the iterator is printed of the source
   pub prints-source : {R : Type 0} (t : CompactSheet) (w : Window) (text : A → List ℕ) (to : S) (old new : Sent) (r : Result R TableError)
-      → PrintsCompact t w (Taken row_steps cells_become cell_steps text it to) old r new
-      → PrintsCompact t w (Came begins text) old r new
+      → PrintsCompact (record {
+        sheet = t;
+        window = w;
+        comes = Taken (record { row_steps = row_steps; cells_become = cells_become; cell_steps = cell_steps; text = text }) it to;
+      }) old r new
+      → PrintsCompact (record { sheet = t; window = w; comes = Came begins text }) old r new
   prints-source t w text to old new r p =
-      prints-so t w (Taken row_steps cells_become cell_steps text it to) (Came begins text) old new r
+      let by : RowTaking S W T A = record { row_steps = row_steps; cells_become = cells_become; cell_steps = cell_steps; text = text } in
+      prints-so (record { sheet = t; window = w; comes = Taken by it to }) (Came begins text) old new r
       (λ read whole h. (h.0, begins-of h.0 whole h.1, h.2)) p

@@ -24,16 +24,23 @@ pub record IsPrintableCompact (t : CompactSheet) : Type 0 where
   pub sized : t.count ≤ length t.widths
   pub in_range : compact_width t < 2 ^ 64
 
+-- a compact table that is printed while its rows are read: its sheet, the window of the rows that
+-- are shown, and which first rows may come from its source, with whether these are all
+pub record CompactSource : Type 1 where
+  pub sheet : CompactSheet
+  pub window : Window
+  pub comes : List (List (List ℕ)) → Bool → Type 0
+
 -- on `Ok`: the text of the rows that were read was written, and the source has no more rows or no
 -- more are wanted; a table that shows a row can be printed
-pub record IsPrinted (t : CompactSheet) (w : Window) (comes : List (List (List ℕ)) → Bool → Type 0) (old new : Sent) : Type 0 where
+pub record IsPrinted (from : CompactSource) (old new : Sent) : Type 0 where
   pub rows : List (List (List ℕ))
   pub whole : Bool
-  pub came : comes rows whole
-  pub taken : AreWanted t.count w rows
-  pub enough : AreEnough t.count w rows whole
-  pub printable : (shown_rows t.count w rows ≡ []) ⊎ IsPrintableCompact t
-  pub sends : Sends old new (compact_text t (shown_rows t.count w rows))
+  pub came : from.comes rows whole
+  pub taken : AreWanted from.sheet.count from.window rows
+  pub enough : AreEnough from.sheet.count from.window rows whole
+  pub printable : (shown_rows from.sheet.count from.window rows ≡ []) ⊎ IsPrintableCompact from.sheet
+  pub sends : Sends old new (compact_text from.sheet (shown_rows from.sheet.count from.window rows))
 
 -- an error before the first byte: the first row that is shown was read, and the table can't be
 -- printed
@@ -76,25 +83,24 @@ pub record StopsPrinting (read : CompactRead) (old : Sent) (error : TableError) 
       ⊎ StopsAtEnd read old error new
 
 -- on `Err`: a row is shown, and one of these holds
-pub record IsEnded (t : CompactSheet) (w : Window) (comes : List (List (List ℕ)) → Bool → Type 0) (old : Sent) (error : TableError) (new : Sent) : Type 0 where
+pub record IsEnded (from : CompactSource) (old : Sent) (error : TableError) (new : Sent) : Type 0 where
   pub rows : List (List (List ℕ))
   pub whole : Bool
-  pub came : comes rows whole
-  pub taken : AreWanted t.count w rows
-  pub filled : has_rows (shown_rows t.count w rows) ≡ true
-  pub ends : FailsEarly t w rows old error new
-      ⊎ StopsPrinting (record { sheet = t; window = w; rows = rows; whole = whole }) old error new
+  pub came : from.comes rows whole
+  pub taken : AreWanted from.sheet.count from.window rows
+  pub filled : has_rows (shown_rows from.sheet.count from.window rows) ≡ true
+  pub ends : FailsEarly from.sheet from.window rows old error new
+      ⊎ StopsPrinting (record { sheet = from.sheet; window = from.window; rows = rows; whole = whole }) old error new
 
 -- what a call that prints a compact table leaves
-abbrev pub PrintsCompact : {T : Type 0} → CompactSheet → Window → (List (List (List ℕ)) → Bool → Type 0) → Sent → Result T TableError → Sent → Type 0
-PrintsCompact t w comes old (Ok _) new = IsPrinted t w comes old new
-PrintsCompact t w comes old (Err error) new = IsEnded t w comes old error new
+abbrev pub PrintsCompact : {T : Type 0} → CompactSource → Sent → Result T TableError → Sent → Type 0
+PrintsCompact from old (Ok _) new = IsPrinted from old new
+PrintsCompact from old (Err error) new = IsEnded from old error new
 
 -- what such a call leaves in the writer that it prints to
-abbrev pub BuildsCompact : {T : Type 0} → CompactSheet → Window → (List (List (List ℕ)) → Bool → Type 0)
-    → Option (List ℕ) → Result T TableError → Option (List ℕ) → Type 0
-BuildsCompact t w comes old result new =
-    (byte : ℕ) × PrintsCompact t w comes (writer_before old) result (writer_after result (known_since old new) byte)
+abbrev pub BuildsCompact : {T : Type 0} → CompactSource → Option (List ℕ) → Result T TableError → Option (List ℕ) → Type 0
+BuildsCompact from old result new =
+    (byte : ℕ) × PrintsCompact from (writer_before old) result (writer_after result (known_since old new) byte)
 
 -- ---- Of private steps: no public call promises this.
 

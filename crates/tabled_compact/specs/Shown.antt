@@ -59,9 +59,16 @@ limit_left (Some limit) taken = Some (limit - taken)
 abbrev pub window_after : Window → ℕ → Window
 window_after w rows = record { skip = w.skip - rows; limit = limit_left w.limit (rows - w.skip) }
 
+-- how rows are taken from an iterator: its steps, which iterator of cells a row becomes, the steps
+-- of that one, and the text of a cell
+pub record RowTaking (S W T A : Type 0) : Type 1 where
+  pub row_steps : S → Option W → S → Type 0
+  pub cells_become : W → T → Type 0
+  pub cell_steps : T → Option A → T → Type 0
+  pub text : A → List ℕ
+
 -- the cells of the rows that an iterator gave from one of its states to another: exactly these rows
 -- were taken, and none after them; and whether it then had no more
-abbrev pub Taken : {S W T A : Type 0} → (S → Option W → S → Type 0) → (W → T → Type 0) → (T → Option A → T → Type 0)
-    → (A → List ℕ) → S → S → List (List (List ℕ)) → Bool → Type 0
-Taken {A = A} row_steps cells_become cell_steps text old new rows whole =
-    (cells : List (List A)) × ReadsTo row_steps cells_become cell_steps old cells whole new × (rows ≡ map (map text) cells)
+abbrev pub Taken : {S W T A : Type 0} → RowTaking S W T A → S → S → List (List (List ℕ)) → Bool → Type 0
+Taken {A = A} by old new rows whole =
+    (cells : List (List A)) × ReadsTo by.row_steps by.cells_become by.cell_steps old cells whole new × (rows ≡ map (map by.text) cells)

@@ -65,8 +65,11 @@ pub fn print_compact<I: IntoRecords, D: Dimension, S: TextSink>(
 where
     I::Cell: CellText + Drop,
     requires { I.ends records }
-    ensures { PrintsCompact (sheet_by config.now (D.width_at dimension.now) columns) window
-        (Came (I.begins records) I.Cell.text) (S.sent sink.old) result (S.sent sink.new) }
+    ensures { PrintsCompact (record {
+      sheet = sheet_by config.now (D.width_at dimension.now) columns;
+      window = window;
+      comes = Came (I.begins records) I.Cell.text;
+    }) (S.sent sink.old) result (S.sent sink.new) }
 {
     let wanted = Wanted {
         config,
@@ -98,11 +101,17 @@ impl<'a, D: Dimension> Wanted<'a, D> {
     >(&self, sink: &mut S, rows: &mut I) -> Result<(), TableError>
         requires { MayGive I.can_next I.next_gives I.remaining
             W.into_iter_gives W.IntoIter.can_next W.IntoIter.remaining rows.old }
-        ensures { PrintsCompact
-            (sheet_by self.now.config.now (D.width_at self.now.dimension.now) self.now.columns)
-            self.now.window
-            (Taken I.next_gives W.into_iter_gives W.IntoIter.next_gives C.text rows.old rows.new)
-            (S.sent sink.old) result (S.sent sink.new) }
+        ensures { PrintsCompact (record {
+          sheet = sheet_by self.now.config.now (D.width_at self.now.dimension.now)
+              self.now.columns;
+          window = self.now.window;
+          comes = Taken (record {
+            row_steps = I.next_gives;
+            cells_become = W.into_iter_gives;
+            cell_steps = W.IntoIter.next_gives;
+            text = C.text;
+          }) rows.old rows.new;
+        }) (S.sent sink.old) result (S.sent sink.new) }
     {
         if self.columns == 0 || self.window.is_spent() {
             return Ok(());
@@ -319,9 +328,16 @@ impl<'a, D: Dimension> RowPrinter<'a, D> {
         requires begun { self.old.lines.begun ≡ false }
         requires columns { self.old.lines.columns.count ≡ 0 → ⊥ }
         requires printable { IsPrintableCompact self.old.lines.columns }
-        ensures { PrintsCompact self.old.lines.columns window
-            (Taken I.next_gives W.into_iter_gives W.IntoIter.next_gives C.text rows.old rows.new)
-            (S.sent sink.old) result (S.sent sink.new) }
+        ensures { PrintsCompact (record {
+          sheet = self.old.lines.columns;
+          window = window;
+          comes = Taken (record {
+            row_steps = I.next_gives;
+            cells_become = W.into_iter_gives;
+            cell_steps = W.IntoIter.next_gives;
+            text = C.text;
+          }) rows.old rows.new;
+        }) (S.sent sink.old) result (S.sent sink.new) }
     {
         self.print_wanted_rows(sink, rows, window)?;
         self.write_tail(sink)

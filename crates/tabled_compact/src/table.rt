@@ -241,8 +241,11 @@ where
     /// Every later error is the sink's.
     pub fn fmt<S: TextSink>(self, sink: &mut S) -> Result<(), TableError>
         requires { I.ends self.records }
-        ensures { PrintsCompact (sheet_of D.width_at self) self.window
-            (Came (I.begins self.records) I.Cell.text) (S.sent sink.old) result (S.sent sink.new) }
+        ensures { PrintsCompact (record {
+          sheet = sheet_of D.width_at self;
+          window = self.window;
+          comes = Came (I.begins self.records) I.Cell.text;
+        }) (S.sent sink.old) result (S.sent sink.new) }
     {
         let (config, dimension) = (self.config, self.dimension);
         print_compact(
@@ -263,9 +266,11 @@ where
     /// Nothing is written after that.
     pub fn build<W: Write>(self, writer: &mut W) -> Result<(), TableError>
         requires { I.ends self.records }
-        ensures { BuildsCompact (sheet_of D.width_at self) self.window
-            (Came (I.begins self.records) I.Cell.text)
-            (W.contents writer.old) result (W.contents writer.new) }
+        ensures { BuildsCompact (record {
+          sheet = sheet_of D.width_at self;
+          window = self.window;
+          comes = Came (I.begins self.records) I.Cell.text;
+        }) (W.contents writer.old) result (W.contents writer.new) }
     {
         let mut sink = WriterSink::new(writer);
         let result = self.fmt(&mut sink);
@@ -279,14 +284,18 @@ where
     /// `Memory`.
     pub fn to_string(self, alloc: Global) -> Result<String, TableError>
         requires { I.ends self.records }
-        ensures ok { IfOk result (λ text. IsPrinted (sheet_of D.width_at self) self.window
-            (Came (I.begins self.records) I.Cell.text)
-            (record { bytes = Some []; failures = 0; grows = true })
+        ensures ok { IfOk result (λ text. IsPrinted (record {
+          sheet = sheet_of D.width_at self;
+          window = self.window;
+          comes = Came (I.begins self.records) I.Cell.text;
+        }) (record { bytes = Some []; failures = 0; grows = true })
             (record { bytes = Some (string_bytes text); failures = 0; grows = true })) }
         ensures err { IfErr result (λ e. (new : Sent)
-            × IsEnded (sheet_of D.width_at self) self.window
-            (Came (I.begins self.records) I.Cell.text)
-            (record { bytes = Some []; failures = 0; grows = true }) e new × (new.failures ≡ 0)) }
+            × IsEnded (record {
+              sheet = sheet_of D.width_at self;
+              window = self.window;
+              comes = Came (I.begins self.records) I.Cell.text;
+            }) (record { bytes = Some []; failures = 0; grows = true }) e new × (new.failures ≡ 0)) }
     {
         let mut text = String::new(alloc);
         self.fmt(&mut text)?;
