@@ -10,12 +10,17 @@ use Rattle.tabled_line.specs.Leading.{LineStops, WritesLines}
 use Rattle.std.specs.Prelude.{IsErrAnd}
 use Rattle.tabled_line.specs.Sent.{Sent, Sends}
 use Rattle.tabled_line.proofs.Leading.{lines-none, lines-text}
-use Rattle.tabled_extended.specs.PrintedRecords.{EndsBefore, EndsWithin, IsTooWide, PrintsAll, PrintsRecord, PrintsRecords, RecordSheet}
+use Rattle.tabled_extended.specs.PrintedRecords.{EndsBefore, EndsWithin, IsTooWide, OneRecord, PrintsAll, PrintsRecord}
+use Rattle.tabled_extended.specs.PrintedRecords.{PrintsRecords, RecordSheet}
 use Rattle.tabled_extended.specs.RecordLines.{AreRecordLines, text_of}
 
 -- the lines of the record at an index, under a label
 abbrev pub lines_at : RecordSheet → ℕ → List ℕ → List (List ℕ)
 lines_at sheet n label = record_lines (widest sheet.fields) (widest_value sheet.records) sheet.fields label (get_or sheet.records n [])
+
+-- the record at an index
+abbrev pub record_at : RecordSheet → ℕ → OneRecord
+record_at sheet n = record { labels = sheet.labels n; fails = sheet.fails n; lines = lines_at sheet n }
 
 -- the first records are printed
 pub record PrintedSoFar (sheet : RecordSheet) (count : ℕ) (old : Sent) (begun : Bool) (new : Sent) (begun' : Bool) : Type 0 where
@@ -76,7 +81,7 @@ so_far-all {sheet} {n} {a} {b} {q} h e = record {
 
 pub so_far-stopped : {sheet : RecordSheet} {n : ℕ} {a b c : Sent} {q : Bool}
     (r : Bool) (e : TableError) → PrintedSoFar sheet n a false b q → n < length sheet.records
-    → PrintsRecord {T = Unit {0}} (sheet.labels n) (sheet.fails n) (lines_at sheet n) b q (Err e) c r
+    → PrintsRecord (record_at sheet n) b q (Err e) c r
     → EndsBefore sheet a e c ⊎ EndsWithin sheet a e c
 so_far-stopped {sheet} {n} {a} {b} {c} {q} r e h l (inl w) =
     let s : Sends a b (text_of h.parts) = lines-text {T = Unit {0}} a b q (Ok tt) (flat_map (λ lines. lines) h.parts) h.sends in
@@ -102,19 +107,18 @@ so_far-stopped {sheet} {n} {a} {b} {c} {q} r e h l (inr w) =
       stops = lines-text {T = Unit {0}} a c r (Err e) (flat_map (λ lines. lines) (h.parts ++ last ∷ [])) stops;
     })
 
-pub record-printed : (answers : List ℕ → Type 0) (refused : Type 0) (lines : List ℕ → List (List ℕ)) (a b : Sent) (p q : Bool) (r : Result (Unit {0}) TableError)
-    (label : List ℕ) (printed : List (List ℕ)) → answers label → WritesLines a p r b q printed → printed ≡ lines label
-    → PrintsRecord answers refused lines a p r b q
-record-printed answers refused lines a b p q (Ok x) label printed g h e = (label, g, subst (λ l. LineSends a p b q l) e h)
-record-printed answers refused lines a b p q (Err d) label printed g h e = inr (label, g, subst (λ l. LineStops a p d b l) e h)
+pub record-printed : (one : OneRecord) (a b : Sent) (p q : Bool) (r : Result (Unit {0}) TableError)
+    (label : List ℕ) (printed : List (List ℕ)) → one.labels label → WritesLines a p r b q printed → printed ≡ one.lines label
+    → PrintsRecord one a p r b q
+record-printed one a b p q (Ok x) label printed g h e = (label, g, subst (λ l. LineSends a p b q l) e h)
+record-printed one a b p q (Err d) label printed g h e = inr (label, g, subst (λ l. LineStops a p d b l) e h)
 
 pub records-stopped : {sheet : RecordSheet} {n : ℕ} {a b c : Sent} {q : Bool}
     (r : Bool) (res : Result (Unit {0}) TableError) (e : TableError) → PrintedSoFar sheet n a false b q
     → n < length sheet.records → (IsTooWide sheet.fields sheet.records → ⊥)
-    → PrintsRecord {T = Unit {0}} (sheet.labels n) (sheet.fails n)
-    (λ label. record_lines (widest sheet.fields) (widest_value sheet.records) sheet.fields label (get_or sheet.records n [])) b q (Err e) c r
+    → PrintsRecord (record_at sheet n) b q (Err e) c r
     → IsErrAnd res (λ d. d ≡ e) → PrintsRecords sheet a res c
 records-stopped r (Ok x) e h l w k i = absurd i
 records-stopped {sheet} {n} {a} {b} {c} {q} r (Err d) e h l w k i =
-    let P : TableError → Type 0 = λ x. PrintsRecord {T = Unit {0}} (sheet.labels n) (sheet.fails n) (lines_at sheet n) b q (Err x) c r in
+    let P : TableError → Type 0 = λ x. PrintsRecord (record_at sheet n) b q (Err x) c r in
     inr (w, so_far-stopped r d h l (subst P (sym i) k))

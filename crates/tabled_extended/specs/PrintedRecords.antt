@@ -65,10 +65,16 @@ PrintsRecords sheet old (Err e) new =
 
 -- ---- Of private steps: no public call promises this.
 
+-- one record that is printed: which labels it may have, whether the template may fail for it, and
+-- its lines under a label
+pub record OneRecord : Type 1 where
+  pub labels : List ℕ → Type 0
+  pub fails : Type 0
+  pub lines : List ℕ → List (List ℕ)
+
 -- the lines of one record with a label of the template, or nothing if the template failed where it
 -- may
-abbrev pub PrintsRecord : {T : Type 0} → (List ℕ → Type 0) → Type 0 → (List ℕ → List (List ℕ)) → Sent → Bool → Result T TableError → Sent
-    → Bool → Type 0
-PrintsRecord answers refused lines old begun (Ok _) new begun' = (label : List ℕ) × answers label × LineSends old begun new begun' (lines label)
-PrintsRecord answers refused lines old begun (Err e) new begun' =
-    ((e ≡ Memory) × refused × (new ≡ old)) ⊎ ((label : List ℕ) × answers label × LineStops old begun e new (lines label))
+abbrev pub PrintsRecord : OneRecord → Sent → Bool → Result (Unit {0}) TableError → Sent → Bool → Type 0
+PrintsRecord one old begun (Ok _) new begun' = (label : List ℕ) × one.labels label × LineSends old begun new begun' (one.lines label)
+PrintsRecord one old begun (Err e) new begun' =
+    ((e ≡ Memory) × one.fails × (new ≡ old)) ⊎ ((label : List ℕ) × one.labels label × LineStops old begun e new (one.lines label))

@@ -193,10 +193,12 @@ fn write_record<F: Template, S: TextSink>(
     index: usize,
 ) -> Result<(), TableError>
     requires { index < length table.now.records.items }
-    ensures { PrintsRecord (F.answers table.now.template index) (F.fails table.now.template index)
-        (λ label. record_lines widths.field widths.value table.now.fields.items label
-        (slice_index_or (row_texts table.now.records.items) index []))
-        (S.sent sink.old) begun.old result (S.sent sink.new) begun.new }
+    ensures { PrintsRecord (record {
+      labels = F.answers table.now.template index;
+      fails = F.fails table.now.template index;
+      lines = λ label. record_lines widths.field widths.value table.now.fields.items label
+          (slice_index_or (row_texts table.now.records.items) index []);
+    }) (S.sent sink.old) begun.old result (S.sent sink.new) begun.new }
 {
     let label = table.template.label(*table.fields.allocator(), index)?;
     write_header(sink, begun, widths, label.as_str())?;
