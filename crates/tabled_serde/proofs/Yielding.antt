@@ -15,7 +15,7 @@ use Rattle.tabled_base.proofs.LengthenedRows.{lengthened_rows-more}
 use Rattle.tabled_base.specs.Cells.{lengthened_rows, with_record}
 use Rattle.tabled_serde.specs.Reader.{bytes_of}
 use Rattle.tabled_serde.specs.Errors.{IsValueError}
-use Rattle.tabled_serde.specs.RowErrors.{FailsAfter, IsRowError, IsSourceError, at_value}
+use Rattle.tabled_serde.specs.RowErrors.{FailsAfter, IsRowError, IsSourceError, ValueSource, at_value}
 use Rattle.tabled_serde.specs.RowSteps.{GivesHeader, TakesValue, row_steps}
 use Rattle.tabled_serde.specs.Rows.{AreRows, HasFields, IsRowOf}
 use Rattle.tabled_serde.specs.declared.error.RowError.{RowError}
@@ -190,38 +190,44 @@ module _ {S T : Type 0} (steps : S → Option T → S → Type 0) (writes : T �
       → Drains steps start so_far.items × AreRows writes none so_far.items so_far.rows
   all-given start s t built so_far h = ended start s t built s.header s.first so_far so_far.given h
 
+  -- a source of these values
+  abbrev pub source_of : {U : Type 0} → (U → S → Type 0) → U → ValueSource U S T
+  source_of becomes source = record { source = source; becomes = becomes; steps = steps; writes = writes; own = own; none = none }
+
   -- the value that fails, after those that have rows
-  fails-next : (items : List T) (rows : List (List (List ℕ))) (value : T) (e : RowError) (header : Option (Vec (String Global) Global))
+  fails-next : {U : Type 0} (becomes : U → S → Type 0) (source : U)
+      (items : List T) (rows : List (List (List ℕ))) (value : T) (e : RowError) (header : Option (Vec (String Global) Global))
       → RowsGiven items rows header None
       → MatchOption header (IsValueError writes own none value e) (λ header. IsRowError writes own none (bytes_of header) value e)
-      → FailsAfter writes own none items value e
-  fails-next items rows value e None g h = subst (λ i. FailsAfter writes own none i value e) (sym g.0) h
-  fails-next items rows value e (Some header) g h =
-      subst (λ i. FailsAfter writes own none i value e) (sym g.4) (bytes_of header, g.2, g.3, g.6, g.7, h)
+      → FailsAfter (source_of becomes source) items value e
+  fails-next becomes source items rows value e None g h = subst (λ i. FailsAfter (source_of becomes source) i value e) (sym g.0) h
+  fails-next becomes source items rows value e (Some header) g h =
+      subst (λ i. FailsAfter (source_of becomes source) i value e) (sym g.4) (bytes_of header, g.2, g.3, g.6, g.7, h)
 
-  failed_at : (start : S) (s t : ValueRows S) (e : RowError) (built : List (List (List ℕ))) (first : Option (Vec (String Global) Global))
+  failed_at : {U : Type 0} (becomes : U → S → Type 0) (source : U)
+      (start : S) (s t : ValueRows S) (e : RowError) (built : List (List (List ℕ))) (first : Option (Vec (String Global) Global))
       → (so_far : SoFar start s built) → RowsGiven so_far.items so_far.rows s.header first
       → MatchOption first (TakesValue steps writes own s (Err e) t)
       (λ cells. (◌≡◌ {A = Option (Result (Vec (String Global) Global) RowError)} (Some (Err e)) (Some (Ok cells))) × (t ≡ record s { first = None }))
       → (items : List T) × (value : T) × (rest : S) × Yields steps start items s.values × steps s.values (Some value) rest
-      × FailsAfter writes own none items value e
-  failed_at start s t e built (Some first) so_far g h = absurd (cc h.0)
-  failed_at start s t e built None so_far g h = (
+      × FailsAfter (source_of becomes source) items value e
+  failed_at becomes source start s t e built (Some first) so_far g h = absurd (cc h.0)
+  failed_at becomes source start s t e built None so_far g h = (
     so_far.items,
     h.value,
     h.rest,
     so_far.yielded,
     h.came,
-    fails-next so_far.items so_far.rows h.value e s.header g
+    fails-next becomes source so_far.items so_far.rows h.value e s.header g
         (subst (λ n. MatchOption s.header (IsValueError writes own n h.value e) (λ header. IsRowError writes own n (bytes_of header) h.value e))
         so_far.none_is h.gives.1),
   )
 
   pub at-failure : {U : Type 0} (becomes : U → S → Type 0) (source : U) (start : S) (s t : ValueRows S) (e : RowError) (built : List (List (List ℕ)))
       → becomes source start → SoFar start s built → row_steps steps writes own s (Some (Err e)) t
-      → IsSourceError (record { source = source; becomes = becomes; steps = steps; writes = writes; own = own; none = none }) e
+      → IsSourceError (source_of becomes source) e
   at-failure becomes source start s t e built made so_far h =
-      let found = failed_at start s t e built s.first so_far so_far.given h in
+      let found = failed_at becomes source start s t e built s.first so_far so_far.given h in
       at_value e (record {
         start = start;
         reached = s.values;

@@ -41,13 +41,6 @@ pub data IsRowError {T : Type 0} (writes : T → Option (List Event) → Option 
   of_columns : (names cells : List (List ℕ)) (e : RowError) → HasFields writes none value names cells → IsColumnError header names e
       → IsRowError writes own none header value e
 
--- an error of the value that follows these. They have rows, below the names of the first
-abbrev pub FailsAfter : {T : Type 0} → (T → Option (List Event) → Option (List Event) → Type 0) → (T → List ℕ → List ℕ → Type 0)
-    → List ℕ → List T → T → RowError → Type 0
-FailsAfter writes own none [] value e = IsValueError writes own none value e
-FailsAfter writes own none (first ∷ values) value e = (names cells : List (List ℕ)) × (later : List (List (List ℕ)))
-    × HasFields writes none first names cells × AllZip (IsRowOf writes none names) values later × IsRowError writes own none names value e
-
 -- a source of values: `becomes` says which iterator is made of it, `steps` how that goes on,
 -- `writes` which events a value writes, `own` which errors are its own, and `none` is the text of a
 -- `None`
@@ -59,6 +52,13 @@ pub record ValueSource (U S T : Type 0) : Type 1 where
   pub own : T → List ℕ → List ℕ → Type 0
   pub none : List ℕ
 
+-- an error of the value that follows these. They have rows, below the names of the first
+abbrev pub FailsAfter : {U S T : Type 0} → ValueSource U S T → List T → T → RowError → Type 0
+FailsAfter from [] value e = IsValueError from.writes from.own from.none value e
+FailsAfter from (first ∷ values) value e = (names cells : List (List ℕ)) × (later : List (List (List ℕ)))
+    × HasFields from.writes from.none first names cells × AllZip (IsRowOf from.writes from.none names) values later
+    × IsRowError from.writes from.own from.none names value e
+
 -- the source yields these values and then one that fails
 pub record FailsAtNext {U S T : Type 0} (from : ValueSource U S T) (e : RowError) : Type 0 where
   pub start : S
@@ -69,7 +69,7 @@ pub record FailsAtNext {U S T : Type 0} (from : ValueSource U S T) (e : RowError
   pub made : from.becomes from.source start
   pub yielded : Yields from.steps start values reached
   pub next : from.steps reached (Some value) rest
-  pub fails : FailsAfter from.writes from.own from.none values value e
+  pub fails : FailsAfter from values value e
 
 -- an error of the rows of a source: an allocation failed, or one of its values has no row
 pub data IsSourceError {U S T : Type 0} (from : ValueSource U S T) : RowError → Type 0 where
