@@ -108,3 +108,8 @@ pub record StopsModifying (m : Modification) (error : TableError)
 pub record ModifyingFails (m : Modification) (error : TableError) (old new : Table) : Type 0 where
   pub parts : StopsModifying m error old.records old.config new.records new.config
   pub cleared : AreNone new.dimension
+
+-- a modification of a table can fail with this error. This is the cause of the error alone: which
+-- table is left is said of the table itself
+abbrev pub CanFail : Modification → Table → TableError → Type 0
+CanFail m table error = (left : Table) × ModifyingFails m error table left

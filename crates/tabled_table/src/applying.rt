@@ -4,8 +4,8 @@ ghost use Rattle.std.specs.Borrow.{RestsIfErr, sem};
 ghost use Rattle.tabled_base.specs.Cells.{columns};
 ghost use Rattle.tabled_base.specs.declared.error.TableError.TheVariants.{Memory, Range};
 ghost use Rattle.tabled_table.specs.Applied.{ChangesEach, FailsAt, FailsBy, IsApplied, IsModified};
-ghost use Rattle.tabled_table.specs.Applied.{StopsAtPart, ModifyingFails, StopsModifying, kept_config};
-ghost use Rattle.tabled_table.specs.Applied.{named_in};
+ghost use Rattle.tabled_table.specs.Applied.{CanFail, StopsAtPart, ModifyingFails, StopsModifying};
+ghost use Rattle.tabled_table.specs.Applied.{kept_config, named_in};
 ghost use Rattle.tabled_table.specs.declared.table.Table.{Table};
 
 use crate::table::Table;
@@ -131,13 +131,13 @@ impl Table {
         ensures same_reference { IfOk result (λ table. table.ghost_name ≡ self.entry.ghost_name) }
         ensures ok { IfOk result (λ table. IsModified (O.changes option)
             (named_in self.old (T.picks target)) (O.hint option) self.old table.now) }
-        ensures err { IfErr result (λ e. (left : Table) × ModifyingFails (record {
+        ensures cause { IfErr result (λ e. CanFail (record {
           is_undone = O.is_undone option;
           changes = O.changes option;
           fails = O.fails option;
           out_of_range = O.out_of_range option;
           entities = named_in self.old (T.picks target);
-        }) e self.old left) }
+        }) self.old e) }
         ensures only { IfErr result (λ e. (e ≡ Memory) ⊎ (e ≡ Range)) }
     {
         match self.apply_own(target, option) {

@@ -238,10 +238,16 @@ where
     /// with no line feed after them.
     pub fn fmt<S: TextSink>(self, alloc: Global, sink: &mut S) -> Result<(), TableError>
         requires { I.ends self.records }
-        ensures printed { PrintsStream self.settings self.config
-            (Came (I.begins self.records) I.Cell.text) (S.sent sink.old) result (S.sent sink.new) }
-        ensures alike { OnOk result (PrintsLikeTable self.settings self.config
-            (Came (I.begins self.records) I.Cell.text) (S.sent sink.old) (S.sent sink.new)) }
+        ensures printed { PrintsStream (record {
+          settings = self.settings;
+          config = self.config;
+          comes = Came (I.begins self.records) I.Cell.text;
+        }) (S.sent sink.old) result (S.sent sink.new) }
+        ensures alike { OnOk result (PrintsLikeTable (record {
+          settings = self.settings;
+          config = self.config;
+          comes = Came (I.begins self.records) I.Cell.text;
+        }) (S.sent sink.old) (S.sent sink.new)) }
     {
         let (config, settings) = (self.config, self.settings);
         let mut rows = self.records.iter_rows().into_iter();
@@ -256,9 +262,11 @@ where
     /// written. Nothing is written after that.
     pub fn build<W: Write>(self, alloc: Global, writer: &mut W) -> Result<(), TableError>
         requires { I.ends self.records }
-        ensures { BuildsStream self.settings self.config
-            (Came (I.begins self.records) I.Cell.text) (W.contents writer.old) result
-            (W.contents writer.new) }
+        ensures { BuildsStream (record {
+          settings = self.settings;
+          config = self.config;
+          comes = Came (I.begins self.records) I.Cell.text;
+        }) (W.contents writer.old) result (W.contents writer.new) }
     {
         let mut sink = WriterSink::new(writer);
         let result = self.fmt(alloc, &mut sink);
@@ -272,9 +280,11 @@ where
     /// `Memory`.
     pub fn to_string(self, alloc: Global) -> Result<String, TableError>
         requires { I.ends self.records }
-        ensures { (new : Sent) × PrintsStream self.settings self.config
-            (Came (I.begins self.records) I.Cell.text)
-            (record { bytes = Some []; failures = 0; grows = true }) result new
+        ensures { (new : Sent) × PrintsStream (record {
+          settings = self.settings;
+          config = self.config;
+          comes = Came (I.begins self.records) I.Cell.text;
+        }) (record { bytes = Some []; failures = 0; grows = true }) result new
             × (new.failures ≡ 0) × IfOk result (λ text. new.bytes ≡ Some (string_bytes text)) }
     {
         let mut text = String::new(alloc);

@@ -39,9 +39,12 @@ where
         (λ s. I.remaining s.rows) R.into_iter_gives R.IntoIter.can_next R.IntoIter.remaining
         rows }
     ensures { (config : CompactConfig) × IsStyled style config
-        × PrintsStream (stream_settings measured) config
-        (Came (AreBeforeError I.next_gives R.into_iter_gives R.IntoIter.next_gives rows
-        result.1) R.Item.text) (S.sent sink.old) result.0 (S.sent sink.new) }
+        × PrintsStream (record {
+          settings = stream_settings measured;
+          config = config;
+          comes = Came (AreBeforeError I.next_gives R.into_iter_gives R.IntoIter.next_gives rows
+              result.1) R.Item.text;
+        }) (S.sent sink.old) result.0 (S.sent sink.new) }
 {
     let mut table = IterTable::new(rows);
     table.sniff(measured);

@@ -14,6 +14,7 @@ use Rattle.tabled_size.specs.Estimates.{needed_height, row_height}
 use Rattle.tabled_size.specs.Sheet.{estimated}
 use Rattle.tabled_size.proofs.Greatest.{greatest_below, greatest_ge, greatest_more}
 use Rattle.tabled_table.specs.Stream.LikeTable.{AreMeasured, IsLikeTable, PrintsLikeTable}
+use Rattle.tabled_table.specs.Stream.Streams.{StreamSource}
 use Rattle.tabled_table.proofs.Stream.Marked.{cut_cell-kept, exact-whole}
 use Rattle.tabled_table.proofs.Stream.Measures.{greatest-next}
 
@@ -205,10 +206,10 @@ module _ {settings : StreamSettings} {rows : List (List (List ℕ))} (a : IsLike
       let some = a.measured.has_column in
       absurd (omega arith)
 
-pub like_printed : {R : Type 0} {settings : StreamSettings} {config : CompactConfig} {comes : List (List (List ℕ)) → Bool → Type 0} {old new : Sent}
-    (r : Result R TableError) → PrintsStream settings config comes old r new → OnOk r (PrintsLikeTable settings config comes old new)
+pub like_printed : {R : Type 0} {from : StreamSource} {old new : Sent} (r : Result R TableError) → PrintsStream from old r new
+    → OnOk r (PrintsLikeTable from old new)
 like_printed (Err e) p = tt
-like_printed {config = config} {old = old} {new} (Ok x) p =
+like_printed {from = from} {old = old} {new} (Ok x) p =
     let s = p.streams in
     record {
       rows = p.rows;
@@ -217,5 +218,5 @@ like_printed {config = config} {old = old} {new} (Ok x) p =
       enough = s.enough;
       alike = λ a.
           let P : Sheet → Type 0 = λ t. Sends old new (table_text t) in
-          (all-came a p.whole s.enough, subst P (like_table a config s.sheet s.streamed.streamed) s.sends);
+          (all-came a p.whole s.enough, subst P (like_table a from.config s.sheet s.streamed.streamed) s.sends);
     }

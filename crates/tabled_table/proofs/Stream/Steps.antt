@@ -197,8 +197,8 @@ module _ {settings : StreamSettings} {config : CompactConfig} {ahead_rows shown 
 
 pub next-put : {R : Type 0} (r : Result R TableError) (layout : Layout) (first first' begun begun' : Bool) (old new : Sent) (height lines : ℕ)
     (row cut : List (List ℕ)) → IsMarkedRow layout.mark (content_at layout) layout.count row (lengthened layout.count cut)
-    → PutsCut layout (rule_of layout first) height cut old begun r new begun' → OnOk r (first' ≡ false)
-    → height ≡ padded layout lines → height < 2 ^ 64 → PutsNext lines row layout first old begun r first' new begun'
+    → PutsCut (record { layout = layout; rule = rule_of layout first; height = height; cells = cut }) old begun r new begun'
+    → OnOk r (first' ≡ false) → height ≡ padded layout lines → height < 2 ^ 64 → PutsNext lines row layout first old begun r first' new begun'
 next-put (Ok x) layout first first' begun begun' old new height lines row cut c (inl m) f e b settings config ahead_rows shown start p h = absurd m.0
 next-put (Ok x) layout first first' begun begun' old new height lines row cut c (inr w) f e b settings config ahead_rows shown start p h =
     let P : Bool → Type 0 = λ v. HasPut settings config ahead_rows (shown ++ row ∷ []) start layout v new begun' in

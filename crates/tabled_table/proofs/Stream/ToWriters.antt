@@ -6,7 +6,7 @@ use Rattle.tabled_base.specs.declared.error.TableError.TheVariants.{Writer}
 use Rattle.tabled_line.specs.WriterSent.{named_sent}
 use Rattle.tabled_line.proofs.Below.{below-so}
 use Rattle.tabled_line.proofs.Writers.{LeavesSo, byte_of, writer-leaves, writer-sends}
-use Rattle.tabled_table.specs.Stream.Streams.{BuildsStream, StopsAtEnd, StopsAtRow, StopsBeforeStreaming, StopsInRows, Came}
+use Rattle.tabled_table.specs.Stream.Streams.{BuildsStream, StopsAtEnd, StopsAtRow, StopsBeforeStreaming, StopsInRows, StreamSource, Came}
 use Rattle.tabled_table.proofs.Stream.FirstRows.{read_of}
 use Rattle.std.specs.declared.option.Option.{Option}
 use Rattle.std.specs.Iterator.{Count}
@@ -47,11 +47,11 @@ stops-so {a} {b} {a'} {b'} {e} stream so h =
     ⊎_elim (λ p. inl (early p)) (λ q. inr (⊎_elim (λ p. inl (at_row p)) (λ r. inr (⊎_elim (λ p. inl (in_rows p)) (λ p. inr (at_end p)) r)) q)) h
 
 -- what the sink of a borrowed writer was sent, the writer took, if it is the one that is known in the end
-pub prints-written : (settings : StreamSettings) (config : CompactConfig) (comes : List (List (List ℕ)) → Bool → Type 0)
-    (na nb : ℕ) (ca cb cf : Option (List ℕ)) (failed_at : Option ℕ) (r : Result (Unit {0}) TableError) → (nb ≡ na → cf ≡ cb)
-    → PrintsStream settings config comes (named_sent na ca None) r (named_sent nb cb failed_at)
-    → BuildsStream settings config comes ca r cf
-prints-written settings config comes na nb ca cb cf failed_at (Ok x) k p = (
+pub prints-written : (from : StreamSource) (na nb : ℕ) (ca cb cf : Option (List ℕ)) (failed_at : Option ℕ)
+    (r : Result (Unit {0}) TableError) → (nb ≡ na → cf ≡ cb)
+    → PrintsStream from (named_sent na ca None) r (named_sent nb cb failed_at)
+    → BuildsStream from ca r cf
+prints-written from na nb ca cb cf failed_at (Ok x) k p = (
   0,
   record {
     rows = p.rows;
@@ -66,14 +66,14 @@ prints-written settings config comes na nb ca cb cf failed_at (Ok x) k p = (
     };
   },
 )
-prints-written settings config comes na nb ca cb cf failed_at (Err e) k p = (
+prints-written from na nb ca cb cf failed_at (Err e) k p = (
   byte_of failed_at,
   record {
     rows = p.rows;
     whole = p.whole;
     came = p.came;
     permitted = p.permitted;
-    streams = stops-so (read_of settings config p.rows p.whole) (writer-leaves na nb ca cb cf failed_at e k) p.streams;
+    streams = stops-so (read_of from.settings from.config p.rows p.whole) (writer-leaves na nb ca cb cf failed_at e k) p.streams;
   },
 )
 
@@ -102,7 +102,8 @@ module _ {V S W T A : Type 0} {rows_become : V → S → Type 0} {row_steps : S 
 -- what is printed of a source, by the cells that are read of it first
 pub prints-stream : {T A : Type 0} {settings : StreamSettings} {config : CompactConfig} {begins : List (List A) → Bool → Type 0} {text : A → List ℕ}
     {old new : Sent} {r : Result T TableError} (cells : List (List A)) (whole : Bool) → begins cells whole → ArePermitted settings (map (map text) cells)
-    → Streams (read_of settings config (map (map text) cells) whole) old r new → PrintsStream settings config (Came begins text) old r new
+    → Streams (read_of settings config (map (map text) cells) whole) old r new
+    → PrintsStream (record { settings = settings; config = config; comes = Came begins text }) old r new
 prints-stream {text = text} cells whole begun permitted streams = record {
   rows = map (map text) cells;
   whole = whole;

@@ -3,13 +3,12 @@ use Rattle.std.specs.Prelude.{◌≡◌, ℕ, ◌<◌, ◌≤◌, Bool, true, Li
 use Rattle.std.specs.List.{All}
 use Rattle.tabled_text.specs.Exact.{IsExactLine}
 use Rattle.tabled_base.specs.Cells.{IsRectangular, columns}
-use Rattle.tabled_config.specs.declared.compact.CompactConfig.{CompactConfig}
 use Rattle.tabled_config.specs.Spanned.{spanned_of_compact}
 use Rattle.tabled_line.specs.Sent.{Sent, Sends}
 use Rattle.tabled_grid.specs.Picture.{table_text}
 use Rattle.tabled_size.specs.Sheet.{estimated}
 use Rattle.tabled_table.specs.declared.iter_table.settings.StreamSettings.{StreamSettings}
-use Rattle.tabled_table.specs.Stream.Streams.{AreEnough}
+use Rattle.tabled_table.specs.Stream.Streams.{AreEnough, StreamSource}
 
 -- all rows are measured: there is a row and a column, the rows are equally long, all are read
 -- ahead, and the numbers of columns and rows and the sizes aren't set
@@ -31,10 +30,10 @@ pub record IsLikeTable (settings : StreamSettings) (cells : List (List (List ℕ
 -- what a call that prints a source leaves: some rows were read first, as many as were needed; if
 -- their stream is like a table, they are all, and the text of the table with estimated sizes was
 -- written
-pub record PrintsLikeTable (settings : StreamSettings) (config : CompactConfig) (comes : List (List (List ℕ)) → Bool → Type 0)
-    (old new : Sent) : Type 0 where
+pub record PrintsLikeTable (from : StreamSource) (old new : Sent) : Type 0 where
   pub rows : List (List (List ℕ))
   pub whole : Bool
-  pub came : comes rows whole
-  pub enough : AreEnough settings rows whole
-  pub alike : IsLikeTable settings rows → (whole ≡ true) × Sends old new (table_text (estimated rows (spanned_of_compact config)))
+  pub came : from.comes rows whole
+  pub enough : AreEnough from.settings rows whole
+  pub alike : IsLikeTable from.settings rows
+      → (whole ≡ true) × Sends old new (table_text (estimated rows (spanned_of_compact from.config)))

@@ -74,9 +74,20 @@ record_lines layout rule height cells = rule_if (layout_columns layout) rule ++ 
 abbrev pub rule_of : Layout → Bool → Option HorizontalLine
 rule_of layout first = if first then layout.top else layout.inner
 
+-- a row of cut cells, with the horizontal line above it
+pub record CutCells : Type 0 where
+  pub layout : Layout
+  pub rule : Option HorizontalLine
+  pub height : ℕ
+  pub cells : List (List ℕ)
+
+-- the lines of such a row: missing cells are empty
+abbrev pub cut_lines : CutCells → List (List ℕ)
+cut_lines row = record_lines row.layout row.rule row.height (lengthened row.layout.count row.cells)
+
 -- a row of cut cells was written; or an allocation failed before its first byte, or the sink failed
 -- in its lines
-abbrev pub PutsCut : {R : Type 0} → Layout → Option HorizontalLine → ℕ → List (List ℕ) → Sent → Bool → Result R TableError → Sent → Bool → Type 0
-PutsCut layout rule height cut old begun r new begun' =
-    (IsErrAnd r (λ e. e ≡ Memory) × (new ≡ old) × (begun' ≡ begun))
-    ⊎ WritesLines old begun r new begun' (record_lines layout rule height (lengthened layout.count cut))
+abbrev pub PutsCut : {R : Type 0} → CutCells → Sent → Bool → Result R TableError → Sent → Bool → Type 0
+PutsCut row old begun result new begun' =
+    (IsErrAnd result (λ e. e ≡ Memory) × (new ≡ old) × (begun' ≡ begun))
+    ⊎ WritesLines old begun result new begun' (cut_lines row)

@@ -143,18 +143,23 @@ Streams stream old (Err error) new = StreamStops stream old error new
 abbrev pub Came : {A : Type 0} → (List (List A) → Bool → Type 0) → (A → List ℕ) → List (List (List ℕ)) → Bool → Type 0
 Came {A} begins text rows whole = (cells : List (List A)) × begins cells whole × (rows ≡ map (map text) cells)
 
+-- a stream that is printed while its rows are read: its settings, and which first rows may come
+-- from its source, with whether these are all
+pub record StreamSource : Type 1 where
+  pub settings : StreamSettings
+  pub config : CompactConfig
+  pub comes : List (List (List ℕ)) → Bool → Type 0
+
 -- what a call that prints a source leaves: some rows were read first, as many as were needed, and
 -- `streams` says what was written of them
-pub record PrintsStream {T : Type 0} (settings : StreamSettings) (config : CompactConfig) (comes : List (List (List ℕ)) → Bool → Type 0)
-    (old : Sent) (result : Result T TableError) (new : Sent) : Type 0 where
+pub record PrintsStream {T : Type 0} (from : StreamSource) (old : Sent) (result : Result T TableError) (new : Sent) : Type 0 where
   pub rows : List (List (List ℕ))
   pub whole : Bool
-  pub came : comes rows whole
-  pub permitted : ArePermitted settings rows
-  pub streams : Streams (record { settings = settings; config = config; rows = rows; whole = whole }) old result new
+  pub came : from.comes rows whole
+  pub permitted : ArePermitted from.settings rows
+  pub streams : Streams (record { settings = from.settings; config = from.config; rows = rows; whole = whole }) old result new
 
 -- what such a call leaves in the writer that it prints to
-abbrev pub BuildsStream : {T : Type 0} → StreamSettings → CompactConfig → (List (List (List ℕ)) → Bool → Type 0)
-    → Option (List ℕ) → Result T TableError → Option (List ℕ) → Type 0
-BuildsStream settings config comes old result new =
-    (byte : ℕ) × PrintsStream settings config comes (writer_before old) result (writer_after result (known_since old new) byte)
+abbrev pub BuildsStream : {T : Type 0} → StreamSource → Option (List ℕ) → Result T TableError → Option (List ℕ) → Type 0
+BuildsStream from old result new =
+    (byte : ℕ) × PrintsStream from (writer_before old) result (writer_after result (known_since old new) byte)

@@ -40,10 +40,13 @@ impl<'a> Stream<'a> {
         row: &CutRow<'c, C>,
     ) -> Result<(), TableError>
         requires { row.now.layout.now ≡ self.old.lines.columns.layout.now }
-        ensures printed { PutsCut row.now.layout.now
-            (rule_of row.now.layout.now self.old.first) row.now.height
-            (map C.text row.now.cells.now) (S.sent sink.old)
-            self.old.lines.begun result (S.sent sink.new) self.new.lines.begun }
+        ensures printed { PutsCut (record {
+          layout = row.now.layout.now;
+          rule = rule_of row.now.layout.now self.old.first;
+          height = row.now.height;
+          cells = map C.text row.now.cells.now;
+        }) (S.sent sink.old) self.old.lines.begun result
+            (S.sent sink.new) self.new.lines.begun }
         ensures same { self.new.lines.columns ≡ self.old.lines.columns }
         ensures first { OnOk result (self.new.first ≡ false) }
     {

@@ -31,12 +31,18 @@ where
         requires { MayGive (can_try I.can_next) (try_steps I.next_gives)
             (λ s. I.remaining s.rows) R.into_iter_gives R.IntoIter.can_next R.IntoIter.remaining
             self.records }
-        ensures printed { PrintsStream self.settings self.config
-            (Came (AreBeforeError I.next_gives R.into_iter_gives R.IntoIter.next_gives self.records
-            result.1) R.Item.text) (S.sent sink.old) result.0 (S.sent sink.new) }
-        ensures alike { OnOk result.0 (PrintsLikeTable self.settings self.config
-            (Came (AreBeforeError I.next_gives R.into_iter_gives R.IntoIter.next_gives self.records
-            result.1) R.Item.text) (S.sent sink.old) (S.sent sink.new)) }
+        ensures printed { PrintsStream (record {
+          settings = self.settings;
+          config = self.config;
+          comes = Came (AreBeforeError I.next_gives R.into_iter_gives R.IntoIter.next_gives
+              self.records result.1) R.Item.text;
+        }) (S.sent sink.old) result.0 (S.sent sink.new) }
+        ensures alike { OnOk result.0 (PrintsLikeTable (record {
+          settings = self.settings;
+          config = self.config;
+          comes = Came (AreBeforeError I.next_gives R.into_iter_gives R.IntoIter.next_gives
+              self.records result.1) R.Item.text;
+        }) (S.sent sink.old) (S.sent sink.new)) }
     {
         let (config, settings) = (self.config, self.settings);
         let mut rows = self.records;
@@ -56,10 +62,12 @@ where
         requires { MayGive (can_try I.can_next) (try_steps I.next_gives)
             (λ s. I.remaining s.rows) R.into_iter_gives R.IntoIter.can_next R.IntoIter.remaining
             self.records }
-        ensures { BuildsStream self.settings self.config
-            (Came (AreBeforeError I.next_gives R.into_iter_gives R.IntoIter.next_gives self.records
-            result.1) R.Item.text) (W.contents writer.old) result.0
-            (W.contents writer.new) }
+        ensures { BuildsStream (record {
+          settings = self.settings;
+          config = self.config;
+          comes = Came (AreBeforeError I.next_gives R.into_iter_gives R.IntoIter.next_gives
+              self.records result.1) R.Item.text;
+        }) (W.contents writer.old) result.0 (W.contents writer.new) }
     {
         let mut sink = WriterSink::new(writer);
         let result = self.try_fmt(alloc, &mut sink);
