@@ -18,11 +18,11 @@ keeps_at laid column = slice_index_or (map (λ c. c.keeps) laid) column false
 abbrev pub is_name : Bool → ℕ → Bool
 is_name header row = header && (row == 0)
 
--- the columns that a cell wants at least: for the longest word of a name, for the whole text in a
--- column that keeps its width, else for the longest word, but no more than a few
+-- the columns that a cell wants at least: for the whole text in a column that keeps its width,
+-- unless it is the name; else for the longest word, but no more than a few
 abbrev pub cell_floor : Bool → Bool → List ℕ → ℕ
 cell_floor name keeps text =
-    if name then longest_word text else (if keeps then text_columns text else min WORD_COLUMNS (longest_word text))
+    if name then min WORD_COLUMNS (longest_word text) else (if keeps then text_columns text else min WORD_COLUMNS (longest_word text))
 
 -- the columns that the cells of a column want at least: the greatest number, or 1
 unfoldable pub content_floor : Bool → Bool → List (List (List ℕ)) → ℕ → ℕ

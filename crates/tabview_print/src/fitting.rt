@@ -34,8 +34,8 @@ const MARK: &str = "…";
 
 /// Prints rows as a table, and returns whether it could. A table that is wider than the layout's
 /// width is fitted to it, exactly: columns that don't keep their width give, the widest first, and
-/// each keeps its longest word up to 10 columns, and that of its name. If even that is too wide,
-/// nothing is printed.
+/// each keeps its longest word up to 10 columns, in its name too. If even that is too wide, nothing
+/// is printed.
 ///
 /// Errors: `Memory` or `Range` before anything is sent; `Range` if a total passes `usize::MAX`. Or
 /// those of printing, as of `print_standing`.

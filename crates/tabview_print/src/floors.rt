@@ -142,14 +142,14 @@ fn is_name(has_header: bool, row: usize) -> bool
     has_header && row == 0
 }
 
-/// Returns the columns that a cell wants at least: for the longest word of a name, for the whole
-/// text in a column that keeps its width, else for the longest word, but no more than a few.
+/// Returns the columns that a cell wants at least: for the whole text in a column that keeps its
+/// width, unless it is the name; else for the longest word, but no more than a few.
 fn cell_floor(text: &str, columns: usize, name: bool, keeps: bool) -> usize
     requires { columns ≡ text_columns text.now }
     ensures { result ≡ cell_floor name keeps text.now }
 {
     if name {
-        longest_word(text)
+        longest_word(text).min(WORD_COLUMNS)
     } else if keeps {
         columns
     } else {
