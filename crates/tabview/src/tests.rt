@@ -2,6 +2,7 @@
 
 mod databases;
 mod lines;
+mod records;
 
 use std::test::Fail;
 use tabview_options::{Options, command};
@@ -122,7 +123,7 @@ static WIDTHS: [Run; 7] = [
     Run {
         words: &["tabview", "-w", "16"],
         input: "id,remark\n1234567890,go\n",
-        shown: "-[ RECORD 1 ]--\nid     | 12345…\nremark | go\n",
+        shown: "-[ RECORD 1 ]---\nid     | 1234567\n       | 890\nremark | go\n",
     },
     // a later cell is wider
     Run {

@@ -175,7 +175,8 @@ pub(crate) static SHOWING: [Described; 9] = [
         letter: Some('w'),
         takes: Takes::Number,
         value: "N",
-        help: "Fit the table to N columns{n}[default: COLUMNS of the environment]",
+        help: "Fit the table to N columns; 9 are always enough{n}\
+            [default: COLUMNS of the environment]",
         excludes: &[],
     },
     Described {
@@ -207,7 +208,7 @@ pub(crate) static SHOWING: [Described; 9] = [
         letter: Some('x'),
         takes: Takes::Nothing,
         value: "",
-        help: "Show one row below the other; chosen where no{n}table fits",
+        help: "Show one row below the other, a line for each{n}cell; chosen where no table fits",
         excludes: &[],
     },
     Described {

@@ -3,7 +3,6 @@ pub mod Floors
 pub mod Fitted
 pub mod PrintedTables
 pub mod Streams
-pub mod Expanded
 pub mod Fallback
 pub mod Styles
 pub mod MarkdownRules

@@ -1,23 +1,20 @@
-//! Prints rows as a table that is fitted to a width, one below the other, or while they are read.
+//! Prints rows as a table that is fitted to a width, or while they are read. Records one below the
+//! other are in `tabview_records`.
 //!
 //! - `layout`: how rows are laid out, and what keeps its width.
 //! - `floors`: the widths below which columns don't shrink.
 //! - `fitting`: a table that is fitted to a width.
-//! - `expanded`: records one below the other.
 //! - `markdown`: the line below the header of a table of Markdown.
 //! - `stream`: rows that are printed while they are read.
 //! - `fallback`: rows as a table, or one below the other.
 //! - `styles`: the styles by their names.
-//! - `rows`: the rows of a table, by reference.
 #![tactic(auto)]
 
-mod expanded;
 mod fallback;
 mod fitting;
 mod floors;
 mod layout;
 mod markdown;
-mod rows;
 mod stream;
 mod styles;
 

@@ -20,6 +20,8 @@ pub enum ViewError {
     Read(ReadError),
     /// The table can't be laid out.
     Table(TableError),
+    /// The width is less than records need. That many columns are enough.
+    TooNarrow(usize),
     /// The output can't be written.
     Output(io::Error),
     /// A database was given at standard input.
@@ -34,6 +36,7 @@ impl Drop for ViewError {
         match self {
             ViewError::Read(_) => {}
             ViewError::Table(_) => {}
+            ViewError::TooNarrow(_) => {}
             ViewError::Output(_) => {}
             ViewError::Database => {}
             ViewError::NoDatabase(_) => {}
@@ -46,6 +49,9 @@ impl fmt::Display for ViewError {
         match self {
             ViewError::Read(error) => write!(f, "{error}"),
             ViewError::Table(error) => write!(f, "{error}"),
+            ViewError::TooNarrow(least) => {
+                write!(f, "a width of at least {least} columns is needed")
+            }
             ViewError::Output(error) => write!(f, "the output can't be written: {error}"),
             ViewError::Database => f.write_str("a database of SQLite can only be read from a file"),
             ViewError::NoDatabase(DatabaseOption::Query) => f.write_str(

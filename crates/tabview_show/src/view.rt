@@ -14,6 +14,7 @@ use tabled_records::TryRows;
 use tabview_options::{Choice, Options};
 use tabview_print::{Layout, print_or_expand, print_stream, style_of};
 use tabview_read::{ReadError, Rows, Sheet, Stream};
+use tabview_records::PrintError;
 
 /// Prints the rows of a sheet, and how many aren't shown if that is asked for.
 pub(crate) fn put_sheet<W: Write>(
@@ -42,12 +43,15 @@ fn put_table<W: Write>(
     out: &mut W,
 ) -> Result<(), ViewError> {
     let mut out = Noted::new(out);
-    let printed = print_sheet(alloc, options.look.expand, layout, sheet, &mut out);
     let hidden = Hidden {
         rows: hidden(&options.choice, sheet),
         is_apart: is_marked(&options.look),
     };
-    end(printed, hidden, &mut out)
+    match print_sheet(alloc, options.look.expand, layout, sheet, &mut out) {
+        Ok(()) => end(Ok(()), hidden, &mut out),
+        Err(PrintError::Table(error)) => end(Err(error), hidden, &mut out),
+        Err(PrintError::TooNarrow(least)) => Err(ViewError::TooNarrow(least)),
+    }
 }
 
 /// Returns the count of the rows that aren't shown, 0 if that isn't asked for.
@@ -63,7 +67,7 @@ fn print_sheet<W: Write>(
     layout: Layout,
     sheet: &Sheet,
     out: &mut W,
-) -> Result<(), TableError> {
+) -> Result<(), PrintError> {
     print_or_expand(alloc, &sheet.records, layout, expand, &mut IoSink::new(out))
 }
 

@@ -1,0 +1,3 @@
+pub mod Narrowed
+pub mod Records
+pub mod Expanded
