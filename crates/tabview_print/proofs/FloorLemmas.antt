@@ -92,7 +92,7 @@ module _ (laid : List Column) (header : Bool) (cells : List (List (List ℕ))) (
   -- a column that keeps its width wants all columns of a text
   whole-floor : (keeps name : Bool) (text : List ℕ) → keeps ≡ true → name ≡ false → cell_floor name keeps text ≡ text_columns text
   whole-floor keeps name text k n =
-      ap (λ b. cond b (longest_word text) (cond keeps (text_columns text) (min WORD_COLUMNS (longest_word text)))) n
+      ap (λ b. cond b (min WORD_COLUMNS (longest_word text)) (cond keeps (text_columns text) (min WORD_COLUMNS (longest_word text)))) n
       ∙ ap (λ b. cond b (text_columns text) (min WORD_COLUMNS (longest_word text))) k
 
   -- its texts fit above its floor
