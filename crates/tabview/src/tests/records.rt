@@ -191,11 +191,13 @@ const LOOKS: [&[&str]; 4] = [
     &["tabview", "--cut"],
 ];
 
-/// Returns the columns of a line of ASCII, boxes, marks and ideographs.
+/// Returns the columns of a line of ASCII, boxes, marks and ideographs. U+FFFD, which fills the half
+/// of an ideograph, has one.
 fn columns(line: &str) -> usize {
     let mut count: usize = 0;
     for c in line.chars() {
-        count = count.saturating_add(if c < '\u{2E80}' { 1 } else { 2 });
+        let is_narrow = c < '\u{2E80}' || c == '\u{FFFD}';
+        count = count.saturating_add(if is_narrow { 1 } else { 2 });
     }
     count
 }
