@@ -191,8 +191,8 @@ const LOOKS: [&[&str]; 4] = [
     &["tabview", "--cut"],
 ];
 
-/// Returns the columns of a line of ASCII, boxes, marks and ideographs. U+FFFD, which fills the half
-/// of an ideograph, has one.
+/// Returns the columns of a line of ASCII, boxes, marks and ideographs. U+FFFD fills the half of an
+/// ideograph, and has one.
 fn columns(line: &str) -> usize {
     let mut count: usize = 0;
     for c in line.chars() {
